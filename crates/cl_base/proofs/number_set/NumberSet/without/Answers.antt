@@ -1,0 +1,8 @@
+use Rattle.cl_base.proofs.SetLemmas.{has_without, and_narrow}
+use Rattle.cl_base.proofs.number_set.NumberSet.without.Goals as goal
+
+pub returns-clause-members : goal.returns-clause-members
+returns-clause-members c = rw (← c.self.view_is) (has_without c.self.inside.bits c.args.n c.requires.low c.requires.high c.self.invariant)
+
+pub returns-clause-narrow : goal.returns-clause-narrow
+returns-clause-narrow c = rw (← c.self.view_is) (and_narrow c.self.inside.bits _)

@@ -1,0 +1,4 @@
+pub mod Methods
+pub mod NameFields
+pub mod Names
+pub mod Sets

@@ -1,0 +1,12 @@
+-- A set of numbers from 1 on is kept as a number: its bit n - 1 tells whether n is in the set.
+use Rattle.std.specs.Prelude.{ℕ, ◌+◌, ◌-◌, ◌==◌, nat_le, ◌&&◌, Bool, suc, zero, if◌then◌else◌}
+use Rattle.std.specs.Int.{bit_at}
+
+-- whether the set has the number; clauses see a set through this alone
+unfoldable pub has : ℕ → ℕ → Bool
+has set n = nat_le 1 n && (bit_at set (n - 1) == 1)
+
+-- how many of the numbers 1 to k the set has
+abbrev pub count_to : ℕ → ℕ → ℕ
+count_to set zero = 0
+count_to set (suc k) = count_to set k + (if has set (k + 1) then 1 else 0)
