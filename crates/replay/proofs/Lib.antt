@@ -1,0 +1,5 @@
+pub mod Bytes
+pub mod Closes
+pub mod Ends
+pub mod Pieces
+pub mod Texts

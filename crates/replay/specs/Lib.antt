@@ -1,0 +1,10 @@
+pub mod Closings
+pub mod Loops
+pub mod Outcomes
+pub mod Runs
+pub mod Sessions
+pub mod Statuses
+pub mod Stops
+pub mod Streams
+pub mod Takings
+pub mod Tasks

@@ -1,0 +1,46 @@
+-- What a call of `run_words` tells of the source and the sink, by its status.
+use Rattle.std.specs.Prelude.{◌≡◌, ℕ, ◌≤◌, Bool, true, false, List, Option}
+use Rattle.std.specs.Io.{StartsWith}
+use Rattle.std.specs.Io.KnownBytes.{Appends, Consumes, IsAtEnd}
+use Rattle.cl_io.specs.Causes.{Rose}
+use Rattle.schedule_text.specs.declared.kind.Kind.{Kind}
+use Rattle.replay.specs.declared.status.Status.{Status}
+use Rattle.replay.specs.declared.status.Status.TheVariants as status
+use Rattle.replay.specs.declared.task.Task.{Task}
+use Rattle.replay.specs.Outcomes.{Ending, Open, Ended, Refused, TooLarge, Outcome, outcome_of, whole_text}
+
+-- what the status says of an ending
+abbrev pub Says : Status → Ending → Type 0
+Says status.Done (Ended read) = Unit {0}
+Says status.Refused (Refused line kind) = Unit {0}
+Says status.TooLarge (TooLarge line) = Unit {0}
+Says status.ReadFault Open = Unit {0}
+Says status.WriteFault ending = Unit {0}
+Says status.NoMemory ending = Unit {0}
+Says _ _ = ⊥
+
+-- what the status says of the text written: all of it, or, where the sink failed or memory ran out, its
+-- beginning
+abbrev pub Writes : Status → List ℕ → List ℕ → Type 0
+Writes status.WriteFault whole written = StartsWith whole written
+Writes status.NoMemory whole written = StartsWith whole written
+Writes _ whole written = written ≡ whole
+
+-- a status of a fault comes only where the count of the source, or of the sink, rose
+abbrev pub IsCaused : Status → Type 0 → Type 0 → Type 0
+IsCaused status.ReadFault source_rose sink_rose = source_rose
+IsCaused status.WriteFault source_rose sink_rose = sink_rose
+IsCaused _ source_rose sink_rose = Unit {0}
+
+-- The bytes taken from the source have an outcome, which the status and the bytes written tell.
+-- `left` is what the source has, where that is known, and `held` what the sink has.
+pub record IsRun (task : Task) (left left' held held' : Option (List ℕ)) (reads reads' writes writes' : ℕ) (result : Status) : Type 0 where
+  pub taken : List ℕ
+  pub consumed : Consumes left left' taken
+  pub ended : Bool                                       -- the source gave its end
+  pub at_end : ended ≡ true → IsAtEnd left'
+  pub says : Says result (outcome_of task ended taken).ending
+  pub written : List ℕ
+  pub appended : Appends held held' written
+  pub writes_text : Writes result (whole_text task (outcome_of task ended taken)) written
+  pub caused : IsCaused result (Rose reads reads') (Rose writes writes')
