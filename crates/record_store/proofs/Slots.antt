@@ -1,6 +1,6 @@
 -- What the parts of an image are after a write to one of them.
-use Rattle.std.proofs.Common.{◌≡◌, ◌⊎◌, inl, inr, ℕ, ◌+◌, ◌-◌, ◌^◌, ◌<◌, ◌≤◌, List, [], ◌∷◌, ◌++◌, length, get_or, take, drop, refl, sym, ◌∙◌, ap, subst, arith, length-append, append_assoc}
-use Rattle.std.proofs.lemmas.List.{length-take-le, length-take, length-drop, take_at, drop_at, take-take, drop-drop, drop-take, get_or-take, take-append-le, drop-append-le, take_all}
+use Rattle.std.proofs.Common.{◌≡◌, ◌⊎◌, inl, inr, ℕ, ◌+◌, ◌-◌, ◌^◌, ◌<◌, ◌≤◌, List, [], ◌∷◌, ◌++◌, length, get_or, take, drop, replicate, refl, sym, ◌∙◌, ap, subst, arith, length-append, append_assoc}
+use Rattle.std.proofs.lemmas.List.{length-replicate, get_or-replicate, take-replicate, drop-replicate, length-take-le, length-take, length-drop, take_at, drop_at, take-take, drop-drop, drop-take, get_or-take, take-append-le, drop-append-le, take_all}
 use Rattle.std.proofs.Math.Seq.{take-append-add}
 use Rattle.std.proofs.lemmas.Nat.{from_be_bytes-to_be_bytes_4}
 use Rattle.std.specs.Int.{from_be_bytes, to_be_bytes, w32}
@@ -130,7 +130,7 @@ old_or_new slot text old mid image names mounts is same =
       | inl new_one ↦ inr (mounts_by image slot text (slot_bytes mid slot) (same.size ∙ is.size) new_one (same_slots slot mid image same) is.length_told is.gives)
       | inr old_one ↦
           inl (mounts_by image (other_slot slot) (text_of old) (slot_bytes old (selected old)) (same.size ∙ is.size) old_one
-            (same_slots (other_slot slot) mid image same ∙ is.other ∙ ap (slot_bytes old) (sym names)) mounts.mountable.fits refl)
+          (same_slots (other_slot slot) mid image same ∙ is.other ∙ ap (slot_bytes old) (sym names)) mounts.mountable.fits refl)
     ]
 
 -- once it is written, the new one
@@ -148,8 +148,8 @@ length_read slot disk = sym (take-take 4 65540 (drop (place_of slot) disk) (omeg
 pub text_read : (slot : Slot) (n : ℕ) (disk : List ℕ) → n ≤ 65536 → bytes_at (place_of slot + 4) n disk ≡ take n (drop 4 (slot_bytes disk slot))
 text_read slot n disk le =
     sym (
-      ap (take n) (drop-take 4 65536 (drop (place_of slot) disk) ∙ ap (take 65536) (drop-drop 4 (place_of slot) disk))
-      ∙ take-take n 65536 (drop (place_of slot + 4) disk) le
+    ap (take n) (drop-take 4 65536 (drop (place_of slot) disk) ∙ ap (take 65536) (drop-drop 4 (place_of slot) disk))
+    ∙ take-take n 65536 (drop (place_of slot + 4) disk) le
     )
 
 -- the same, as the calls of a save and a mounting tell it
@@ -191,3 +191,19 @@ found slot p n disk second third byte four_bytes named first_read same at is sec
 -- what a store keeps of a slot's bytes is their text
 pub text_kept : (text : List ℕ) → drop 4 (spelling text) ≡ text
 text_kept text = drop_at (to_be_bytes w32 (length text)) text 4 (four (length text))
+
+-- all zero
+pub zero_mounts : MountsTo [] (replicate disk_bytes 0)
+zero_mounts =
+    let image : List ℕ = replicate disk_bytes 0 in
+    let names : selected image ≡ First = ap slot_named (get_or-replicate disk_bytes 0 0 0 (omega (arith, disk_bytes_is))) in
+    let zeros : take 4 (slot_bytes image First) ≡ replicate 4 0 =
+    take-take 4 65540 (drop 16 image) (omega arith) ∙ ap (take 4) (drop-replicate 16 disk_bytes 0) ∙ take-replicate 4 (disk_bytes - 16) 0 (omega (arith, disk_bytes_is)) in
+    let none : length_in (slot_bytes image First) ≡ 0 = ap (from_be_bytes w32) zeros in
+    mounts_by image First [] (slot_bytes image First) (length-replicate disk_bytes 0) names refl
+    (subst (λ (n : ℕ). n ≤ 65536) (sym none) (omega arith)) (ap (λ (n : ℕ). take n (drop 4 (slot_bytes image First))) none)
+
+-- an image of either text can be mounted
+pub either_mountable : (old new image : List ℕ) → MountsTo old image ⊎ MountsTo new image → IsMountable image
+either_mountable old new image (inl is) = is.mountable
+either_mountable old new image (inr is) = is.mountable

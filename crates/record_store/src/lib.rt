@@ -3,8 +3,13 @@
 #![tactic(auto)]
 
 mod calls;
+mod laws;
 mod slot;
 mod store;
 
+pub use laws::empty_disk_mounts;
 pub use slot::Slot;
 pub use store::{MOST_BYTES, Store, StoreError};
+
+#[cfg(test)]
+mod tests;

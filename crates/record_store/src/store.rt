@@ -76,8 +76,9 @@ impl Store {
         ensures text { IfOk result (λ mounted. mounted.1.items ≡ text_of (D.reads disk.old)) }
         ensures stands { IfOk result (λ mounted. Stands (D.reads disk.new) (D.leaves disk.new) mounted.0) }
         ensures each { IfOk result (λ mounted. EachMountsTo mounted.1.items (D.leaves disk.new)) }
-        // also where it fails, it leaves no image that could not be left before
+        // also where it fails, it leaves no image that could not be left before, and the disk can be mounted again
         ensures images { Keeps (D.leaves disk.old) (D.leaves disk.new) }
+        ensures mountable { Mountable (D.leaves disk.new) }
         ensures reads { D.reads disk.new ≡ D.reads disk.old }
         ensures errors { IfErr result (λ e. (e ≡ DiskFault) ⊎ (e ≡ NoMemory)) }
         ensures no_memory { IsErrOf result NoMemory → disk.new ≡ disk.old }
@@ -102,8 +103,9 @@ impl Store {
         ensures stands { OnOk result (Stands (D.reads disk.new) (D.leaves disk.new) self.new) }
         ensures text { OnOk result (self.new.text ≡ text.now) }
         ensures each { OnOk result (EachMountsTo text.now (D.leaves disk.new)) }
-        // a stop at any moment of the call is an exit from it
+        // a stop at any moment of the call is an exit from it, after which the disk can be mounted
         ensures stops { EachMountsToEither self.old.text text.now (D.leaves disk.new) }
+        ensures mountable { Mountable (D.leaves disk.new) }
         ensures errors { IfErr result (λ e. (e ≡ DiskFault) ⊎ (e ≡ TooLong (length text.now))) }
         ensures too_long { IsErrOf result (TooLong (length text.now)) ↔ (65536 < length text.now) }
         ensures nothing { 65536 < length text.now → (self.new ≡ self.old) × (disk.new ≡ disk.old) }

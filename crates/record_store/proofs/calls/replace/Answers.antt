@@ -28,7 +28,7 @@ returns-in_err-write_at-2-clause-stops g c = λ image left.
     let is_staged : IsStaged c.args.slot text old (g.D.LocalDisk.reads c.sync.new.self) =
     subst (IsStaged c.args.slot text old) (sym c.sync.ensures.reads)
     (staged_by c.args.slot c.place.result c.args.bytes.now old (g.D.LocalDisk.reads c.write_at.new.self) c.place.ensures.place c.requires.spelled c.requires.most c.requires.mounts.mountable.size
-      c.in_ok-write_at.ensures.written c.write_at.ensures.outside) in
+    c.in_ok-write_at.ensures.written c.write_at.ensures.outside) in
     let from = c.write_at-2.ensures.images image left in
     let same : SameOutside 0 1 (g.D.LocalDisk.reads c.sync.new.self) image = subst (λ (was : List ℕ). SameOutside 0 1 was image) (c.in_ok-sync.ensures.synced from.0 from.1) from.2 in
     old_or_new c.args.slot text old (g.D.LocalDisk.reads c.sync.new.self) image c.requires.slot c.requires.mounts is_staged same
@@ -40,7 +40,7 @@ returns-clause-stops g c = λ image left.
     let is_staged : IsStaged c.args.slot text old (g.D.LocalDisk.reads c.sync.new.self) =
     subst (IsStaged c.args.slot text old) (sym c.sync.ensures.reads)
     (staged_by c.args.slot c.place.result c.args.bytes.now old (g.D.LocalDisk.reads c.write_at.new.self) c.place.ensures.place c.requires.spelled c.requires.most c.requires.mounts.mountable.size
-      c.in_ok-write_at.ensures.written c.write_at.ensures.outside) in
+    c.in_ok-write_at.ensures.written c.write_at.ensures.outside) in
     let from = c.write_at-2.ensures.images image (c.sync-2.ensures.images image left) in
     let same : SameOutside 0 1 (g.D.LocalDisk.reads c.sync.new.self) image = subst (λ (was : List ℕ). SameOutside 0 1 was image) (c.in_ok-sync.ensures.synced from.0 from.1) from.2 in
     old_or_new c.args.slot text old (g.D.LocalDisk.reads c.sync.new.self) image c.requires.slot c.requires.mounts is_staged same
@@ -53,7 +53,7 @@ returns-clause-ok g c =
     let is_staged : IsStaged c.args.slot text old mid =
     subst (IsStaged c.args.slot text old) (sym c.sync.ensures.reads)
     (staged_by c.args.slot c.place.result c.args.bytes.now old (g.D.LocalDisk.reads c.write_at.new.self) c.place.ensures.place c.requires.spelled c.requires.most c.requires.mounts.mountable.size
-      c.in_ok-write_at.ensures.written c.write_at.ensures.outside) in
+    c.in_ok-write_at.ensures.written c.write_at.ensures.outside) in
     let written : g.D.LocalDisk.reads c.write_at-2.new.self ≡ overwritten mid 0 (selector_of c.args.slot ∷ []) =
     c.in_ok-write_at-2.ensures.written ∙ ap (λ (s : ℕ). overwritten mid 0 (s ∷ [])) c.selector.ensures in
     let new = now_new c.args.slot text old mid (g.D.LocalDisk.reads c.write_at-2.new.self) is_staged c.write_at-2.ensures.outside written in
