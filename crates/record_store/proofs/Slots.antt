@@ -1,5 +1,5 @@
 -- What the parts of an image are after a write to one of them.
-use Rattle.std.proofs.Common.{◌≡◌, ◌⊎◌, inl, inr, ℕ, ◌+◌, ◌-◌, ◌^◌, ◌<◌, ◌≤◌, List, [], ◌∷◌, ◌++◌, length, get_or, take, drop, replicate, refl, sym, ◌∙◌, ap, subst, arith, length-append, append_assoc}
+use Rattle.std.proofs.Common.{◌≡◌, ◌⊎◌, inl, inr, ℕ, ◌+◌, ◌-◌, ◌^◌, ◌<◌, ◌≤◌, List, [], ◌∷◌, ◌++◌, length, get_or, take, drop, replicate, refl, sym, ◌∙◌, ap, subst, arith, lit≤, length-append, append_assoc}
 use Rattle.std.proofs.lemmas.List.{length-replicate, get_or-replicate, take-replicate, drop-replicate, length-take-le, length-take, length-drop, take_at, drop_at, take-take, drop-drop, drop-take, get_or-take, take-append-le, drop-append-le, take_all}
 use Rattle.std.proofs.Math.Seq.{take-append-add}
 use Rattle.std.proofs.lemmas.Nat.{from_be_bytes-to_be_bytes_4}
@@ -192,16 +192,27 @@ found slot p n disk second third byte four_bytes named first_read same at is sec
 pub text_kept : (text : List ℕ) → drop 4 (spelling text) ≡ text
 text_kept text = drop_at (to_be_bytes w32 (length text)) text 4 (four (length text))
 
+some_places : 0 < disk_bytes
+some_places = omega (arith, disk_bytes_is)
+
+more_places : 4 ≤ disk_bytes - 16
+more_places = omega (arith, disk_bytes_is)
+
+zeros_first : take 4 (slot_bytes (replicate disk_bytes 0) First) ≡ replicate 4 0
+zeros_first =
+    take-take 4 65540 (drop 16 (replicate disk_bytes 0)) (lit≤ tt)
+    ∙ ap (take 4) (drop-replicate 16 disk_bytes 0)
+    ∙ take-replicate 4 (disk_bytes - 16) 0 more_places
+
+none_first : length_in (slot_bytes (replicate disk_bytes 0) First) ≡ 0
+none_first = ap (from_be_bytes w32) zeros_first
+
 -- all zero
 pub zero_mounts : MountsTo [] (replicate disk_bytes 0)
 zero_mounts =
-    let image : List ℕ = replicate disk_bytes 0 in
-    let names : selected image ≡ First = ap slot_named (get_or-replicate disk_bytes 0 0 0 (omega (arith, disk_bytes_is))) in
-    let zeros : take 4 (slot_bytes image First) ≡ replicate 4 0 =
-    take-take 4 65540 (drop 16 image) (omega arith) ∙ ap (take 4) (drop-replicate 16 disk_bytes 0) ∙ take-replicate 4 (disk_bytes - 16) 0 (omega (arith, disk_bytes_is)) in
-    let none : length_in (slot_bytes image First) ≡ 0 = ap (from_be_bytes w32) zeros in
-    mounts_by image First [] (slot_bytes image First) (length-replicate disk_bytes 0) names refl
-    (subst (λ (n : ℕ). n ≤ 65536) (sym none) (omega arith)) (ap (λ (n : ℕ). take n (drop 4 (slot_bytes image First))) none)
+    mounts_by (replicate disk_bytes 0) First [] (slot_bytes (replicate disk_bytes 0) First) (length-replicate disk_bytes 0)
+    (ap slot_named (get_or-replicate disk_bytes 0 0 0 some_places)) refl (subst (λ (n : ℕ). n ≤ 65536) (sym none_first) (lit≤ tt))
+    (ap (λ (n : ℕ). take n (drop 4 (slot_bytes (replicate disk_bytes 0) First))) none_first)
 
 -- an image of either text can be mounted
 pub either_mountable : (old new image : List ℕ) → MountsTo old image ⊎ MountsTo new image → IsMountable image
