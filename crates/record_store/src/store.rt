@@ -96,8 +96,8 @@ impl Store {
     }
 
     /// Saves a text of at most 65,536 bytes in place of the one that the store holds, by four calls: the other slot,
-    /// sync, the selector, sync. It takes no memory. After `DiskFault` the disk is to be mounted again; `TooLong`
-    /// leaves all as it was.
+    /// sync, the selector, sync. It takes no memory, and writes the text and five bytes more. After `DiskFault` the
+    /// disk is to be mounted again; `TooLong` leaves all as it was.
     pub fn save<D: LocalDisk>(&mut self, disk: &mut D, text: &[u8]) -> Result<(), StoreError>
         requires { Stands (D.reads disk.old) (D.leaves disk.old) self.old }
         ensures stands { OnOk result (Stands (D.reads disk.new) (D.leaves disk.new) self.new) }
