@@ -1,5 +1,5 @@
 -- What an image of the disk holds: a selector, and a text in each of two slots.
-use Rattle.std.specs.Prelude.{◌≡◌, ◌⊎◌, ℕ, ◌%◌, ◌≤◌, List, ◌++◌, length, take, drop, slice_index, if◌then◌else◌, ◌==◌}
+use Rattle.std.specs.Prelude.{◌≡◌, ℕ, ◌%◌, ◌≤◌, List, ◌++◌, length, take, drop, slice_index, if◌then◌else◌, ◌==◌}
 use Rattle.std.specs.Int.{from_be_bytes, to_be_bytes, w32}
 use Rattle.local_disk.specs.LocalDisk.{bytes_at, disk_bytes}
 use Rattle.record_store.specs.declared.slot.Slot.{Slot}

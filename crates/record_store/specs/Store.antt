@@ -2,7 +2,7 @@
 use Rattle.std.specs.Prelude.{◌≡◌, ◌⊎◌, ℕ, List}
 use Rattle.local_disk.specs.LocalDisk.{Only}
 use Rattle.record_store.specs.declared.slot.Slot.{Slot}
-use Rattle.record_store.specs.Images.{selected, text_of, IsMountable, MountsTo}
+use Rattle.record_store.specs.Images.{selected, IsMountable, MountsTo}
 
 pub record Held : Type 0 where
   pub slot : Slot

@@ -1,7 +1,7 @@
-use Rattle.std.proofs.Common.{◌≡◌, ◌⊎◌, inl, inr, ℕ, List, [], ◌∷◌, length, drop, sym, ◌∙◌, ap, subst}
+use Rattle.std.proofs.Common.{◌≡◌, inl, ℕ, List, [], ◌∷◌, length, drop, sym, ◌∙◌, ap, subst}
 use Rattle.std.proofs.lemmas.Result.{on_ok_weaker}
 use Rattle.local_disk.specs.LocalDisk.{SameOutside, overwritten}
-use Rattle.record_store.specs.Images.{selected, selector_of, text_of, MountsTo}
+use Rattle.record_store.specs.Images.{selected, selector_of, MountsTo}
 use Rattle.record_store.proofs.Slots.{IsStaged, staged_by, still_old_by, old_or_new, now_new}
 use Rattle.record_store.proofs.calls.replace.Goals as goal
 

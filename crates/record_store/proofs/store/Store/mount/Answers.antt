@@ -1,6 +1,6 @@
-use Rattle.std.proofs.Common.{◌≡◌, List, ℕ, take, drop, sym, ◌∙◌, ap, subst, arith}
+use Rattle.std.proofs.Common.{◌≡◌, take, drop, sym, ◌∙◌, ap, subst, arith}
 use Rattle.std.proofs.lemmas.List.{with_items_is}
-use Rattle.record_store.specs.Images.{selected, text_of, IsMountable, MountsTo}
+use Rattle.record_store.specs.Images.{selected, text_of, IsMountable}
 use Rattle.record_store.proofs.Slots.{text_kept}
 use Rattle.record_store.proofs.store.Store.mount.Goals as goal
 
