@@ -1,0 +1,3 @@
+pub mod LocalDisk
+pub mod Memory
+pub mod MemoryInside

@@ -1,0 +1,9 @@
+// That the condition of a mounting is met at first.
+ghost use Rattle.std.specs.Prelude.{[], replicate};
+ghost use Rattle.local_disk.specs.LocalDisk.{disk_bytes};
+ghost use Rattle.record_store.specs.Images.{MountsTo};
+
+/// An empty disk mounts to the empty text. A call does nothing: it only tells its caller so.
+pub fn empty_disk_mounts()
+    ensures { MountsTo [] (replicate disk_bytes 0) }
+{}
