@@ -1,0 +1,5 @@
+pub mod Phase
+pub mod Device
+pub mod Initiator
+pub mod Attempt
+pub mod Sharing
