@@ -97,7 +97,7 @@ MayInstall s n =
 
 -- no one was asked for attempt q, or the one asked last ended its seizing
 abbrev pub AllAnswered : Sharing → ℕ → Type 0
-AllAnswered s q = ((s.attempt q).asking ≡ false) ⊎ ((s.node (s.attempt q).seizer).ended q ≡ true)
+AllAnswered s q = ((s.attempt q).asking ≡ false) ⊎ ((s.node (s.attempt q).seizer).past.ended q ≡ true)
 
 abbrev pub Allowed : Sharing → Event → Type 0
 Allowed s (Promise n q) = (s.node n).promised < q
@@ -107,7 +107,7 @@ Allowed s (Collected q members) =
 -- one node at a time: another is asked only after the last one ended not-registered, and as a quorum device again
 Allowed s (Ask q n quorum) =
     ((s.attempt q).collected ≡ true) × ((s.attempt q).counted ≡ false) × ((s.attempt q).members n ≡ true) × ((s.attempt q).asked n ≡ false)
-    × (((s.attempt q).asking ≡ false) ⊎ (((s.node (s.attempt q).seizer).unregistered q ≡ true) × ((s.attempt q).quorum ≡ quorum)))
+    × (((s.attempt q).asking ≡ false) ⊎ (((s.node (s.attempt q).seizer).past.unregistered q ≡ true) × ((s.attempt q).quorum ≡ quorum)))
 -- nothing was begun in this session, and the attempt is not installed
 Allowed s (Seize n) =
     InSession s n × ((s.attempt (s.node n).session).asked n ≡ true) × ((s.node n).installed < (s.node n).session) × ((s.node n).phase ≡ Phase.Idle)
@@ -136,7 +136,7 @@ Allowed s (Clear n) =
 Allowed s (Confirm n) = ((s.node n).phase ≡ Phase.Cleared) × (s.device.word ≡ (s.node n).session)
 Allowed s (Fail n) = IsSeizing (s.node n).phase
 Allowed s (Count_with q) =
-    ((s.attempt q).collected ≡ true) × ((s.attempt q).counted ≡ false) × ((s.attempt q).asking ≡ true) × ((s.node (s.attempt q).seizer).seized q ≡ true)
+    ((s.attempt q).collected ≡ true) × ((s.attempt q).counted ≡ false) × ((s.attempt q).asking ≡ true) × ((s.node (s.attempt q).seizer).past.seized q ≡ true)
 Allowed s (Count_without q) = ((s.attempt q).collected ≡ true) × ((s.attempt q).counted ≡ false) × AllAnswered s q
 Allowed s (Install_apart n) = MayInstall s n
 Allowed s (Install_seizer n) =
