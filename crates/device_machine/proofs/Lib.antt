@@ -3,3 +3,7 @@ pub mod Growth
 pub mod Frames
 pub mod Nodes
 pub mod Pasts
+pub mod On
+pub mod Devices
+pub mod Claims
+pub mod Steps
