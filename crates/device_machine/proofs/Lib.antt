@@ -7,3 +7,5 @@ pub mod On
 pub mod Devices
 pub mod Claims
 pub mod Steps
+pub mod Commands
+pub mod Attempts
