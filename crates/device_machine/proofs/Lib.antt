@@ -9,3 +9,4 @@ pub mod Claims
 pub mod Steps
 pub mod Commands
 pub mod Attempts
+pub mod Held
