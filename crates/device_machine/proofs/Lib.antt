@@ -10,3 +10,4 @@ pub mod Steps
 pub mod Commands
 pub mod Attempts
 pub mod Held
+pub mod Kept
