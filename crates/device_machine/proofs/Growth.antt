@@ -45,6 +45,7 @@ past_stays A A' n p h g i = record {
     seized_ended = i.seized_ended;
     unregistered_ended = i.unregistered_ended;
     unregistered_unwritten = i.unregistered_unwritten;
+    unregistered_unseized = i.unregistered_unseized;
     ended_low = i.ended_low;
     wrote_asked = λ q s. (g q).asked n (i.wrote_asked q s);
     wrote_low = i.wrote_low;

@@ -117,6 +117,7 @@ module _ (A A' : ℕ → Attempt) (d : Device) (top n : ℕ) (v : Initiator) (b 
       seized_ended = λ q s. ended_too q (put_true v.past.seized v.session q s);
       unregistered_ended = λ q u. put_true_stays v.past.ended v.session q (past.unregistered_ended q u);
       unregistered_unwritten = past.unregistered_unwritten;
+      unregistered_unseized = λ q u. other q u (same_or_not q v.session);
       ended_low = λ q s. low q (put_true v.past.ended v.session q s);
       wrote_asked = λ q w. (b.grows q).asked n (past.wrote_asked q w);
       wrote_low = past.wrote_low;
@@ -126,6 +127,9 @@ module _ (A A' : ℕ → Attempt) (d : Device) (top n : ℕ) (v : Initiator) (b 
       joinings_low = past.joinings_low;
     }
     where
+      other : (q : ℕ) → v.past.unregistered q ≡ true → ((q ≡ v.session) ⊎ (q ≢ v.session)) → put v.past.seized v.session true q ≡ false
+      other q u (inl same) = let o : 10 ≤ rank v.phase = ok.unregistered_over (ok.busy (omega (arith, eight))) (subst (λ j. v.past.unregistered j ≡ true) same u) in absurd (omega (arith, eight))
+      other q u (inr ne) = put_there v.past.seized v.session true q ne ∙ past.unregistered_unseized q u
       held_too : (q : ℕ) → ((q ≡ v.session) ⊎ ((q ≢ v.session) × (v.past.seized q ≡ true))) → (A' q).held ≡ true
       held_too q (inl same) = subst (λ j. (A' j).held ≡ true) (sym same) b.now
       held_too q (inr other) = (b.grows q).held (past.seized_held q other.1)

@@ -13,6 +13,7 @@ pub record PastOk (A : ℕ → Attempt) (n p : ℕ) (h : Past) : Type 0 where
   pub seized_ended : (q : ℕ) → h.seized q ≡ true → h.ended q ≡ true
   pub unregistered_ended : (q : ℕ) → h.unregistered q ≡ true → h.ended q ≡ true
   pub unregistered_unwritten : (q : ℕ) → h.unregistered q ≡ true → h.wrote q ≡ false
+  pub unregistered_unseized : (q : ℕ) → h.unregistered q ≡ true → h.seized q ≡ false
   pub ended_low : (q : ℕ) → h.ended q ≡ true → q ≤ p
   pub wrote_asked : (q : ℕ) → h.wrote q ≡ true → (A q).asked n ≡ true
   pub wrote_low : (q : ℕ) → h.wrote q ≡ true → q ≤ p

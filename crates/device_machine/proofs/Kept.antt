@@ -133,7 +133,7 @@ kept s (Event.Write n x) i g = write_kept s x i
 first_past : (n : ℕ) → PastOk (λ _. no_attempt) n 0 no_past
 first_past n = record {
     seized_held = λ q. grind arith; seized_asked = λ q. grind arith; seized_ended = λ q. grind arith; unregistered_ended = λ q. grind arith;
-    unregistered_unwritten = λ q. grind arith; ended_low = λ q. grind arith; wrote_asked = λ q. grind arith; wrote_low = λ q. grind arith;
+    unregistered_unwritten = λ q. grind arith; unregistered_unseized = λ q. grind arith; ended_low = λ q. grind arith; wrote_asked = λ q. grind arith; wrote_low = λ q. grind arith;
     seizings = λ q. grind arith; seizings_low = λ q. grind arith; joinings = λ q. grind arith; joinings_low = λ q. grind arith;
   }
 

@@ -11,3 +11,5 @@ pub mod Commands
 pub mod Attempts
 pub mod Held
 pub mod Kept
+pub mod Later
+pub mod Laws

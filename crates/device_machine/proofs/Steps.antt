@@ -66,10 +66,14 @@ module _ (A : ℕ → Attempt) (d : Device) (top n : ℕ) (v : Initiator) (past 
   checked_steps at c = quiet_steps A d d top n v (to_phase v Phase.Keyed) (grind arith) still (grind arith) (grind arith) (keeps v (to_phase v Phase.Keyed) refl refl) past
       (Nodes.checked_node A n v ok at c) (On.checked_on A d top n v ok on (grind arith))
 
+  unended : 0 < v.session → rank v.phase ≤ 8 → v.past.seized v.session ≡ true → ⊥
+  unended p r h = let e = past.seized_ended v.session h in let f = ok.running p r in absurd {A = ⊥} (cc)
+
   pub rejecting_steps : v.phase ≡ Phase.Asked → NodeSteps A d d top n v (rejecting v)
   rejecting_steps at = quiet_steps A d d top n v (rejecting v) (grind arith) still (grind arith) (grind arith)
       (record { promised = grind arith; seized = λ q h. h; unregistered = λ q h. put_true_stays v.past.unregistered v.session q h; ended = λ q h. put_true_stays v.past.ended v.session q h })
-      (Pasts.rejecting_past A n v past (session_low (grind arith)) (ok.unwritten (ok.busy (grind arith)) (grind arith)))
+      (Pasts.rejecting_past A n v past (session_low (grind arith)) (ok.unwritten (ok.busy (grind arith)) (grind arith))
+        (not_true (v.past.seized v.session) (unended (ok.busy (grind arith)) (grind arith))))
       (Nodes.rejecting_node A n v ok at) (On.rejecting_on A d top n v ok on)
 
   pub unvalidated_steps : v.phase ≡ Phase.Asked → v.quorum ≡ false → NodeSteps A d d top n v (unvalidated v)

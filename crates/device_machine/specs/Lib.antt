@@ -3,3 +3,4 @@ pub mod Device
 pub mod Initiator
 pub mod Attempt
 pub mod Sharing
+pub mod Laws
