@@ -13,3 +13,4 @@ pub mod Held
 pub mod Kept
 pub mod Later
 pub mod Laws
+pub mod Reached
