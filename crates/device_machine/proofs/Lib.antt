@@ -14,3 +14,4 @@ pub mod Kept
 pub mod Later
 pub mod Laws
 pub mod Reached
+pub mod Samples
