@@ -5,10 +5,12 @@
 //! to a quorum device, and none for a device without votes.
 #![tactic(auto)]
 
-ghost use Rattle.std.specs.Prelude.{◌≡◌, ℕ, ◌<◌, ◌≤◌, ◌⊎◌, Bool, true, false, List};
+ghost use Rattle.std.specs.Prelude.{◌≡◌, ℕ, ◌<◌, ◌≤◌, ◌⊎◌, Bool, true, false, List, ◌++◌};
 ghost use Rattle.device_machine.specs.Phase.{Phase};
 ghost use Rattle.device_machine.specs.Sharing.{Sharing, Event, Run, Writes, first_sharing};
 ghost use Rattle.device_machine.specs.Laws.{Holds, MemberOrAbove, HasJoined};
+ghost use Rattle.device_machine.specs.Device.{LetsWrite};
+ghost use Rattle.device_machine.specs.Sample.{pair, no_node, forming, formed, splitting, split, returning, returned, reforming, reformed, sharing, shared, leaving_out, left_out, registering_late, late, seizing_again, cleaned};
 
 /// Once an attempt has counted a majority and holds the device, every node that joined the device and that the device lets write is in no smaller session. So a node that such an attempt left out writes as a member of a greater one alone.
 pub fn disk_rule()
@@ -109,5 +111,26 @@ pub fn valid_is_member()
 pub fn quorum_device_meets()
     ensures member { (registered : ℕ → Bool) (events : List Event) (s : Sharing) (e q : ℕ) → Run (first_sharing registered) events s → Holds s q → (s.attempt q).members (s.attempt q).seizer ≡ true }
     ensures meets { (registered : ℕ → Bool) (events : List Event) (s : Sharing) (e q : ℕ) → Run (first_sharing registered) events s → Holds s e → Holds s q → (s.attempt q).quorum ≡ true → e < q → MemberOrAbove s (s.attempt q).seizer e ((s.node (s.attempt q).seizer).past.showed q) }
+{
+}
+
+/// A run on a quorum device of nodes 1 and 2, which shows that the events can come and that the laws speak of something. They form membership 65 and both write. Node 1 forms 129 alone and preempts node 2's key: node 2 still believes itself a member of 65, and the device refuses its writes. Node 2 cannot form 130, since its key is absent. They form 193 together, and node 2 is admitted and writes.
+pub fn sample_of_a_split()
+    ensures run { Run (first_sharing (pair 1 2)) (forming ++ splitting ++ returning ++ reforming) reformed }
+    ensures both { Writes formed 1 × Writes formed 2 }
+    ensures held { Holds split 129 × Writes split 1 }
+    ensures fenced { ((split.node 2).joined ≡ true) × (LetsWrite split.device 2 → ⊥) }
+    ensures rejected { (returned.node 2).past.unregistered 130 ≡ true }
+    ensures again { Holds reformed 193 × Writes reformed 2 × (reformed.device.content ≡ 5) }
+{
+}
+
+/// A run on a device without votes. Nodes 1, 2 and 3 form membership 65, then 1 and 2 form 129 before node 3 has registered for 65. It registers now, and the device would let it write; but the word that it reads is 129, so it is not admitted. The next seizing preempts its key.
+pub fn sample_of_a_late_registration()
+    ensures run { Run (first_sharing no_node) (sharing ++ leaving_out ++ registering_late ++ seizing_again) cleaned }
+    ensures registered { (late.device.keys 3 ≡ true) × LetsWrite late.device 3 }
+    ensures unclaimed { ((late.node 3).joined ≡ false) × ((late.node 3).valid ≡ false) }
+    ensures preempted { (cleaned.device.keys 3 ≡ false) × (LetsWrite cleaned.device 3 → ⊥) }
+    ensures written { Holds cleaned 193 × Writes cleaned 2 × (cleaned.device.content ≡ 6) }
 {
 }
