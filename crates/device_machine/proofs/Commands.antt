@@ -1,12 +1,12 @@
 -- Each command that changes the device, as a step of its sender.
-use Rattle.std.proofs.Common.{◌≡◌, ◌≢◌, ℕ, ◌<◌, ◌≤◌, ◌⊎◌, inl, inr, Bool, true, false, refl, sym, ap, subst, ◌∙◌, arith}
+use Rattle.std.proofs.Common.{◌≡◌, ◌≢◌, ℕ, ◌<◌, ◌≤◌, inl, inr, true, false, refl, sym, ap, subst, arith}
 use Rattle.machine_base.proofs.Puts.{put_true_stays}
-use Rattle.device_machine.specs.Phase.{Phase, rank, IsSeizing, IsJoining}
+use Rattle.device_machine.specs.Phase.{Phase, rank}
 use Rattle.device_machine.specs.Device.{Device, registering, wording, reserving, preempting}
 use Rattle.device_machine.specs.Initiator.{Initiator, to_phase, marking, marking_lost, ending}
 use Rattle.device_machine.specs.Attempt.{Attempt}
 use Rattle.device_machine.proofs.Invariant.{PastOk, NodeOk, OnDevice, AttemptOk, DeviceOk}
-use Rattle.device_machine.proofs.Growth.{NodeGrows, Leaves, attempt_same, on_stays}
+use Rattle.device_machine.proofs.Growth.{Leaves, attempt_same, on_stays}
 use Rattle.device_machine.proofs.Frames.{NodeSteps}
 use Rattle.device_machine.proofs.Nodes
 use Rattle.device_machine.proofs.Pasts
@@ -92,6 +92,7 @@ module _ (A : ℕ → Attempt) (N : ℕ → Initiator) (d : Device) (top n : ℕ
     where
       gone : Leaves d (preempting d n v.target) n
       gone = preempting_leaves d n v.target n
+
       there : OnDevice A (preempting d n v.target) top n v
       there = left (preempting d n v.target) gone
 

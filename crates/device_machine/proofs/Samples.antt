@@ -1,5 +1,5 @@
 -- The two runs, step by step: each event may come where it stands.
-use Rattle.std.proofs.Common.{◌≡◌, ◌≢◌, ℕ, ◌<◌, ◌≤◌, ◌⊎◌, inl, inr, Bool, true, false, refl, sym, subst, List, [], ◌∷◌, ◌++◌, arith}
+use Rattle.std.proofs.Common.{◌≡◌, ℕ, ◌≤◌, ◌⊎◌, inl, inr, true, false, refl, sym, subst, List, [], ◌∷◌, ◌++◌, arith}
 use Rattle.machine_base.specs.Put.{put}
 use Rattle.device_machine.specs.Device.{Device, LetsWrite}
 use Rattle.device_machine.specs.Sharing.{Sharing, Event, after, Run, first_sharing}
@@ -60,64 +60,299 @@ cleaned_keys : (k : ℕ) → put (put (put (put (put (put no_node 1 true) 2 true
 cleaned_keys k h = grind arith
 
 pub forming_run : Run (first_sharing (pair 1 2)) forming formed
-forming_run =
-    (omega arith, (omega arith,
-    ((omega arith, refl, λ m h. for_pair (λ j. 65 ≤ ((all_of (first_sharing (pair 1 2)) (Event.Promise 1 65 ∷ Event.Promise 2 65 ∷ [])).node j).promised) 1 2 m (omega arith) (omega arith) h),
-    ((refl, refl, refl, refl, inl refl), (((omega arith, refl, refl), refl, omega arith, refl), ((refl, refl, refl, refl),
-    (((omega arith, omega arith), omega arith), ((refl, refl, inl refl), (refl, ((refl, refl, formed_keys), ((refl, refl), ((refl, refl, refl, refl),
-    (((omega arith, refl, refl, omega arith), refl, refl), (((omega arith, refl, refl, omega arith), refl, refl), ((refl, inr refl),
-    ((refl, inr refl), refl))))))))))))))))
+forming_run = (
+  omega arith,
+  (
+    omega arith,
+    (
+      (omega arith, refl, λ m h. for_pair (λ j. 65 ≤ ((all_of (first_sharing (pair 1 2)) (Event.Promise 1 65 ∷ Event.Promise 2 65 ∷ [])).node j).promised) 1 2 m (omega arith) (omega arith) h),
+      (
+        (refl, refl, refl, refl, inl refl),
+        (
+          ((omega arith, refl, refl), refl, omega arith, refl),
+          (
+            (refl, refl, refl, refl),
+            (
+              ((omega arith, omega arith), omega arith),
+              (
+                (refl, refl, inl refl),
+                (
+                  refl,
+                  (
+                    (refl, refl, formed_keys),
+                    (
+                      (refl, refl),
+                      (
+                        (refl, refl, refl, refl),
+                        (
+                          ((omega arith, refl, refl, omega arith), refl, refl),
+                          (
+                            ((omega arith, refl, refl, omega arith), refl, refl),
+                            (
+                              (refl, inr refl),
+                              ((refl, inr refl), refl),
+                            ),
+                          ),
+                        ),
+                      ),
+                    ),
+                  ),
+                ),
+              ),
+            ),
+          ),
+        ),
+      ),
+    ),
+  ),
+)
 
 pub splitting_run : Run formed splitting split
-splitting_run =
-    (omega arith,
-    ((omega arith, refl, λ m h. for_just (λ j. 129 ≤ ((all_of formed (Event.Promise 1 129 ∷ [])).node j).promised) 1 m (omega arith) h),
-    ((refl, refl, refl, refl, inl refl), (((omega arith, refl, refl), refl, omega arith, refl), ((refl, refl, refl, refl),
-    (((omega arith, omega arith), omega arith), ((refl, refl, inr refl), (refl, ((refl, refl, refl, refl), (refl, ((refl, refl, split_keys),
-    ((refl, refl), ((refl, refl, refl, refl), (((omega arith, refl, refl, omega arith), refl, refl), ((refl, inr refl), refl)))))))))))))))
+splitting_run = (
+  omega arith,
+  (
+    (omega arith, refl, λ m h. for_just (λ j. 129 ≤ ((all_of formed (Event.Promise 1 129 ∷ [])).node j).promised) 1 m (omega arith) h),
+    (
+      (refl, refl, refl, refl, inl refl),
+      (
+        ((omega arith, refl, refl), refl, omega arith, refl),
+        (
+          (refl, refl, refl, refl),
+          (
+            ((omega arith, omega arith), omega arith),
+            (
+              (refl, refl, inr refl),
+              (
+                refl,
+                (
+                  (refl, refl, refl, refl),
+                  (
+                    refl,
+                    (
+                      (refl, refl, split_keys),
+                      ((refl, refl), ((refl, refl, refl, refl), (((omega arith, refl, refl, omega arith), refl, refl), ((refl, inr refl), refl)))),
+                    ),
+                  ),
+                ),
+              ),
+            ),
+          ),
+        ),
+      ),
+    ),
+  ),
+)
 
 pub returning_run : Run split returning returned
-returning_run =
-    (tt, (omega arith,
-    ((omega arith, refl, λ m h. for_just (λ j. 130 ≤ ((all_of split (Event.Crash 2 ∷ Event.Promise 2 130 ∷ [])).node j).promised) 2 m (omega arith) h),
-    ((refl, refl, refl, refl, inl refl), (((omega arith, refl, refl), refl, omega arith, refl), ((refl, refl, inl refl), refl))))))
+returning_run = (
+  tt,
+  (
+    omega arith,
+    (
+      (omega arith, refl, λ m h. for_just (λ j. 130 ≤ ((all_of split (Event.Crash 2 ∷ Event.Promise 2 130 ∷ [])).node j).promised) 2 m (omega arith) h),
+      ((refl, refl, refl, refl, inl refl), (((omega arith, refl, refl), refl, omega arith, refl), ((refl, refl, inl refl), refl))),
+    ),
+  ),
+)
 
 pub reforming_run : Run returned reforming reformed
-reforming_run =
-    (omega arith, (omega arith,
-    ((omega arith, refl, λ m h. for_pair (λ j. 193 ≤ ((all_of returned (Event.Promise 1 193 ∷ Event.Promise 2 193 ∷ [])).node j).promised) 1 2 m (omega arith) (omega arith) h),
-    ((refl, refl, refl, refl, inl refl), (((omega arith, refl, refl), refl, omega arith, refl), ((refl, refl, refl, refl),
-    (((omega arith, omega arith), omega arith), ((refl, refl, inr refl), (refl, ((refl, refl, reformed_keys), ((refl, refl),
-    ((refl, refl, refl, refl), (((omega arith, refl, refl, omega arith), refl, refl), (((omega arith, refl, refl, omega arith), refl), (refl,
-    ((refl, refl), ((refl, inr refl), refl)))))))))))))))))
+reforming_run = (
+  omega arith,
+  (
+    omega arith,
+    (
+      (omega arith, refl, λ m h. for_pair (λ j. 193 ≤ ((all_of returned (Event.Promise 1 193 ∷ Event.Promise 2 193 ∷ [])).node j).promised) 1 2 m (omega arith) (omega arith) h),
+      (
+        (refl, refl, refl, refl, inl refl),
+        (
+          ((omega arith, refl, refl), refl, omega arith, refl),
+          (
+            (refl, refl, refl, refl),
+            (
+              ((omega arith, omega arith), omega arith),
+              (
+                (refl, refl, inr refl),
+                (
+                  refl,
+                  (
+                    (refl, refl, reformed_keys),
+                    (
+                      (refl, refl),
+                      (
+                        (refl, refl, refl, refl),
+                        (
+                          ((omega arith, refl, refl, omega arith), refl, refl),
+                          (
+                            ((omega arith, refl, refl, omega arith), refl),
+                            (
+                              refl,
+                              ((refl, refl), ((refl, inr refl), refl)),
+                            ),
+                          ),
+                        ),
+                      ),
+                    ),
+                  ),
+                ),
+              ),
+            ),
+          ),
+        ),
+      ),
+    ),
+  ),
+)
 
 pub sharing_run : Run (first_sharing no_node) sharing shared
-sharing_run =
-    (omega arith, (omega arith, (omega arith,
-    ((omega arith, refl, λ m h. for_three (λ j. 65 ≤ ((all_of (first_sharing no_node) (Event.Promise 1 65 ∷ Event.Promise 2 65 ∷ Event.Promise 3 65 ∷ [])).node j).promised) 1 2 3 m (omega arith) (omega arith) (omega arith) h),
-    ((refl, refl, refl, refl, inl refl), (((omega arith, refl, refl), refl, omega arith, refl), ((refl, refl), (refl,
-    (((omega arith, omega arith), omega arith), ((refl, refl, inl refl), (refl, ((refl, refl, shared_keys), ((refl, refl), ((refl, refl, refl, refl),
-    (((omega arith, refl, refl, omega arith), refl, refl), (((omega arith, refl, refl, omega arith), refl),
-    (((omega arith, refl, refl, omega arith), refl), (refl, ((refl, refl), ((refl, inr refl), refl))))))))))))))))))))
+sharing_run = (
+  omega arith,
+  (
+    omega arith,
+    (
+      omega arith,
+      (
+        (omega arith, refl, λ m h. for_three (λ j. 65 ≤ ((all_of (first_sharing no_node) (Event.Promise 1 65 ∷ Event.Promise 2 65 ∷ Event.Promise 3 65 ∷ [])).node j).promised) 1 2 3 m (omega arith) (omega arith) (omega arith) h),
+        (
+          (refl, refl, refl, refl, inl refl),
+          (
+            ((omega arith, refl, refl), refl, omega arith, refl),
+            (
+              (refl, refl),
+              (
+                refl,
+                (
+                  ((omega arith, omega arith), omega arith),
+                  (
+                    (refl, refl, inl refl),
+                    (
+                      refl,
+                      (
+                        (refl, refl, shared_keys),
+                        (
+                          (refl, refl),
+                          (
+                            (refl, refl, refl, refl),
+                            (
+                              ((omega arith, refl, refl, omega arith), refl, refl),
+                              (
+                                ((omega arith, refl, refl, omega arith), refl),
+                                (((omega arith, refl, refl, omega arith), refl), (refl, ((refl, refl), ((refl, inr refl), refl)))),
+                              ),
+                            ),
+                          ),
+                        ),
+                      ),
+                    ),
+                  ),
+                ),
+              ),
+            ),
+          ),
+        ),
+      ),
+    ),
+  ),
+)
 
 pub leaving_out_run : Run shared leaving_out left_out
-leaving_out_run =
-    (omega arith, (omega arith,
-    ((omega arith, refl, λ m h. for_pair (λ j. 129 ≤ ((all_of shared (Event.Promise 1 129 ∷ Event.Promise 2 129 ∷ [])).node j).promised) 1 2 m (omega arith) (omega arith) h),
-    ((refl, refl, refl, refl, inl refl), (((omega arith, refl, refl), refl, omega arith, refl), ((refl, refl), (refl,
-    (((omega arith, omega arith), omega arith), ((refl, refl, inr refl), (refl, ((refl, refl, left_out_keys), ((refl, refl),
-    ((refl, refl, refl, refl), (((omega arith, refl, refl, omega arith), refl, refl), (((omega arith, refl, refl, omega arith), refl, refl),
-    ((refl, inr refl), refl))))))))))))))))
+leaving_out_run = (
+  omega arith,
+  (
+    omega arith,
+    (
+      (omega arith, refl, λ m h. for_pair (λ j. 129 ≤ ((all_of shared (Event.Promise 1 129 ∷ Event.Promise 2 129 ∷ [])).node j).promised) 1 2 m (omega arith) (omega arith) h),
+      (
+        (refl, refl, refl, refl, inl refl),
+        (
+          ((omega arith, refl, refl), refl, omega arith, refl),
+          (
+            (refl, refl),
+            (
+              refl,
+              (
+                ((omega arith, omega arith), omega arith),
+                (
+                  (refl, refl, inr refl),
+                  (
+                    refl,
+                    (
+                      (refl, refl, left_out_keys),
+                      (
+                        (refl, refl),
+                        (
+                          (refl, refl, refl, refl),
+                          (
+                            ((omega arith, refl, refl, omega arith), refl, refl),
+                            (
+                              ((omega arith, refl, refl, omega arith), refl, refl),
+                              ((refl, inr refl), refl),
+                            ),
+                          ),
+                        ),
+                      ),
+                    ),
+                  ),
+                ),
+              ),
+            ),
+          ),
+        ),
+      ),
+    ),
+  ),
+)
 
 pub registering_late_run : Run left_out registering_late late
 registering_late_run =
     (refl, (omega arith, refl))
 
 pub seizing_again_run : Run late seizing_again cleaned
-seizing_again_run =
-    (omega arith, (omega arith,
-    ((omega arith, refl, λ m h. for_pair (λ j. 193 ≤ ((all_of late (Event.Promise 1 193 ∷ Event.Promise 2 193 ∷ [])).node j).promised) 1 2 m (omega arith) (omega arith) h),
-    ((refl, refl, refl, refl, inl refl), (((omega arith, refl, refl), refl, omega arith, refl), ((refl, refl), (refl,
-    (((omega arith, omega arith), omega arith), ((refl, refl, inr refl), (refl, ((refl, refl, refl, refl), (refl, ((refl, refl, cleaned_keys),
-    ((refl, refl), ((refl, refl, refl, refl), (((omega arith, refl, refl, omega arith), refl, refl),
-    (((omega arith, refl, refl, omega arith), refl, refl), ((refl, inr refl), refl))))))))))))))))))
+seizing_again_run = (
+  omega arith,
+  (
+    omega arith,
+    (
+      (omega arith, refl, λ m h. for_pair (λ j. 193 ≤ ((all_of late (Event.Promise 1 193 ∷ Event.Promise 2 193 ∷ [])).node j).promised) 1 2 m (omega arith) (omega arith) h),
+      (
+        (refl, refl, refl, refl, inl refl),
+        (
+          ((omega arith, refl, refl), refl, omega arith, refl),
+          (
+            (refl, refl),
+            (
+              refl,
+              (
+                ((omega arith, omega arith), omega arith),
+                (
+                  (refl, refl, inr refl),
+                  (
+                    refl,
+                    (
+                      (refl, refl, refl, refl),
+                      (
+                        refl,
+                        (
+                          (refl, refl, cleaned_keys),
+                          (
+                            (refl, refl),
+                            (
+                              (refl, refl, refl, refl),
+                              (
+                                ((omega arith, refl, refl, omega arith), refl, refl),
+                                (((omega arith, refl, refl, omega arith), refl, refl), ((refl, inr refl), refl)),
+                              ),
+                            ),
+                          ),
+                        ),
+                      ),
+                    ),
+                  ),
+                ),
+              ),
+            ),
+          ),
+        ),
+      ),
+    ),
+  ),
+)

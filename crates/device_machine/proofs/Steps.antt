@@ -1,11 +1,11 @@
 -- Each step of a node that neither seizes nor joins with a command that changes the device: what has to be shown of it.
-use Rattle.std.proofs.Common.{◌≡◌, ◌≢◌, ℕ, ◌<◌, ◌≤◌, ◌⊎◌, inl, inr, Bool, true, false, refl, sym, ap, subst, ◌∙◌, arith}
+use Rattle.std.proofs.Common.{◌≡◌, ℕ, ◌<◌, ◌≤◌, inl, inr, Bool, true, false, refl, sym, ap, subst, arith}
 use Rattle.machine_base.proofs.Puts.{put_true_stays}
 use Rattle.device_machine.specs.Phase.{Phase, rank, IsSeizing, IsJoining, AsksWord}
 use Rattle.device_machine.specs.Device.{Device}
 use Rattle.device_machine.specs.Initiator.{Initiator, promising, crashing, to_phase, seizing, unvalidated, expecting, aiming, rejecting, ending, installing, admitted, joining}
 use Rattle.device_machine.specs.Attempt.{Attempt}
-use Rattle.device_machine.proofs.Invariant.{PastOk, NodeOk, OnDevice, Alone, DeviceOk}
+use Rattle.device_machine.proofs.Invariant.{PastOk, NodeOk, OnDevice, DeviceOk}
 use Rattle.device_machine.proofs.Growth.{NodeGrows}
 use Rattle.device_machine.proofs.Frames.{NodeSteps}
 use Rattle.device_machine.proofs.Nodes
@@ -20,11 +20,11 @@ not_true false h = refl
 -- a step that leaves promise and history
 pub keeps : (v v' : Initiator) → v'.promised ≡ v.promised → v'.past ≡ v.past → NodeGrows v v'
 keeps v v' p e = record {
-    promised = omega (arith, p);
-    seized = λ q h. subst (λ x. x.seized q ≡ true) (sym e) h;
-    unregistered = λ q h. subst (λ x. x.unregistered q ≡ true) (sym e) h;
-    ended = λ q h. subst (λ x. x.ended q ≡ true) (sym e) h;
-  }
+  promised = omega (arith, p);
+  seized = λ q h. subst (λ x. x.seized q ≡ true) (sym e) h;
+  unregistered = λ q h. subst (λ x. x.unregistered q ≡ true) (sym e) h;
+  ended = λ q h. subst (λ x. x.ended q ≡ true) (sym e) h;
+}
 
 pub ending_grows : (v : Initiator) → NodeGrows v (ending v)
 ending_grows v = record { promised = grind arith; seized = λ q h. h; unregistered = λ q h. h; ended = λ q h. put_true_stays v.past.ended v.session q h }
@@ -43,11 +43,12 @@ module _ (A : ℕ → Attempt) (d : Device) (top n : ℕ) (v : Initiator) (past 
       (record { promised = grind arith; seized = λ p h. h; unregistered = λ p h. h; ended = λ p h. h })
       (Pasts.promising_past A n v q past lt)
       (Nodes.promising_node A n v q ok lt fresh (not_true (v.past.wrote q) (λ h. let l = past.wrote_low q h in omega arith)) unseized
-        (not_true (v.past.unregistered q) (λ h. let l = past.ended_low q (past.unregistered_ended q h) in omega arith)) (past.seizings_low q lt) (past.joinings_low q lt))
+      (not_true (v.past.unregistered q) (λ h. let l = past.ended_low q (past.unregistered_ended q h) in omega arith)) (past.seizings_low q lt) (past.joinings_low q lt))
       (On.promising_on A d top n v q ok on unseized)
     where
       fresh : v.past.ended q ≡ false
       fresh = not_true (v.past.ended q) (λ h. let l = past.ended_low q h in omega arith)
+
       unseized : v.past.seized q ≡ false
       unseized = not_true (v.past.seized q) (λ h. let l = past.ended_low q (past.seized_ended q h) in omega arith)
 
@@ -73,7 +74,7 @@ module _ (A : ℕ → Attempt) (d : Device) (top n : ℕ) (v : Initiator) (past 
   rejecting_steps at = quiet_steps A d d top n v (rejecting v) (grind arith) still (grind arith) (grind arith)
       (record { promised = grind arith; seized = λ q h. h; unregistered = λ q h. put_true_stays v.past.unregistered v.session q h; ended = λ q h. put_true_stays v.past.ended v.session q h })
       (Pasts.rejecting_past A n v past (session_low (grind arith)) (ok.unwritten (ok.busy (grind arith)) (grind arith))
-        (not_true (v.past.seized v.session) (unended (ok.busy (grind arith)) (grind arith))))
+      (not_true (v.past.seized v.session) (unended (ok.busy (grind arith)) (grind arith))))
       (Nodes.rejecting_node A n v ok at) (On.rejecting_on A d top n v ok on)
 
   pub unvalidated_steps : v.phase ≡ Phase.Asked → v.quorum ≡ false → NodeSteps A d d top n v (unvalidated v)
@@ -99,13 +100,13 @@ module _ (A : ℕ → Attempt) (d : Device) (top n : ℕ) (v : Initiator) (past 
   -- the one step after which the node knows that members alone are registered
   pub cleared_steps : v.phase ≡ Phase.Reserved → d.keys n ≡ true → ((k : ℕ) → d.keys k ≡ true → (A v.session).members k ≡ true) → NodeSteps A d d top n v (to_phase v Phase.Cleared)
   cleared_steps at key all = record {
-      grows = keeps v (to_phase v Phase.Cleared) refl refl;
-      past = past;
-      node = Nodes.cleared_node A n v ok at;
-      on = On.cleared_on A d top n v ok on at key;
-      alone = λ k u. record { valid = λ h w own c. all k own; seized = λ h w own c. all k own };
-      claims = claims_stay A d d top n v (to_phase v Phase.Cleared) (grind arith) still (grind arith);
-    }
+    grows = keeps v (to_phase v Phase.Cleared) refl refl;
+    past = past;
+    node = Nodes.cleared_node A n v ok at;
+    on = On.cleared_on A d top n v ok on at key;
+    alone = λ k u. record { valid = λ h w own c. all k own; seized = λ h w own c. all k own };
+    claims = claims_stay A d d top n v (to_phase v Phase.Cleared) (grind arith) still (grind arith);
+  }
 
   pub late_steps : IsJoining v.phase → NodeSteps A d d top n v (to_phase v Phase.Over)
   late_steps at = quiet_steps A d d top n v (to_phase v Phase.Over) (grind arith) still (grind arith) (grind arith) (keeps v (to_phase v Phase.Over) refl refl) past
@@ -114,13 +115,13 @@ module _ (A : ℕ → Attempt) (d : Device) (top n : ℕ) (v : Initiator) (past 
   -- A node whose joining reads that the word is its session: no greater attempt holds the device, and of that one it is a member.
   pub admitted_steps : DeviceOk A d top → (A v.session).held ≡ true → v.phase ≡ Phase.Entered → d.word ≡ v.session → NodeSteps A d d top n v (admitted v)
   admitted_steps dev held at w = record {
-      grows = keeps v (admitted v) refl refl;
-      past = past;
-      node = Nodes.admitted_node A n v ok at;
-      on = On.admitted_on A d top n v ok on at (let a = dev.held_top v.session held in let b = dev.top_word in omega arith) dev.held_top;
-      alone = not_alone A d (admitted v) (grind arith);
-      claims = λ j u o x. claims_member A d n (admitted v) w (ok.member (grind arith)) u;
-    }
+    grows = keeps v (admitted v) refl refl;
+    past = past;
+    node = Nodes.admitted_node A n v ok at;
+    on = On.admitted_on A d top n v ok on at (let a = dev.held_top v.session held in let b = dev.top_word in omega arith) dev.held_top;
+    alone = not_alone A d (admitted v) (grind arith);
+    claims = λ j u o x. claims_member A d n (admitted v) w (ok.member (grind arith)) u;
+  }
 
   module _ (p : 0 < v.session) (counted : (A v.session).counted ≡ true) (collected : (A v.session).collected ≡ true) (member : (A v.session).members n ≡ true) (lt : v.installed < v.session) where
     pub installing_steps : NodeSteps A d d top n v (installing v)

@@ -1,8 +1,5 @@
 -- Words of the laws.
-use Rattle.std.specs.Prelude.{ℕ, Bool, true, false, ◌≡◌, ◌<◌, ◌≤◌, ◌⊎◌}
-use Rattle.device_machine.specs.Device.{Device, LetsWrite}
-use Rattle.device_machine.specs.Initiator.{Initiator}
-use Rattle.device_machine.specs.Attempt.{Attempt}
+use Rattle.std.specs.Prelude.{ℕ, true, ◌≡◌, ◌<◌, ◌≤◌, ◌⊎◌}
 use Rattle.device_machine.specs.Sharing.{Sharing}
 
 -- attempt q counted a majority, and holds the device

@@ -4,9 +4,9 @@
 -- A command is done and answered, or refused (then the task goes on or ends as its rule says), or it fails: not done, which is Fail or Late,
 -- or done while its answer is lost, which is the event's twin in `_lost`. A node that goes down inside a save is the event followed by Crash,
 -- where the new text is durable, or Crash alone, where it is not.
-use Rattle.std.specs.Prelude.{ℕ, Bool, true, false, ◌≡◌, ◌≢◌, ◌<◌, ◌≤◌, ◌⊎◌, List, [], ◌∷◌, if◌then◌else◌, nat_eq}
+use Rattle.std.specs.Prelude.{ℕ, Bool, true, false, ◌≡◌, ◌<◌, ◌≤◌, ◌⊎◌, List, [], ◌∷◌}
 use Rattle.machine_base.specs.Put.{put}
-use Rattle.device_machine.specs.Phase.{Phase, rank, IsSeizing, IsJoining, AsksWord}
+use Rattle.device_machine.specs.Phase.{Phase, IsSeizing, IsJoining, AsksWord}
 use Rattle.device_machine.specs.Device.{Device, LetsWrite, registering, wording, reserving, preempting, storing, first_device}
 use Rattle.device_machine.specs.Initiator.{Initiator, first_initiator, promising, crashing, to_phase, seizing, unvalidated, expecting, marking, marking_lost, aiming, holding, rejecting, ending, installing, admitted, joining}
 use Rattle.device_machine.specs.Attempt.{Attempt, no_attempt, collecting, asking_node, holding_for, counting}
