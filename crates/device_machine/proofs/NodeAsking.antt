@@ -1,5 +1,5 @@
 -- A node begins to seize, up to its swap: what each of these steps leaves true of it.
-use Rattle.std.proofs.Common.{◌≡◌, ℕ, ◌<◌, ◌⊎◌, Bool, true, false, arith}
+use Rattle.std.proofs.Common.{◌≡◌, ℕ, ◌<◌, Bool, true, false, arith}
 use Rattle.device_machine.specs.Phase.{Phase, AsksWord}
 use Rattle.device_machine.specs.Initiator.{Initiator, to_phase, seizing, unvalidated, expecting, rejecting}
 use Rattle.device_machine.specs.Attempt.{Attempt}

@@ -1,5 +1,5 @@
 -- A node seizes, from its swap on: what each of these steps leaves true of it.
-use Rattle.std.proofs.Common.{◌≡◌, ℕ, ◌<◌, ◌⊎◌, Bool, true, false, arith}
+use Rattle.std.proofs.Common.{◌≡◌, ℕ, ◌⊎◌, false, arith}
 use Rattle.device_machine.specs.Phase.{Phase, IsSeizing}
 use Rattle.device_machine.specs.Initiator.{Initiator, to_phase, marking, marking_lost, aiming, ending}
 use Rattle.device_machine.specs.Attempt.{Attempt}

@@ -1,5 +1,5 @@
 -- A node promises, goes down, installs and joins: what each of these steps leaves true of it.
-use Rattle.std.proofs.Common.{◌≡◌, ℕ, ◌<◌, ◌⊎◌, Bool, true, false, arith}
+use Rattle.std.proofs.Common.{◌≡◌, ℕ, ◌<◌, true, false, arith}
 use Rattle.machine_base.proofs.Puts.{put_here}
 use Rattle.device_machine.specs.Phase.{Phase, IsJoining}
 use Rattle.device_machine.specs.Initiator.{Initiator, promising, crashing, to_phase, installing, admitted, joining}

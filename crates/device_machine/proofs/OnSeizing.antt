@@ -1,6 +1,6 @@
 -- A node seizes: what each of its steps leaves true of it and the device.
 -- Where the step changes the device, this is said at the device that it left.
-use Rattle.std.proofs.Common.{◌≡◌, ℕ, ◌<◌, ◌≤◌, ◌⊎◌, Bool, true, false, arith}
+use Rattle.std.proofs.Common.{◌≡◌, ℕ, ◌≤◌, Bool, true, arith}
 use Rattle.device_machine.specs.Phase.{Phase, rank}
 use Rattle.device_machine.specs.Device.{Device}
 use Rattle.device_machine.specs.Initiator.{Initiator, to_phase, seizing, unvalidated, expecting, marking, marking_lost, aiming, rejecting, ending}

@@ -1,6 +1,6 @@
 -- A node promises, goes down, installs and joins: what each of these steps leaves true of it and the device.
 -- Where the step changes the device, this is said at the device that it left.
-use Rattle.std.proofs.Common.{◌≡◌, ℕ, ◌<◌, ◌≤◌, ◌⊎◌, Bool, true, false, arith}
+use Rattle.std.proofs.Common.{◌≡◌, ℕ, ◌<◌, ◌≤◌, ◌⊎◌, true, false, arith}
 use Rattle.device_machine.specs.Phase.{Phase, rank, IsJoining}
 use Rattle.device_machine.specs.Device.{Device, registering}
 use Rattle.device_machine.specs.Initiator.{Initiator, promising, crashing, to_phase, installing, admitted, joining}

@@ -1,8 +1,7 @@
 -- What the sample runs use.
-use Rattle.std.proofs.Common.{◌≡◌, ℕ, ◌≤◌, ◌⊎◌, inl, inr, true, false, refl, sym, subst, List, [], ◌∷◌, ◌++◌, arith}
-use Rattle.machine_base.specs.Put.{put}
+use Rattle.std.proofs.Common.{◌≡◌, ℕ, ◌⊎◌, inl, inr, true, false, sym, subst, List, [], ◌∷◌, ◌++◌, arith}
 use Rattle.device_machine.specs.Device.{Device, LetsWrite}
-use Rattle.device_machine.specs.Sharing.{Sharing, Event, after, Run, first_sharing}
+use Rattle.device_machine.specs.Sharing.{Sharing, Event, after, Run}
 use Rattle.device_machine.specs.Sample.{just, pair, three}
 
 -- two runs, one after the other
