@@ -1,8 +1,8 @@
 -- The laws, of each state in which the invariant holds.
 use Rattle.std.proofs.Common.{◌≡◌, ◌≢◌, ℕ, zero, suc, ◌<◌, ◌≤◌, ◌⊎◌, inl, inr, Bool, true, false, refl, sym, subst, ◌∙◌, arith}
-use Rattle.device_machine.specs.Phase.{Phase, rank}
+use Rattle.device_machine.specs.Phase.{Phase, rank, IsSeizing}
 use Rattle.device_machine.specs.Device.{LetsWrite}
-use Rattle.device_machine.specs.Sharing.{Sharing, Writes}
+use Rattle.device_machine.specs.Sharing.{Sharing, MayInstall, Writes}
 use Rattle.device_machine.specs.Laws.{Holds, MemberOrAbove, HasJoined}
 use Rattle.device_machine.proofs.Steps.{not_true}
 use Rattle.device_machine.proofs.Invariant.{Inv}
@@ -109,6 +109,11 @@ module _ (s : Sharing) (i : Inv s) where
   pub meets : (e q : ℕ) → Holds s e → Holds s q → (s.attempt q).quorum ≡ true → e < q
       → ((s.attempt q).members (s.attempt q).seizer ≡ true) × MemberOrAbove s (s.attempt q).seizer e ((s.node (s.attempt q).seizer).past.showed q)
   meets e q he hq kind lt = (seizer_member q hq, (i.on (s.attempt q).seizer).seized_showed q e ((i.attempt q).holds_seized hq.0 hq.1) kind (held e he) lt)
+
+  -- whoever installs was asked for nothing that it has not answered
+  pub at_install : (n : ℕ) → MayInstall s n → IsSeizing (s.node n).phase → ⊥
+  at_install n g b = let asked = (i.node n).asked b.0 (omega (arith, b.1)) in
+      clash ((s.node n).past.ended (s.node n).session) ((i.attempt (s.node n).session).answered n g.1 asked) ((i.node n).running g.0 b.1)
 
   pub over_when_joined : (n : ℕ) → (s.node n).joined ≡ true → (s.node n).phase ≡ Phase.Over
   over_when_joined n j = is_over (s.node n).phase ((i.node n).joined j)

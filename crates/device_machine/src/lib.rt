@@ -6,8 +6,8 @@
 #![tactic(auto)]
 
 ghost use Rattle.std.specs.Prelude.{◌≡◌, ℕ, ◌<◌, ◌≤◌, ◌⊎◌, Bool, true, false, List, ◌++◌};
-ghost use Rattle.device_machine.specs.Phase.{Phase};
-ghost use Rattle.device_machine.specs.Sharing.{Sharing, Event, Run, Writes, first_sharing};
+ghost use Rattle.device_machine.specs.Phase.{Phase, IsSeizing};
+ghost use Rattle.device_machine.specs.Sharing.{Sharing, Event, Run, MayInstall, Writes, first_sharing};
 ghost use Rattle.device_machine.specs.Laws.{Holds, MemberOrAbove, HasJoined, Later};
 ghost use Rattle.device_machine.specs.Device.{LetsWrite};
 ghost use Rattle.device_machine.specs.Sample.{pair, no_node, forming, formed, splitting, split, returning, returned, reforming, reformed, sharing, shared, leaving_out, left_out, registering_late, late, seizing_again, cleaned};
@@ -89,13 +89,15 @@ pub fn promises()
         → (s.node n).installed ≤ (s.node n).promised }
 {}
 
-/// A node begins at most one seizing and one joining of the device for an attempt, and when it has joined no task on the
-/// device is queued.
+/// A node begins at most one seizing and one joining of the device for an attempt, no seizing is under way when it
+/// installs, and when it has joined no task on the device is queued.
 pub fn tasks()
     ensures seizings { (registered : ℕ → Bool) (events : List Event) (s : Sharing) (n q : ℕ) → Run (first_sharing registered) events s
         → (s.node n).past.seizings q ≤ 1 }
     ensures joinings { (registered : ℕ → Bool) (events : List Event) (s : Sharing) (n q : ℕ) → Run (first_sharing registered) events s
         → (s.node n).past.joinings q ≤ 1 }
+    ensures at_install { (registered : ℕ → Bool) (events : List Event) (s : Sharing) (n : ℕ) → Run (first_sharing registered) events s
+        → MayInstall s n → IsSeizing (s.node n).phase → ⊥ }
     ensures joined { (registered : ℕ → Bool) (events : List Event) (s : Sharing) (n : ℕ) → Run (first_sharing registered) events s
         → (s.node n).joined ≡ true → (s.node n).phase ≡ Phase.Over }
 {}
