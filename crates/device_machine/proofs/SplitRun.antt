@@ -123,7 +123,7 @@ returning_run = (
   (
     omega arith,
     (
-      (omega arith, refl, λ m h. for_just (λ j. 194 ≤ ((all_of split (Event.Crash 2 ∷ Event.Promise 2 194 ∷ [])).node j).promised) 2 m (omega arith) h),
+      (omega arith, refl, λ m h. for_just (λ j. 130 ≤ ((all_of split (Event.Crash 2 ∷ Event.Promise 2 130 ∷ [])).node j).promised) 2 m (omega arith) h),
       ((refl, refl, refl, refl, inl refl), (((omega arith, refl, refl), refl, omega arith, refl), ((refl, refl, inl refl), refl))),
     ),
   ),

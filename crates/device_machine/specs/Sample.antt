@@ -48,10 +48,10 @@ splitting =
 abbrev pub split : Sharing
 split = all_of faulted splitting
 
--- Node 2 goes down, comes up, and tries to form membership 194 alone: its key is absent.
+-- Node 2 goes down, comes up, and tries to form membership 130 alone: its key is absent.
 abbrev pub returning : List Event
 returning =
-    Event.Crash 2 ∷ Event.Promise 2 194 ∷ Event.Collected 194 (just 2) ∷ Event.Ask 194 2 true ∷ Event.Seize 2 ∷ Event.Reject 2 ∷ []
+    Event.Crash 2 ∷ Event.Promise 2 130 ∷ Event.Collected 130 (just 2) ∷ Event.Ask 130 2 true ∷ Event.Seize 2 ∷ Event.Reject 2 ∷ []
 
 abbrev pub returned : Sharing
 returned = all_of split returning

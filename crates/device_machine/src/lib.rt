@@ -150,13 +150,13 @@ pub fn quorum_device_meets()
 /// A run on a quorum device of nodes 1 and 2, which shows that the events can come and that the laws speak of something.
 /// They form membership 65 and both write. Node 1 seizes for 129 alone, and the answer of its preempt of node 2's key is
 /// lost. It forms 193 alone: node 2 still believes itself a member of 65, and the device refuses its writes. Node 2
-/// cannot form 194, since its key is absent. They form 257 together, and node 2 is admitted and writes.
+/// cannot form 130, since its key is absent. They form 257 together, and node 2 is admitted and writes.
 pub fn sample_of_a_split()
     ensures run { Run (first_sharing (pair 1 2)) (forming ++ faulting ++ splitting ++ returning ++ reforming) reformed }
     ensures both { Writes formed 1 × Writes formed 2 }
     ensures held { Holds split 193 × Writes split 1 }
     ensures fenced { ((split.node 2).joined ≡ true) × (LetsWrite split.device 2 → ⊥) }
-    ensures rejected { (returned.node 2).past.unregistered 194 ≡ true }
+    ensures rejected { (returned.node 2).past.unregistered 130 ≡ true }
     ensures again { Holds reformed 257 × Writes reformed 2 × (reformed.device.content ≡ 5) }
 {}
 
