@@ -1,11 +1,11 @@
 -- Two majorities of the same votes meet.
-use Rattle.std.proofs.Common.{◌≡◌, ℕ, ◌+◌, ◌*◌, ◌<◌, ◌≤◌, ◌⊎◌, inl, inr, suc, zero, refl, arith, Bool, true, false, if◌then◌else◌}
+use Rattle.std.proofs.Common.{◌≡◌, ℕ, ◌+◌, ◌<◌, ◌≤◌, ◌⊎◌, inl, inr, suc, zero, refl, arith, Bool, true, false, if◌then◌else◌}
 use Rattle.cl_base.specs.Sets.{has}
 use Rattle.quorum_votes.specs.declared.state.NodeState.{NodeState}
 use Rattle.quorum_votes.specs.declared.state.NodeState.TheVariants.{Unconfigured, Maintenance, Voting}
 use Rattle.quorum_votes.specs.Sums.{sum_to}
 use Rattle.quorum_votes.specs.Tables.{VoteTable}
-use Rattle.quorum_votes.specs.Votes.{node_at, vote_in, vote_of, device_votes_of, node_share, device_share, held_of, total_of}
+use Rattle.quorum_votes.specs.Votes.{node_at, vote_in, vote_of, device_votes_of, node_share, device_share}
 use Rattle.quorum_votes.specs.Quorum.{IsMajority, ShareNode, ShareDevice, MajoritiesMeet, HeldIsWithin}
 use Rattle.quorum_votes.proofs.SumLemmas.{SharedTo, shared_or_within, sum_to_le}
 

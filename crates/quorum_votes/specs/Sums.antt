@@ -1,6 +1,5 @@
 -- Sums over the numbers of nodes or of devices, which begin at 1.
-use Rattle.std.specs.Prelude.{◌≡◌, ℕ, ◌+◌, zero, suc, refl}
-use Rattle.std.proofs.Common.{rules, arith, add-one}
+use Rattle.std.specs.Prelude.{ℕ, ◌+◌, zero, suc}
 
 -- f 1 + f 2 + .. + f k
 unfoldable pub sum_to : (ℕ → ℕ) → ℕ → ℕ

@@ -1,5 +1,5 @@
 -- What each node and each device counts for, and what a membership holds.
-use Rattle.std.specs.Prelude.{◌≡◌, ℕ, ◌+◌, ◌-◌, ◌/◌, ◌++◌, nat_le, Bool, true, false, List, Option, None, Some, map, replicate, length, slice_index_or, if◌then◌else◌}
+use Rattle.std.specs.Prelude.{ℕ, ◌+◌, ◌-◌, ◌/◌, ◌++◌, Bool, true, false, List, Option, None, Some, map, replicate, length, slice_index_or, if◌then◌else◌}
 use Rattle.cl_base.specs.Sets.{has}
 use Rattle.cl_base.specs.declared.header.Header.{Header}
 use Rattle.cl_base.specs.declared.header.HeaderDevice.{HeaderDevice}

@@ -5,6 +5,8 @@
 mod change;
 mod quorum;
 mod state;
+#[cfg(test)]
+mod tests;
 mod votes;
 
 pub use change::{VoteChange, VoteError};

@@ -5,5 +5,4 @@ ghost use Rattle.quorum_votes.specs.Quorum.{MajoritiesMeet, HeldIsWithin};
 pub fn majorities_meet()
     ensures meet { MajoritiesMeet }
     ensures within { HeldIsWithin }
-{
-}
+{}

@@ -1,7 +1,7 @@
-ghost use Rattle.std.specs.Prelude.{◌≡◌, ◌≤◌, ℕ, length};
+ghost use Rattle.std.specs.Prelude.{◌≡◌, ◌≤◌, ◌<◌, ◌*◌, ◌↔◌, ℕ, length, MatchResult};
 ghost use Rattle.quorum_votes.specs.Sums.{sum_to};
 ghost use Rattle.quorum_votes.specs.Votes.{node_at, device_at, vote_in, vote_of, is_configured, node_votes_of, device_votes_of, votes_of_device, state_of, total_of, held_of, needed_of, device_share, first_of, first_nodes, first_device, first_devices};
-ghost use Rattle.quorum_votes.specs.Changes.{changed, with_vote, with_state, IsVote};
+ghost use Rattle.quorum_votes.specs.Changes.{changed, with_vote, with_state, IsVote, Changes, ChangesNode, ChangesDevice, IsRefused, IsNodeRefused, IsDeviceRefused};
 
 use crate::change::{VoteChange, VoteError};
 use crate::state::{DevState, NodeState, VoteDevice};
@@ -65,10 +65,9 @@ impl Votes {
         ensures most { result ≤ 31 }
     {
         match self.device(d) {
-            Some(VoteDevice {
-                state: DevState::Enabled,
-                attached,
-            }) => self.node_votes(attached).saturating_sub(1),
+            Some(device) if device.state == DevState::Enabled => {
+                self.node_votes(device.attached).saturating_sub(1)
+            }
             _ => 0,
         }
     }
@@ -94,6 +93,7 @@ impl Votes {
     /// How many votes a membership needs: more than half of all.
     pub fn needed(&self) -> u64
         ensures value { result ≡ needed_of self.now }
+        ensures majority { (held : ℕ) → (result ≤ held) ↔ (total_of self.now < 2 * held) }
     {
         self.total() / 2 + 1
     }
@@ -112,6 +112,7 @@ impl Votes {
     pub fn change(&self, c: VoteChange) -> Result<Votes, VoteError>
         requires { IsVote c }
         ensures value { result ≡ changed self.now c }
+        ensures outcome { MatchResult result (λ new. Changes self.now c new) (λ e. IsRefused self.now c e) }
     {
         match c {
             VoteChange::NodeVote { node, vote } => self.with_vote(node, vote),
@@ -121,7 +122,8 @@ impl Votes {
 
     fn with_vote(&self, n: NodeId, vote: u64) -> Result<Votes, VoteError>
         requires { vote ≤ 1 }
-        ensures { result ≡ with_vote self.now n vote (node_at self.now n) }
+        ensures value { result ≡ with_vote self.now n vote (node_at self.now n) }
+        ensures outcome { MatchResult result (λ new. ChangesNode self.now n vote new) (λ e. IsNodeRefused self.now n vote e) }
     {
         let old = self.state_of_node(n);
         if old == NodeState::Unconfigured {
@@ -140,7 +142,8 @@ impl Votes {
     }
 
     fn with_state(&self, d: DevId, state: DevState) -> Result<Votes, VoteError>
-        ensures { result ≡ with_state self.now d state (device_at self.now d) }
+        ensures value { result ≡ with_state self.now d state (device_at self.now d) }
+        ensures outcome { MatchResult result (λ new. ChangesDevice self.now d state new) (λ e. IsDeviceRefused self.now d state e) }
     {
         let device = self.device(d).ok_or(VoteError::Unknown)?;
         if device.state == state {

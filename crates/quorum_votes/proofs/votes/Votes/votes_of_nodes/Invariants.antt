@@ -1,4 +1,4 @@
-use Rattle.std.proofs.Common.{◌≡◌, ◌≤◌, ◌*◌}
+use Rattle.std.proofs.Common.{◌≡◌, ◌≤◌}
 use Rattle.quorum_votes.specs.Sums.{sum_to}
 use Rattle.quorum_votes.specs.Votes.{vote_of}
 use Rattle.quorum_votes.proofs.votes.Votes.votes_of_nodes.Given as goal
