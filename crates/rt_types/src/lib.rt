@@ -1,13 +1,9 @@
-// A library with one function.
+//! Resource types: the agent that carries out the methods of a type's resources, the methods that
+//! it has, and the types of a cluster in order of creation.
 #![tactic(auto)]
 
-ghost use Rattle.std.specs.Prelude.{◌≡◌};
-ghost use Rattle.rt_types.specs.Echo.{echo_of};
+mod resource_type;
+mod types;
 
-// The `ensures` clause is the contract: what `echo` returns is `echo_of` of its argument, a definition
-// in `specs/Echo.antt`, which a caller's clause can cite too.
-pub fn echo(x: usize) -> usize
-    ensures { result ≡ echo_of x }
-{
-    x
-}
+pub use resource_type::{ResourceType, TypeError};
+pub use types::{NoMemory, Types};
