@@ -1,13 +1,9 @@
-// A library with one function.
+//! The restart policy: what a failed probe of a monitor leads to, and which start failures and
+//! moves still count. Nothing here allocates.
 #![tactic(auto)]
 
-ghost use Rattle.std.specs.Prelude.{◌≡◌};
-ghost use Rattle.restart_policy.specs.Echo.{echo_of};
+mod policy;
+#[cfg(test)]
+mod tests;
 
-// The `ensures` clause is the contract: what `echo` returns is `echo_of` of its argument, a definition
-// in `specs/Echo.antt`, which a caller's clause can cite too.
-pub fn echo(x: usize) -> usize
-    ensures { result ≡ echo_of x }
-{
-    x
-}
+pub use policy::{ProbeAction, ProbeRule, moved, on_probe, start_failures};

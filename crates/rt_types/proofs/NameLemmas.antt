@@ -1,5 +1,5 @@
 -- Names compare as their bytes do.
-use Rattle.std.proofs.Common.{◌≡◌, ℕ, ◌+◌, ◌-◌, ◌++◌, Bool, true, false, ◌&&◌, List, length, take, replicate, nat_eq, eqb, refl, sym, ap, ◌∙◌, eq-eqb}
+use Rattle.std.proofs.Common.{◌≡◌, ℕ, ◌-◌, ◌++◌, Bool, true, false, cond, ◌&&◌, Option, List, length, take, replicate, eqb, refl, sym, ap, ◌∙◌, eq-eqb}
 use Rattle.std.proofs.Math.Seq.{take-append_seam}
 use Rattle.std.proofs.lemmas.Bool.{eqb-true}
 use Rattle.std.specs.Str.{bytes_eq}
@@ -55,3 +55,11 @@ module _ {X : Type 0} (name : List ℕ) (es : List (List ℕ × X)) where
 
   pub name_removed : remove_entry (eq-value.it name) es ≡ remove_entry (bytes_eq name) es
   name_removed = ap (λ (test : List ℕ → Bool). remove_entry test es) (λ i k. same_names name k i)
+
+-- a lookup afterwards, by names or by their bytes
+pub found_at : {X : Type 0} (name other : List ℕ) (old new : List (List ℕ × X)) (found : Option X)
+    → lookup (eq-value.it other) new ≡ cond (eq-value.it name other) found (lookup (eq-value.it other) old)
+    → lookup (bytes_eq other) new ≡ cond (bytes_eq name other) found (lookup (bytes_eq other) old)
+found_at {X} name other old new found h =
+    sym (name_found other new) ∙ h ∙ ap (λ (t : Bool). cond t found (lookup (eq-value.it other) old)) (same_names name other)
+    ∙ ap (λ (x : Option X). cond (bytes_eq name other) found x) (name_found other old)

@@ -1,5 +1,5 @@
 -- Resource types: which methods one must have, and the named types in order of creation.
-use Rattle.std.specs.Prelude.{◌≡◌, ◌≢◌, ℕ, true, false, List, Option}
+use Rattle.std.specs.Prelude.{◌≡◌, ◌≢◌, ℕ, true, false, List, Option, if◌then◌else◌}
 use Rattle.std.specs.Map.{lookup, remove_entry}
 use Rattle.std.specs.Str.{bytes_eq}
 use Rattle.cl_base.specs.Methods.{has_method}
@@ -27,3 +27,7 @@ type_of types name = lookup (bytes_eq name) types
 -- the others, in their order
 abbrev pub types_without : List (List ℕ × TypeFields) → List ℕ → List (List ℕ × TypeFields)
 types_without types name = remove_entry (bytes_eq name) types
+
+-- Looking a name up afterwards: at this name it gives `found`, at each other name what it gave before.
+abbrev pub FindsAt : List (List ℕ × TypeFields) → List ℕ → Option TypeFields → List (List ℕ × TypeFields) → Type 0
+FindsAt old name found new = (other : List ℕ) → type_of new other ≡ (if bytes_eq name other then found else type_of old other)

@@ -3,6 +3,8 @@
 #![tactic(auto)]
 
 mod resource_type;
+#[cfg(test)]
+mod tests;
 mod types;
 
 pub use resource_type::{ResourceType, TypeError};

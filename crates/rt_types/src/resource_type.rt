@@ -47,7 +47,12 @@ impl ResourceType {
     /// A type whose methods the agent carries out. `single` says that a resource of it is online on
     /// one node at most, and `failover` that it may move. The error names the first that fits:
     /// START missing, STOP missing, one of MONITOR_START and MONITOR_STOP without the other.
-    pub fn new(agent: Name, methods: MethodSet, single: bool, failover: bool) -> Result<ResourceType, TypeError>
+    pub fn new(
+        agent: Name,
+        methods: MethodSet,
+        single: bool,
+        failover: bool,
+    ) -> Result<ResourceType, TypeError>
         ensures answer { MatchResult result (λ t. (t ≡ record { agent = agent; methods = methods; single = single; failover = failover }) × IsComplete methods) (λ e. IsTypeError methods e) }
     {
         if !methods.has(Method::Start) {

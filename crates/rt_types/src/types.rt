@@ -1,6 +1,6 @@
-ghost use Rattle.std.specs.Prelude.{◌≡◌, ◌++◌, ◌∷◌, ◌<◌, ◌↔◌, [], None, IsSome, OnOk, OnErr, length, slice_get};
+ghost use Rattle.std.specs.Prelude.{◌≡◌, ◌++◌, ◌∷◌, [], None, Some, IsSome, OnOk, OnErr, length, slice_get};
 ghost use Rattle.std.specs.Option.{option_copied, option_map};
-ghost use Rattle.rt_types.specs.Types.{type_of, types_without};
+ghost use Rattle.rt_types.specs.Types.{type_of, types_without, FindsAt};
 
 use crate::resource_type::ResourceType;
 use cl_base::Name;
@@ -51,6 +51,7 @@ impl Types {
     pub fn register(&mut self, name: Name, t: ResourceType) -> Result<(), NoMemory>
         requires { type_of self.old name ≡ None }
         ensures ok { OnOk result (self.new ≡ self.old ++ (name, t) ∷ []) }
+        ensures found { OnOk result (FindsAt self.old name (Some t) self.new) }
         ensures err { OnErr result (self.new ≡ self.old) }
     {
         match self.types.insert(name, t) {
@@ -63,6 +64,7 @@ impl Types {
     pub fn unregister(&mut self, name: &Name)
         requires { IsSome (type_of self.old name.now) }
         ensures value { self.new ≡ types_without self.old name.now }
+        ensures found { FindsAt self.old name.now None self.new }
     {
         self.types.shift_remove(name);
     }

@@ -1,4 +1,4 @@
-use Rattle.std.proofs.Common.{◌≡◌, ◌∙◌}
+use Rattle.std.proofs.Common.{◌∙◌}
 use Rattle.rt_types.proofs.NameLemmas.{name_found}
 use Rattle.rt_types.proofs.types.Types.resource_type.Goals as goal
 
