@@ -1,4 +1,4 @@
-ghost use Rattle.std.specs.Prelude.{◌≡◌, ◌↔◌, ◌<◌, IsTrue};
+ghost use Rattle.std.specs.Prelude.{◌≡◌};
 ghost use Rattle.restart_policy.specs.Policy.{is_recent, recent_of, action_of, failures_of, has_moved};
 
 use cl_base::{FailoverMode, History};
