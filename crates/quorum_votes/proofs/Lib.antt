@@ -1,0 +1,3 @@
+pub mod PlaceLemmas
+pub mod QuorumLemmas
+pub mod SumLemmas

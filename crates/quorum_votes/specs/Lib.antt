@@ -1,0 +1,5 @@
+pub mod Changes
+pub mod Quorum
+pub mod Sums
+pub mod Tables
+pub mod Votes

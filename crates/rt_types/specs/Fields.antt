@@ -1,0 +1,8 @@
+-- What is known of a resource type: the agent that carries out its methods, which methods it has, and its two properties.
+use Rattle.std.specs.Prelude.{ℕ, Bool, List}
+
+pub record TypeFields : Type 0 where
+  pub agent : List ℕ
+  pub methods : ℕ
+  pub single : Bool
+  pub failover : Bool
