@@ -1,17 +1,16 @@
 -- What lines and bytes come to, put one after another.
-use Rattle.std.proofs.Common.{◌≡◌, ◌≢◌, ℕ, ◌+◌, ◌-◌, ◌*◌, ◌==◌, ◌<◌, ◌≤◌, nat_lt, nat_le, Bool, true, false, ◌||◌, if◌then◌else◌, List, [], ◌∷◌, ◌++◌, length, take, drop, All, slice_index_or, ◌⊎◌, inl, inr, Result, Ok, Err, zero, suc, refl, sym, ap, subst, ◌∙◌, arith, length-append, append_assoc, append-nil, rules}
-use Rattle.std.specs.List.{slice_split, onto_first}
-use Rattle.std.specs.Io.{StartsWith}
+use Rattle.std.proofs.Common.{◌≡◌, ◌≢◌, ℕ, ◌+◌, ◌==◌, ◌<◌, ◌≤◌, Bool, true, false, if◌then◌else◌, List, [], ◌∷◌, ◌++◌, length, All, slice_index_or, ◌⊎◌, inl, inr, Result, Ok, Err, refl, sym, ap, ◌∙◌, arith, length-append, append_assoc}
+use Rattle.std.specs.List.{onto_first}
 use Rattle.std.proofs.lemmas.List.Splits.{slice_split_at, length-slice_split, slice_split-cons_no}
 use Rattle.std.proofs.lemmas.List.Elements.{All-tail, All-append}
-use Rattle.std.proofs.lemmas.Bool.Decides.{eqb_tells, nat_tests}
+use Rattle.std.proofs.lemmas.Bool.Decides.{nat_tests}
 use Rattle.replay.specs.declared.stop.Stop.{Stop}
 use Rattle.replay.specs.declared.stop.Stop.TheVariants as stop
 use Rattle.replay.specs.declared.session.State.{State}
 use Rattle.replay.specs.declared.taking.Reader as reader
 use Rattle.replay.specs.declared.task.Task.{Task}
-use Rattle.replay.specs.Sessions.{Step, Goes, Finishes, Refuses, step}
-use Rattle.replay.specs.Outcomes.{Ending, Open, Ended, Refused, TooLarge, Outcome, outcome, pieces, after, silent, onward, is_too_large, left_over}
+use Rattle.replay.specs.Sessions.{step}
+use Rattle.replay.specs.Outcomes.{TooLarge, Outcome, outcome, pieces, after, silent, onward, is_too_large}
 use Rattle.replay.specs.Stops.{TakesLine, TakesBytes, Tells}
 use Rattle.replay.proofs.Texts.{starts_with_behind, starts_with_more}
 
@@ -45,7 +44,7 @@ pub line_bytes : (task : Task) (old : reader.Reader) (line : List ℕ) (result :
     → All (λ b. (b == 10) ≡ false) (old.held.items ++ line) → TakesLine task old (old.held.items ++ line) result written → TakesBytes task old (line ++ (10 ∷ [])) result written
 line_bytes task old line result written plain h = λ ended more.
     rw (first_piece old.held.items line more plain, whole_line task ended (old.held.items ++ line) more old.state old.lines)
-      (line_tells task ended more old (old.held.items ++ line) result written h)
+    (line_tells task ended more old (old.held.items ++ line) result written h)
 
 pub after_after : (a b : List ℕ) (o : Outcome) → after a (after b o) ≡ after (a ++ b) o
 after_after a b o = ap (λ (t : List ℕ). record { text = t; ending = o.ending }) (sym (append_assoc a b o.text))
@@ -128,7 +127,7 @@ pub too_large_held : (held beginning : List ℕ) (state : State) (read : ℕ) �
 too_large_held held beginning state read plain plainer some large task ended more =
     let both = plain_tests (held ++ beginning) (All-append (λ b. b ≢ 10) held beginning plain plainer) in
     rw (← append_assoc held beginning more)
-      (too_large_parts task ended (held ++ beginning) more (pieces more) state read both (omega (arith, length-append held beginning)) large refl)
+    (too_large_parts task ended (held ++ beginning) more (pieces more) state read both (omega (arith, length-append held beginning)) large refl)
 
 pub is_large : (read : ℕ) (line : List ℕ) → (200000 ≤ read) ⊎ (4096 < length line) → is_too_large read line ≡ true
 is_large read line (inl many) = grind (arith, nat_tests)

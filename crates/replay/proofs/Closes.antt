@@ -1,7 +1,6 @@
 -- A run, closed.
-use Rattle.std.proofs.Common.{◌≡◌, ◌⊎◌, inl, inr, ℕ, ◌≤◌, Bool, true, false, List, [], ◌++◌, Option, refl, sym, ap, subst, ◌∙◌, arith, append-nil, append_assoc}
+use Rattle.std.proofs.Common.{◌≡◌, ◌⊎◌, inl, inr, ℕ, ◌≤◌, List, [], ◌++◌, Option, refl, sym, ap, subst, arith, append-nil}
 use Rattle.std.specs.Io.{StartsWith}
-use Rattle.std.specs.Io.KnownBytes.{Appends}
 use Rattle.cl_io.specs.Causes.{Rose}
 use Rattle.cl_io.proofs.KnownLemmas.{appends_then}
 use Rattle.schedule_text.specs.declared.kind.Kind.{Kind}
@@ -10,7 +9,7 @@ use Rattle.replay.specs.declared.status.Status.TheVariants as status
 use Rattle.replay.specs.declared.stop.Stop.{Stop}
 use Rattle.replay.specs.declared.stop.Stop.TheVariants as stop
 use Rattle.replay.specs.declared.task.Task.{Task}
-use Rattle.replay.specs.Outcomes.{Ending, Open, Ended, Refused, TooLarge, Outcome, outcome_of, whole_text, closing}
+use Rattle.replay.specs.Outcomes.{Ended, Refused, TooLarge, Outcome, outcome_of, whole_text, closing}
 use Rattle.replay.specs.Stops.{closing_of}
 use Rattle.replay.specs.Streams.{Stops, IsFault, Replayed}
 use Rattle.replay.specs.Closings.{Closes, ClosesWith, Closed}
@@ -34,10 +33,10 @@ told_badly : (task : Task) (o : Outcome) (result : Status) (first next line : Li
     → ((result ≡ status.WriteFault) × StartsWith line next × Q) ⊎ ((result ≡ status.NoMemory) × (next ≡ [])) → Told task o result (first ++ next) R Q
 told_badly task o result first next line R Q text closes (inl (is, front, rose)) =
     subst (λ (s : Status). Told task o s (first ++ next) R Q) (sym is)
-      (record { says = tt; writes_text = rw (text, closes) (begins first line next front); caused = rose })
+    (record { says = tt; writes_text = rw (text, closes) (begins first line next front); caused = rose })
 told_badly task o result first next line R Q text closes (inr (is, nothing)) =
     subst (λ (s : Status). Told task o s (first ++ next) R Q) (sym is)
-      (record { says = tt; writes_text = rw (text, closes, nothing) (front_of first line); caused = tt })
+    (record { says = tt; writes_text = rw (text, closes, nothing) (front_of first line); caused = tt })
 
 told_ended : (task : Task) (o : Outcome) (read : ℕ) (result : Status) (first next : List ℕ) (R Q : Type 0) → o ≡ record { text = first; ending = Ended read }
     → ClosesWith status.Done result (closing task (Ended read)) next Q → Told task o result (first ++ next) R Q
@@ -82,10 +81,10 @@ told task o stop.ReadFault result first next R Q stops fault closes =
     subst (λ (s : Status). Told task o s (first ++ next) R Q) (sym closes.0) (record { says = rw stops tt; writes_text = rw (stops, closes.1) refl; caused = fault })
 told task o stop.WriteFault result first next R Q stops fault closes =
     subst (λ (s : Status). Told task o s (first ++ next) R Q) (sym closes.0)
-      (record { says = tt; writes_text = rw (closes.1, append-nil first) (starts_with_more o.text (closing task o.ending) first stops); caused = fault })
+    (record { says = tt; writes_text = rw (closes.1, append-nil first) (starts_with_more o.text (closing task o.ending) first stops); caused = fault })
 told task o stop.NoMemory result first next R Q stops fault closes =
     subst (λ (s : Status). Told task o s (first ++ next) R Q) (sym closes.0)
-      (record { says = tt; writes_text = rw (closes.1, append-nil first) (starts_with_more o.text (closing task o.ending) first stops); caused = tt })
+    (record { says = tt; writes_text = rw (closes.1, append-nil first) (starts_with_more o.text (closing task o.ending) first stops); caused = tt })
 
 more_faults : (why : Stop) (R : Type 0) (a b c : ℕ) → b ≤ c → IsFault why R (Rose a b) → IsFault why R (Rose a c)
 more_faults (stop.Ended read) R a b c le h = tt
@@ -100,17 +99,17 @@ pub closed_run : (task : Task) (left left' : Option (List ℕ)) (reads reads' : 
     → IsRun task left left' held held'' reads reads' writes writes'' result
 closed_run task left left' reads reads' held held' held'' writes writes' writes'' why result replayed closed =
     let all : Told task (outcome_of task replayed.ended replayed.taken) result (replayed.written ++ closed.written) (Rose reads reads') (Rose writes writes'') =
-        told task (outcome_of task replayed.ended replayed.taken) why result replayed.written closed.written (Rose reads reads') (Rose writes writes'') replayed.stops
-          (more_faults why (Rose reads reads') writes writes' writes'' closed.later replayed.fault)
-          (rises why result (closing_of task why) closed.written writes writes' writes'' replayed.later closed.closes) in
+    told task (outcome_of task replayed.ended replayed.taken) why result replayed.written closed.written (Rose reads reads') (Rose writes writes'') replayed.stops
+    (more_faults why (Rose reads reads') writes writes' writes'' closed.later replayed.fault)
+    (rises why result (closing_of task why) closed.written writes writes' writes'' replayed.later closed.closes) in
     record {
-    taken = replayed.taken;
-    consumed = replayed.consumed;
-    ended = replayed.ended;
-    at_end = replayed.at_end;
-    says = all.says;
-    written = replayed.written ++ closed.written;
-    appended = appends_then held held' held'' replayed.written closed.written replayed.appended closed.appended;
-    writes_text = all.writes_text;
-    caused = all.caused;
-  }
+      taken = replayed.taken;
+      consumed = replayed.consumed;
+      ended = replayed.ended;
+      at_end = replayed.at_end;
+      says = all.says;
+      written = replayed.written ++ closed.written;
+      appended = appends_then held held' held'' replayed.written closed.written replayed.appended closed.appended;
+      writes_text = all.writes_text;
+      caused = all.caused;
+    }

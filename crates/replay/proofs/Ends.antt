@@ -1,9 +1,7 @@
 -- What is left at the end of the input.
-use Rattle.std.proofs.Common.{◌≡◌, ◌≢◌, ℕ, ◌+◌, ◌==◌, ◌<◌, ◌≤◌, Bool, true, false, if◌then◌else◌, List, [], ◌∷◌, ◌++◌, length, take, All, Option, Some, None, Result, Ok, Err, refl, sym, ap, subst, ◌∙◌, arith, append-nil, append_assoc}
-use Rattle.std.specs.Io.{StartsWith}
-use Rattle.std.specs.Io.KnownBytes.{Appends, Consumes, Keeps, IsAtEnd, ReadConsumes}
+use Rattle.std.proofs.Common.{◌≡◌, ◌≢◌, ℕ, ◌+◌, ◌==◌, ◌≤◌, Bool, true, false, if◌then◌else◌, List, [], ◌∷◌, ◌++◌, length, take, Option, Some, None, Ok, Err, refl, ap, subst, ◌∙◌, arith, append-nil, append_assoc}
+use Rattle.std.specs.Io.KnownBytes.{Consumes, Keeps, IsAtEnd}
 use Rattle.std.proofs.lemmas.List.Splits.{slice_split_none}
-use Rattle.std.proofs.lemmas.Bool.Decides.{nat_tests}
 use Rattle.cl_io.specs.Causes.{Rose}
 use Rattle.cl_io.proofs.KnownLemmas.{appends_then, consumes_then, keeps_appends, keeps_consumes}
 use Rattle.replay.specs.declared.stop.Stop.{Stop}
@@ -11,7 +9,7 @@ use Rattle.replay.specs.declared.stop.Stop.TheVariants as stop
 use Rattle.replay.specs.declared.taking.Reader as reader
 use Rattle.replay.specs.declared.task.Task.{Task}
 use Rattle.replay.specs.Sessions.{step, start}
-use Rattle.replay.specs.Outcomes.{Ending, Open, Ended, Refused, TooLarge, Outcome, outcome, outcome_of, pieces, after, silent, onward, at_end, is_too_large, left_over}
+use Rattle.replay.specs.Outcomes.{Open, TooLarge, Outcome, outcome, outcome_of, pieces, after, silent, onward, at_end, is_too_large}
 use Rattle.replay.specs.Stops.{TakesLine, Tells, HasFailed}
 use Rattle.replay.specs.Takings.{LineTaken, BytesTaken, IsReader}
 use Rattle.replay.specs.Streams.{Stops, IsFault, EndsAt, Finished, Replayed}
@@ -69,12 +67,12 @@ pub finish_empty : (task : Task) (old : reader.Reader) (result : Stop) (held : O
 finish_empty task old result held writes empty ends =
     let is : outcome task true (old.held.items ∷ []) old.state old.lines ≡ at_end old.state old.lines = rw empty refl in
     record {
-    written = [];
-    appended = keeps_appends held held (keeps_same held);
-    stops = rw is (ends_stop result (at_end old.state old.lines) ends);
-    fault = ends_quietly result (at_end old.state old.lines) ⊥ (Rose writes writes) ends;
-    later = omega arith;
-  }
+      written = [];
+      appended = keeps_appends held held (keeps_same held);
+      stops = rw is (ends_stop result (at_end old.state old.lines) ends);
+      fault = ends_quietly result (at_end old.state old.lines) ⊥ (Rose writes writes) ends;
+      later = omega arith;
+    }
   where
     keeps_same : (known : Option (List ℕ)) → Keeps known known
     keeps_same None = tt
@@ -107,12 +105,12 @@ pub finish_stopped : (task : Task) (old : reader.Reader) (why : Stop) (held held
 finish_stopped task old why held held' writes writes' some taken =
     let takes : TakesLine task old old.held.items (Err why) taken.written = subst (λ (line : List ℕ). TakesLine task old line (Err why) taken.written) (append-nil old.held.items) taken.takes in
     record {
-    written = taken.written;
-    appended = taken.appended;
-    stops = rw (last_line task old some) (last_stops task old old.held.items why taken.written takes);
-    fault = failed_fault why ⊥ writes writes writes' (takes_no_read_fault task old old.held.items why taken.written takes) (omega arith) taken.failed;
-    later = taken.later;
-  }
+      written = taken.written;
+      appended = taken.appended;
+      stops = rw (last_line task old some) (last_stops task old old.held.items why taken.written takes);
+      fault = failed_fault why ⊥ writes writes writes' (takes_no_read_fault task old old.held.items why taken.written takes) (omega arith) taken.failed;
+      later = taken.later;
+    }
 
 pub finish_answered : (task : Task) (old new : reader.Reader) (result : Stop) (held held' : Option (List ℕ)) (writes writes' : ℕ) → (length old.held.items == 0) ≡ false
     → LineTaken task old (old.held.items ++ []) (Ok new) held held' writes writes' → EndsAt result (at_end new.state new.lines) → Finished task old result held held' writes writes'
@@ -120,13 +118,13 @@ finish_answered task old new result held held' writes writes' some taken ends =
     let takes : TakesLine task old old.held.items (Ok new) taken.written = subst (λ (line : List ℕ). TakesLine task old line (Ok new) taken.written) (append-nil old.held.items) taken.takes in
     let is : outcome task true (old.held.items ∷ []) old.state old.lines ≡ after taken.written (at_end new.state new.lines) = last_line task old some ∙ rw (takes.0, takes.1, takes.2) refl in
     record {
-    written = taken.written;
-    appended = taken.appended;
-    stops = rw is (subst (λ (text : List ℕ). Stops result (after taken.written (at_end new.state new.lines)) text) (append-nil taken.written)
-        (then_stops result (at_end new.state new.lines) taken.written [] (ends_stop result (at_end new.state new.lines) ends)));
-    fault = ends_quietly result (at_end new.state new.lines) ⊥ (Rose writes writes') ends;
-    later = taken.later;
-  }
+      written = taken.written;
+      appended = taken.appended;
+      stops = rw is (subst (λ (text : List ℕ). Stops result (after taken.written (at_end new.state new.lines)) text) (append-nil taken.written)
+          (then_stops result (at_end new.state new.lines) taken.written [] (ends_stop result (at_end new.state new.lines) ends)));
+      fault = ends_quietly result (at_end new.state new.lines) ⊥ (Rose writes writes') ends;
+      later = taken.later;
+    }
 
 -- the source, read further
 
@@ -139,22 +137,23 @@ pub read_failed : (task : Task) (left left' left'' : Option (List ℕ)) (reads r
     → Replayed task left left'' reads reads'' held held' writes writes' stop.ReadFault
 read_failed task left left' left'' reads reads' reads'' held held' writes writes' now on whole keeps rose =
     let all : outcome_of task false on.taken ≡ after on.written (outcome task false (pieces now.held.items) now.state now.lines) =
-        subst (λ (xs : List ℕ). outcome task false (pieces xs) start 0 ≡ after on.written (outcome task false (pieces now.held.items) now.state now.lines)) (append-nil on.taken)
-          (subst (λ (xs : List ℕ). outcome task false (pieces (on.taken ++ [])) start 0 ≡ after on.written (outcome task false (pieces xs) now.state now.lines)) (append-nil now.held.items) (on.goes_on false [])) in
+    subst (λ (xs : List ℕ). outcome task false (pieces xs) start 0 ≡ after on.written (outcome task false (pieces now.held.items) now.state now.lines)) (append-nil on.taken)
+    (subst (λ (xs : List ℕ). outcome task false (pieces (on.taken ++ [])) start 0 ≡ after on.written (outcome task false (pieces xs) now.state now.lines)) (append-nil now.held.items) (on.goes_on false [])) in
     record {
-    taken = on.taken ++ [];
-    consumed = consumes_then left left' left'' on.taken [] on.consumed (keeps_consumes left' left'' keeps);
-    ended = false;
-    at_end = λ e. absurd (cc);
-    written = on.written;
-    appended = on.appended;
-    stops = rw (append-nil on.taken, all, one_piece now whole, nothing_more task now whole) (ap (λ (text : List ℕ). record { text = text; ending = Open }) (append-nil on.written));
-    fault = rises reads reads' reads'' on.read rose;
-    later = on.wrote;
-  }
+      taken = on.taken ++ [];
+      consumed = consumes_then left left' left'' on.taken [] on.consumed (keeps_consumes left' left'' keeps);
+      ended = false;
+      at_end = λ e. absurd (cc);
+      written = on.written;
+      appended = on.appended;
+      stops = rw (append-nil on.taken, all, one_piece now whole, nothing_more task now whole) (ap (λ (text : List ℕ). record { text = text; ending = Open }) (append-nil on.written));
+      fault = rises reads reads' reads'' on.read rose;
+      later = on.wrote;
+    }
   where
     one_piece : (now : reader.Reader) → IsReader now → pieces now.held.items ≡ now.held.items ∷ []
     one_piece now whole = slice_split_none (λ b. b == 10) now.held.items (plain_tests now.held.items whole.2)
+
     nothing_more : (task : Task) (now : reader.Reader) → IsReader now → outcome task false (now.held.items ∷ []) now.state now.lines ≡ silent Open
     nothing_more task now whole = waits task now whole (length now.held.items == 0) refl
       where
@@ -168,20 +167,20 @@ pub read_out : (task : Task) (left left' left'' : Option (List ℕ)) (reads read
     → Finished task now result held' held'' writes' writes'' → Replayed task left left'' reads reads'' held held'' writes writes'' result
 read_out task left left' left'' reads reads' reads'' held held' held'' writes writes' writes'' now result on whole consumed gone done =
     let all : outcome_of task true on.taken ≡ after on.written (outcome task true (pieces now.held.items) now.state now.lines) =
-        subst (λ (xs : List ℕ). outcome task true (pieces xs) start 0 ≡ after on.written (outcome task true (pieces now.held.items) now.state now.lines)) (append-nil on.taken)
-          (subst (λ (xs : List ℕ). outcome task true (pieces (on.taken ++ [])) start 0 ≡ after on.written (outcome task true (pieces xs) now.state now.lines)) (append-nil now.held.items) (on.goes_on true [])) in
+    subst (λ (xs : List ℕ). outcome task true (pieces xs) start 0 ≡ after on.written (outcome task true (pieces now.held.items) now.state now.lines)) (append-nil on.taken)
+    (subst (λ (xs : List ℕ). outcome task true (pieces (on.taken ++ [])) start 0 ≡ after on.written (outcome task true (pieces xs) now.state now.lines)) (append-nil now.held.items) (on.goes_on true [])) in
     let one : pieces now.held.items ≡ now.held.items ∷ [] = slice_split_none (λ b. b == 10) now.held.items (plain_tests now.held.items whole.2) in
     record {
-    taken = on.taken ++ [];
-    consumed = consumes_then left left' left'' on.taken [] on.consumed consumed;
-    ended = true;
-    at_end = λ e. gone;
-    written = on.written ++ done.written;
-    appended = appends_then held held' held'' on.written done.written on.appended done.appended;
-    stops = rw (append-nil on.taken, all, one) (then_stops result (outcome task true (now.held.items ∷ []) now.state now.lines) on.written done.written done.stops);
-    fault = later_fault result (Rose reads reads'') writes writes' writes'' on.wrote done.fault;
-    later = omega (arith, on.wrote, done.later);
-  }
+      taken = on.taken ++ [];
+      consumed = consumes_then left left' left'' on.taken [] on.consumed consumed;
+      ended = true;
+      at_end = λ e. gone;
+      written = on.written ++ done.written;
+      appended = appends_then held held' held'' on.written done.written on.appended done.appended;
+      stops = rw (append-nil on.taken, all, one) (then_stops result (outcome task true (now.held.items ∷ []) now.state now.lines) on.written done.written done.stops);
+      fault = later_fault result (Rose reads reads'') writes writes' writes'' on.wrote done.fault;
+      later = omega (arith, on.wrote, done.later);
+    }
   where
     later_fault : (result : Stop) (R : Type 0) (a b c : ℕ) → a ≤ b → IsFault result ⊥ (Rose b c) → IsFault result R (Rose a c)
     later_fault (stop.Ended read) R a b c le h = tt
@@ -196,16 +195,16 @@ pub read_more : (task : Task) (left left' left'' : Option (List ℕ)) (reads rea
     → ReadsOn task left left' reads reads' held held' writes writes' now → Consumes left' left'' piece → reads' ≤ reads''
     → BytesTaken task now piece (Ok new) held' held'' writes' writes'' → ReadsOn task left left'' reads reads'' held held'' writes writes'' new
 read_more task left left' left'' reads reads' reads'' held held' held'' writes writes' writes'' now new piece on consumed le taken = record {
-    taken = on.taken ++ piece;
-    consumed = consumes_then left left' left'' on.taken piece on.consumed consumed;
-    written = on.written ++ taken.written;
-    appended = appends_then held held' held'' on.written taken.written on.appended taken.appended;
-    goes_on = λ ended more.
+  taken = on.taken ++ piece;
+  consumed = consumes_then left left' left'' on.taken piece on.consumed consumed;
+  written = on.written ++ taken.written;
+  appended = appends_then held held' held'' on.written taken.written on.appended taken.appended;
+  goes_on = λ ended more.
       rw (append_assoc on.taken piece more, on.goes_on ended (piece ++ more), taken.takes ended more)
-        (after_after on.written taken.written (outcome task ended (pieces (new.held.items ++ more)) new.state new.lines));
-    read = omega (arith, on.read);
-    wrote = omega (arith, on.wrote, taken.later);
-  }
+      (after_after on.written taken.written (outcome task ended (pieces (new.held.items ++ more)) new.state new.lines));
+  read = omega (arith, on.read);
+  wrote = omega (arith, on.wrote, taken.later);
+}
 
 -- and reading stops within it
 pub read_stopped : (task : Task) (left left' left'' : Option (List ℕ)) (reads reads' reads'' : ℕ) (held held' held'' : Option (List ℕ)) (writes writes' writes'' : ℕ) (now : reader.Reader) (piece : List ℕ) (why : Stop)
@@ -215,18 +214,18 @@ read_stopped task left left' left'' reads reads' reads'' held held' held'' write
     let tells : Tells task false [] (Err why) (outcome task false (pieces (now.held.items ++ (piece ++ []))) now.state now.lines) taken.written = taken.takes false [] in
     let all : outcome task false (pieces (on.taken ++ (piece ++ []))) start 0 ≡ after on.written (outcome task false (pieces (now.held.items ++ (piece ++ []))) now.state now.lines) = on.goes_on false (piece ++ []) in
     let both : Stops why (outcome task false (pieces (on.taken ++ (piece ++ []))) start 0) (on.written ++ taken.written) =
-        rw all (tells_stop task false [] why _ (on.written ++ taken.written) (then_tells task false [] (Err why) _ on.written taken.written tells)) in
+    rw all (tells_stop task false [] why _ (on.written ++ taken.written) (then_tells task false [] (Err why) _ on.written taken.written tells)) in
     record {
-    taken = on.taken ++ piece;
-    consumed = consumes_then left left' left'' on.taken piece on.consumed consumed;
-    ended = false;
-    at_end = λ e. absurd (cc);
-    written = on.written ++ taken.written;
-    appended = appends_then held held' held'' on.written taken.written on.appended taken.appended;
-    stops = subst (λ (xs : List ℕ). Stops why (outcome task false (pieces (on.taken ++ xs)) start 0) (on.written ++ taken.written)) (append-nil piece) both;
-    fault = failed_fault why (Rose reads reads'') writes writes' writes'' (no_read_fault task now piece why taken.written taken.takes) on.wrote taken.failed;
-    later = omega (arith, on.wrote, taken.later);
-  }
+      taken = on.taken ++ piece;
+      consumed = consumes_then left left' left'' on.taken piece on.consumed consumed;
+      ended = false;
+      at_end = λ e. absurd (cc);
+      written = on.written ++ taken.written;
+      appended = appends_then held held' held'' on.written taken.written on.appended taken.appended;
+      stops = subst (λ (xs : List ℕ). Stops why (outcome task false (pieces (on.taken ++ xs)) start 0) (on.written ++ taken.written)) (append-nil piece) both;
+      fault = failed_fault why (Rose reads reads'') writes writes' writes'' (no_read_fault task now piece why taken.written taken.takes) on.wrote taken.failed;
+      later = omega (arith, on.wrote, taken.later);
+    }
   where
     no_read_fault : (task : Task) (now : reader.Reader) (piece : List ℕ) (why : Stop) (written : List ℕ) → ((ended : Bool) (more : List ℕ) → Tells task ended more (Err why) (outcome task ended (pieces (now.held.items ++ (piece ++ more))) now.state now.lines) written) → why ≢ stop.ReadFault
     no_read_fault task now piece (stop.Ended read) written h = λ e. cc

@@ -1,13 +1,12 @@
 -- What a call of `run_words` tells of the source and the sink, by its status.
-use Rattle.std.specs.Prelude.{◌≡◌, ℕ, ◌≤◌, Bool, true, false, List, Option}
+use Rattle.std.specs.Prelude.{◌≡◌, ℕ, Bool, true, List, Option}
 use Rattle.std.specs.Io.{StartsWith}
 use Rattle.std.specs.Io.KnownBytes.{Appends, Consumes, IsAtEnd}
 use Rattle.cl_io.specs.Causes.{Rose}
-use Rattle.schedule_text.specs.declared.kind.Kind.{Kind}
 use Rattle.replay.specs.declared.status.Status.{Status}
 use Rattle.replay.specs.declared.status.Status.TheVariants as status
 use Rattle.replay.specs.declared.task.Task.{Task}
-use Rattle.replay.specs.Outcomes.{Ending, Open, Ended, Refused, TooLarge, Outcome, outcome_of, whole_text}
+use Rattle.replay.specs.Outcomes.{Ending, Open, Ended, Refused, TooLarge, outcome_of, whole_text}
 
 -- what the status says of an ending
 abbrev pub Says : Status → Ending → Type 0
@@ -37,7 +36,7 @@ IsCaused _ source_rose sink_rose = Unit {0}
 pub record IsRun (task : Task) (left left' held held' : Option (List ℕ)) (reads reads' writes writes' : ℕ) (result : Status) : Type 0 where
   pub taken : List ℕ
   pub consumed : Consumes left left' taken
-  pub ended : Bool                                       -- the source gave its end
+  pub ended : Bool  -- the source gave its end
   pub at_end : ended ≡ true → IsAtEnd left'
   pub says : Says result (outcome_of task ended taken).ending
   pub written : List ℕ

@@ -1,15 +1,13 @@
 -- What a stop says of the ending, and what is told of the lines before it.
-use Rattle.std.specs.Prelude.{◌≡◌, ℕ, ◌+◌, Bool, true, false, List, [], ◌∷◌, ◌++◌, Result, Ok, Err}
+use Rattle.std.specs.Prelude.{◌≡◌, ℕ, ◌+◌, Bool, true, false, List, [], ◌++◌, Result, Ok, Err}
 use Rattle.std.specs.Io.{StartsWith}
-use Rattle.std.specs.Io.KnownBytes.{Appends}
-use Rattle.cl_io.specs.Causes.{Rose}
 use Rattle.replay.specs.declared.stop.Stop.{Stop}
 use Rattle.replay.specs.declared.stop.Stop.TheVariants as stop
 use Rattle.replay.specs.declared.session.State.{State}
 use Rattle.replay.specs.declared.taking.Reader as reader
 use Rattle.replay.specs.declared.task.Task.{Task}
 use Rattle.replay.specs.Sessions.{Goes, Finishes, Refuses, step}
-use Rattle.replay.specs.Outcomes.{Ending, Open, Ended, Refused, TooLarge, Outcome, outcome, pieces, after, is_too_large, closing}
+use Rattle.replay.specs.Outcomes.{Ended, Refused, TooLarge, Outcome, outcome, pieces, after, is_too_large, closing}
 
 -- the closing line of a stop; none where something failed
 abbrev pub closing_of : Task → Stop → List ℕ

@@ -1,5 +1,5 @@
 -- What it means to take a line, or bytes, and to write what they are answered.
-use Rattle.std.specs.Prelude.{◌≡◌, ◌≢◌, ℕ, ◌+◌, ◌-◌, ◌*◌, ◌<◌, ◌≤◌, List, length, All, Option, Result}
+use Rattle.std.specs.Prelude.{◌≢◌, ℕ, ◌+◌, ◌-◌, ◌*◌, ◌<◌, ◌≤◌, List, length, All, Option, Result}
 use Rattle.std.specs.Io.KnownBytes.{Appends}
 use Rattle.cl_io.specs.Causes.{Rose}
 use Rattle.replay.specs.declared.stop.Stop.{Stop}

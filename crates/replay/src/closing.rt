@@ -3,11 +3,10 @@ ghost use Rattle.std.specs.String.{string_bytes};
 ghost use Rattle.replay.specs.Outcomes.{closing, kind_text, Refused};
 ghost use Rattle.replay.specs.Stops.{closing_of};
 
-use std::alloc::{AllocError, Global};
-
 use crate::stop::Stop;
 use crate::task::Task;
 use schedule_text::Kind;
+use std::alloc::{AllocError, Global};
 
 /// The closing line, where the stop has one.
 pub fn closing_line(alloc: Global, task: Task, stop: Stop) -> Result<String, AllocError>

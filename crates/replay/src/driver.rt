@@ -6,8 +6,6 @@ ghost use Rattle.replay.specs.Runs.{IsRun};
 ghost use Rattle.replay.specs.Closings.{Closed, ClosingWritten};
 ghost use Rattle.replay.specs.Tasks.{task_of};
 
-use std::alloc::Global;
-
 use crate::closing::closing_line;
 use crate::status::Status;
 use crate::stop::Stop;
@@ -15,10 +13,17 @@ use crate::stream::replay_source;
 use crate::task::{Task, read_task};
 use cl_base::Agent;
 use cl_io::{Sink, Source, write_all};
+use std::alloc::Global;
 
 /// Does what the words ask for: replays the schedule that the source gives and writes the trace to
 /// the sink, or checks it. The agents are not asked for anything yet.
-pub fn run_words<S: Source, K: Sink>(alloc: Global, words: &[String], source: &mut S, sink: &mut K, _agents: &mut Vec<Box<dyn Agent>>) -> Status
+pub fn run_words<S: Source, K: Sink>(
+    alloc: Global,
+    words: &[String],
+    source: &mut S,
+    sink: &mut K,
+    _agents: &mut Vec<Box<dyn Agent>>,
+) -> Status
     // The words are no command: nothing is read, and nothing is written.
     ensures usage { result ≡ Status.Usage ↔ (task_of (map string_bytes words.now) ≡ None) }
     ensures idle { result ≡ Status.Usage → Keeps (S.left source.old) (S.left source.new) × Keeps (K.held sink.old) (K.held sink.new) }
@@ -26,7 +31,7 @@ pub fn run_words<S: Source, K: Sink>(alloc: Global, words: &[String], source: &m
     // They are: the status and the bytes written tell the outcome of the bytes taken.
     ensures run { (task : Task) → task_of (map string_bytes words.now) ≡ Some task
         → IsRun task (S.left source.old) (S.left source.new) (K.held sink.old) (K.held sink.new)
-            (S.faults source.old) (S.faults source.new) (K.faults sink.old) (K.faults sink.new) result }
+        (S.faults source.old) (S.faults source.new) (K.faults sink.old) (K.faults sink.new) result }
 {
     match read_task(words) {
         None => Status::Usage,
@@ -56,7 +61,13 @@ fn close<K: Sink>(alloc: Global, task: Task, stop: Stop, sink: &mut K) -> Status
     }
 }
 
-fn write_closing<K: Sink>(alloc: Global, task: Task, stop: Stop, status: Status, sink: &mut K) -> Status
+fn write_closing<K: Sink>(
+    alloc: Global,
+    task: Task,
+    stop: Stop,
+    status: Status,
+    sink: &mut K,
+) -> Status
     ensures closed { ClosingWritten task stop status result (K.held sink.old) (K.held sink.new) (K.faults sink.old) (K.faults sink.new) }
 {
     let Ok(text) = closing_line(alloc, task, stop) else {

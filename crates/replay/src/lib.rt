@@ -4,12 +4,12 @@
 
 mod closing;
 mod driver;
-mod taking;
 mod piece;
 mod session;
 mod status;
 mod stop;
 mod stream;
+mod taking;
 mod task;
 
 pub use driver::run_words;

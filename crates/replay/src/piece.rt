@@ -1,16 +1,21 @@
 ghost use Rattle.std.specs.Prelude.{◌≡◌, ◌≢◌, ◌<◌, ◌≤◌, ◌+◌, length, take, slice_index, All, IfOk, MatchOption};
 ghost use Rattle.replay.specs.Takings.{BytesTaken, IsReader, room};
 
-use std::alloc::Global;
-
 use crate::stop::Stop;
 use crate::taking::{Reader, hold, take_line};
 use crate::task::Task;
 use cl_io::Sink;
+use std::alloc::Global;
 
 /// Takes the next piece of the input: answers each line that ends in it, and keeps the beginning of
 /// the next.
-pub fn take_piece<K: Sink>(alloc: Global, task: Task, reader: Reader, piece: &[u8], sink: &mut K) -> Result<Reader, Stop>
+pub fn take_piece<K: Sink>(
+    alloc: Global,
+    task: Task,
+    reader: Reader,
+    piece: &[u8],
+    sink: &mut K,
+) -> Result<Reader, Stop>
     requires { IsReader reader }
     ensures taken { BytesTaken task reader piece.now result (K.held sink.old) (K.held sink.new) (K.faults sink.old) (K.faults sink.new) }
     ensures whole { IfOk result IsReader }

@@ -4,12 +4,11 @@ ghost use Rattle.schedule_text.specs.HeaderAnswers.{IsHead};
 ghost use Rattle.replay.specs.Sessions.{step, body, replayed, Answers};
 ghost use Rattle.schedule_text.specs.Allowed.{IsAllowedLine};
 
-use std::alloc::{AllocError, Global};
-
 use crate::task::Task;
 use pgr_device::Pgr;
 use schedule_text::{Head, HeaderReader, Kind, Line, ReadError, SoFar, read_line};
 use status_report::{Entry, print};
+use std::alloc::{AllocError, Global};
 
 /// How far a schedule was read, and what its lines have made of the device.
 #[derive(Drop)]
@@ -58,12 +57,20 @@ pub fn answer(alloc: Global, task: Task, state: State, line: &[u8]) -> Result<An
     }
 }
 
-fn answer_header(alloc: Global, task: Task, reader: HeaderReader, line: &[u8]) -> Result<Answered, NoAnswer>
+fn answer_header(
+    alloc: Global,
+    task: Task,
+    reader: HeaderReader,
+    line: &[u8],
+) -> Result<Answered, NoAnswer>
     ensures { Answers result (step task (State.Heading reader) line.now) }
 {
     let mut reader = reader;
     match reader.take(alloc, line) {
-        Ok(true) => Ok(Answered { state: State::Heading(reader), text: Vec::new(alloc) }),
+        Ok(true) => Ok(Answered {
+            state: State::Heading(reader),
+            text: Vec::new(alloc),
+        }),
         Ok(false) => match reader.finish() {
             Ok(head) => answer_body(alloc, task, first_device(head), line),
             Err(kind) => Err(NoAnswer::Refused(kind)),
@@ -86,7 +93,10 @@ fn answer_body(alloc: Global, task: Task, device: Pgr, line: &[u8]) -> Result<An
     ensures { Answers result (body task device line.now) }
 {
     // Nothing of the head or of earlier lines matters to a line of a reservation schedule.
-    let so_far = SoFar { clock: 0, rounds: 0 };
+    let so_far = SoFar {
+        clock: 0,
+        rounds: 0,
+    };
     let read = match read_line(alloc, &Head::Pr(cl_base::NodeSet::empty()), so_far, line) {
         Ok(read) => read,
         Err(ReadError::Refused(kind)) => return Err(NoAnswer::Refused(kind)),
@@ -94,9 +104,15 @@ fn answer_body(alloc: Global, task: Task, device: Pgr, line: &[u8]) -> Result<An
     };
     match read {
         Line::End => Err(NoAnswer::Ends),
-        Line::Blank => Ok(Answered { state: State::Replaying(device), text: Vec::new(alloc) }),
+        Line::Blank => Ok(Answered {
+            state: State::Replaying(device),
+            text: Vec::new(alloc),
+        }),
         _ => match task {
-            Task::Check => Ok(Answered { state: State::Replaying(device), text: Vec::new(alloc) }),
+            Task::Check => Ok(Answered {
+                state: State::Replaying(device),
+                text: Vec::new(alloc),
+            }),
             Task::Run => replay(alloc, device, read),
         },
     }
@@ -118,5 +134,8 @@ fn replay(alloc: Global, device: Pgr, line: Line) -> Result<Answered, NoAnswer>
         }
         _ => Vec::new(alloc),
     };
-    Ok(Answered { state: State::Replaying(device), text })
+    Ok(Answered {
+        state: State::Replaying(device),
+        text,
+    })
 }

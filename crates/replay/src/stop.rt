@@ -1,9 +1,8 @@
 ghost use Rattle.std.specs.Prelude.{◌≡◌};
 ghost use Rattle.replay.specs.declared.stop.Stop.TheVariants.{NoMemory};
 
-use std::alloc::AllocError;
-
 use schedule_text::Kind;
+use std::alloc::AllocError;
 
 /// Why reading stops. Lines are numbered from 1.
 #[derive(Clone, Copy, Debug, PartialEq, Eq)]

@@ -3,8 +3,6 @@ ghost use Rattle.replay.specs.Outcomes.{at_end};
 ghost use Rattle.replay.specs.Streams.{Replayed, Finished, EndsAt};
 ghost use Rattle.replay.specs.Takings.{IsReader};
 
-use std::alloc::Global;
-
 use crate::piece::take_piece;
 use crate::session::State;
 use crate::stop::Stop;
@@ -12,13 +10,19 @@ use crate::taking::{Reader, take_line};
 use crate::task::Task;
 use cl_io::{Sink, Source};
 use schedule_text::HeaderReader;
+use std::alloc::Global;
 
 /// How many bytes are asked of the source at once.
 const PIECE: usize = 4096;
 
 /// Reads the source, piece by piece, as far as the schedule goes, and writes what its lines are
 /// answered. Tells why it stopped.
-pub fn replay_source<S: Source, K: Sink>(alloc: Global, task: Task, source: &mut S, sink: &mut K) -> Stop
+pub fn replay_source<S: Source, K: Sink>(
+    alloc: Global,
+    task: Task,
+    source: &mut S,
+    sink: &mut K,
+) -> Stop
     ensures replayed { Replayed task (S.left source.old) (S.left source.new) (S.faults source.old) (S.faults source.new) (K.held sink.old) (K.held sink.new) (K.faults sink.old) (K.faults sink.new) result }
 {
     let mut buffer = [0; PIECE];
@@ -48,12 +52,20 @@ fn finish<K: Sink>(alloc: Global, task: Task, reader: Reader, sink: &mut K) -> S
     ensures { Finished task reader result (K.held sink.old) (K.held sink.new) (K.faults sink.old) (K.faults sink.new) }
 {
     if reader.held.is_empty() {
-        let Reader { state, lines, held: _ } = reader;
+        let Reader {
+            state,
+            lines,
+            held: _,
+        } = reader;
         return end(state, lines);
     }
     match take_line(alloc, task, reader, &[], sink) {
         Ok(reader) => {
-            let Reader { state, lines, held: _ } = reader;
+            let Reader {
+                state,
+                lines,
+                held: _,
+            } = reader;
             end(state, lines)
         }
         Err(stop) => stop,

@@ -3,12 +3,11 @@ ghost use Rattle.replay.specs.declared.task.Task.{Task};
 ghost use Rattle.replay.specs.Stops.{TakesBytes, HasFailed};
 ghost use Rattle.replay.specs.Takings.{LineTaken, IsReader, room};
 
-use std::alloc::Global;
-
 use crate::session::{NoAnswer, State, answer};
 use crate::stop::Stop;
 use crate::task::Task;
 use cl_io::{Sink, write_all};
+use std::alloc::Global;
 
 /// The most bytes of a line.
 pub const LONGEST_LINE: usize = 4096;
@@ -28,7 +27,13 @@ pub struct Reader {
 }
 
 /// Takes the rest of a line, without its newline, and answers the line.
-pub fn take_line<K: Sink>(alloc: Global, task: Task, reader: Reader, rest: &[u8], sink: &mut K) -> Result<Reader, Stop>
+pub fn take_line<K: Sink>(
+    alloc: Global,
+    task: Task,
+    reader: Reader,
+    rest: &[u8],
+    sink: &mut K,
+) -> Result<Reader, Stop>
     requires { IsReader reader }
     ensures taken { LineTaken task reader (reader.held.items ++ rest.now) result (K.held sink.old) (K.held sink.new) (K.faults sink.old) (K.faults sink.new) }
     ensures whole { IfOk result IsReader }
@@ -51,7 +56,11 @@ pub fn take_line<K: Sink>(alloc: Global, task: Task, reader: Reader, rest: &[u8]
         Err(_) => return Err(Stop::WriteFault),
     }
     line.clear();
-    Ok(Reader { state: answered.state, lines: lines + 1, held: line })
+    Ok(Reader {
+        state: answered.state,
+        lines: lines + 1,
+        held: line,
+    })
 }
 
 /// Keeps the beginning of a line, as far as it was read.

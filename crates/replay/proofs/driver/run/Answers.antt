@@ -1,4 +1,3 @@
-use Rattle.std.proofs.Common.{◌≡◌, ℕ, List}
 use Rattle.replay.proofs.Closes.{closed_run}
 use Rattle.replay.proofs.driver.run.Goals as goal
 

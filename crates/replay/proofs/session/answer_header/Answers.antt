@@ -1,9 +1,8 @@
-use Rattle.std.proofs.Common.{rules, ◌≡◌, ℕ, Bool, true, false, List, Option, Some, Result, Ok, refl, sym}
+use Rattle.std.proofs.Common.{◌≡◌, ℕ, Bool, true, false, List, Some, Result, Ok, refl}
 use Rattle.pgr_device.specs.Device.{Device, fresh}
 use Rattle.schedule_text.specs.declared.header.HeaderState.{HeaderState}
 use Rattle.schedule_text.specs.declared.header.Head.{Head}
 use Rattle.schedule_text.specs.declared.header.Head.TheVariants.{Pr}
-use Rattle.schedule_text.specs.declared.kind.ReadError.{ReadError}
 use Rattle.schedule_text.specs.HeaderAnswers.{IsHead, TakesLine}
 use Rattle.schedule_text.specs.Headers.{head_of, header_step}
 use Rattle.replay.specs.declared.session.Answered as answered
@@ -23,4 +22,4 @@ opens task old new bytes (Pr senders) device result false not_taken takes is fir
 pub returns-in-Ok : goal.returns-in-Ok
 returns-in-Ok c =
     opens c.args.task c.args.reader c.take.new.self c.args.line.now c.in-Ok.head c.first_device.result c.answer_body.result c.in-Ok-false.field-0
-        c.in-Ok-false.field-0-test c.in-Ok-false.ensures.step c.in-Ok.ensures.head c.first_device.ensures c.answer_body.ensures
+    c.in-Ok-false.field-0-test c.in-Ok-false.ensures.step c.in-Ok.ensures.head c.first_device.ensures c.answer_body.ensures
