@@ -1,0 +1,40 @@
+ghost use Rattle.std.specs.Prelude.{◌≡◌};
+
+/// What `--version` prints.
+pub const VERSION: &str = "clreplay 0.1.0";
+
+/// What `--help` prints.
+pub const HELP: &str = "usage: clreplay run < SCHEDULE
+       clreplay check < SCHEDULE
+       clreplay --help | --version
+
+run      replays the schedule on standard input and writes its trace
+check    reads the schedule alone and writes `checked K`, K being its lines
+
+exit status
+  0  the schedule was read to its end, or to its line `end`
+  2  the words are no command
+  3  a line was refused: the last line written says which, and why
+  4  standard input could not be read
+  5  standard output could not be written
+  6  out of memory
+  7  a line was too long, or there were too many: the last line says which";
+
+/// What is answered without reading anything.
+#[derive(Clone, Copy, Debug, PartialEq, Eq)]
+pub enum Answer {
+    Help,
+    Version,
+}
+
+/// The answer to `--help` and to `--version`.
+pub fn early_answer(words: &[String]) -> Option<Answer> {
+    match words {
+        [word] => match word.as_str() {
+            "--help" => Some(Answer::Help),
+            "--version" => Some(Answer::Version),
+            _ => None,
+        },
+        _ => None,
+    }
+}

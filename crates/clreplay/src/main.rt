@@ -1,0 +1,38 @@
+//! clreplay: replays schedules of a shared-disk failover cluster. `clreplay --help` tells the words.
+#![tactic(auto)]
+
+mod help;
+
+use cl_base::Agent;
+use cl_io::{StdinSource, StdoutSink};
+use help::{Answer, early_answer};
+use replay::run_words;
+use std::process::ExitCode;
+use std::{env, io};
+
+#[cfg(test)]
+mod tests;
+
+fn main(rt: HostRuntime) -> io::Result<ExitCode> {
+    let mut words: Vec<String> = Vec::new(rt.alloc());
+    // The first argument is the program's name.
+    for word in env::args(&rt)?.skip(1) {
+        if words.push(word).is_err() {
+            return Ok(ExitCode::from(6));
+        }
+    }
+    match early_answer(&words) {
+        Some(Answer::Help) => println!(rt; "{}", help::HELP)?,
+        Some(Answer::Version) => println!(rt; "{}", help::VERSION)?,
+        None => return Ok(ExitCode::from(run(&rt, &words))),
+    }
+    Ok(ExitCode::from(0))
+}
+
+/// Runs the words over standard input and output, and tells the exit status.
+fn run(rt: &HostRuntime, words: &[String]) -> u8 {
+    let mut source = StdinSource::new(rt.reader());
+    let mut sink = StdoutSink::new(io::writer(rt));
+    let mut agents: Vec<Box<dyn Agent>> = Vec::new(rt.alloc());
+    run_words(rt.alloc(), words, &mut source, &mut sink, &mut agents).code()
+}
