@@ -1,0 +1,7 @@
+//! The entries of the configuration repository: one list of texts, of which the last may still be
+//! pending, and which of several nodes' entries are the newest.
+#![tactic(auto)]
+
+mod text;
+
+pub use text::Text;
