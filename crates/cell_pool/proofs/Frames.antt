@@ -1,4 +1,4 @@
-use Rattle.std.proofs.Common.{◌≡◌, ℕ, suc, zero, ◌+◌, ◌-◌, ◌*◌, ◌<◌, ◌≤◌, ◌++◌, ◌==◌, if◌then◌else◌, ◌≢◌, List, [], ◌∷◌, Option, Some, None, length, take, drop, get_or, set, refl, sym, ap, ◌∙◌, arith, rules, append_assoc}
+use Rattle.std.proofs.Common.{◌≡◌, ℕ, suc, zero, ◌+◌, ◌<◌, ◌++◌, ◌≢◌, List, [], ◌∷◌, Option, Some, None, length, take, get_or, set, refl, ap, arith}
 use Rattle.std.proofs.lemmas.List.{get_or-set_other}
 use Rattle.std.proofs.lemmas.Bool.Decides.{nat_tests}
 use Rattle.cell_pool.specs.Cells.{cells_for}
@@ -77,24 +77,27 @@ pub chains_kept : (cells new : List (List ℕ)) (links : List ℕ) (place : ℕ)
 chains_kept cells new links place [] h = refl
 chains_kept cells new links place (x ∷ rest) h =
     let here : text_at new links place x ≡ text_at cells links place x =
-        text_kept cells new links place x (λ c k. h c (omega (arith, times-append c (chain_at links place x) (chained links (suc place) rest)))) in
+    text_kept cells new links place x (λ c k. h c (omega (arith, times-append c (chain_at links place x) (chained links (suc place) rest)))) in
     let there : chains_from new links (suc place) rest ≡ chains_from cells links (suc place) rest =
-        chains_kept cells new links (suc place) rest (λ c k. h c (omega (arith, times-append c (chain_at links place x) (chained links (suc place) rest)))) in
+    chains_kept cells new links (suc place) rest (λ c k. h c (omega (arith, times-append c (chain_at links place x) (chained links (suc place) rest)))) in
     rw (here, there) refl
 
 -- another chain at one place: the cells that come and go
 pub chained_set : (c : ℕ) (links : List ℕ) (place : ℕ) (xs : List (Option ℕ)) (i : ℕ) (y : Option ℕ) → i < length xs
     → times c (chained links place (set xs i y)) + times c (chain_at links (place + i) (get_or xs i None))
-      ≡ times c (chained links place xs) + times c (chain_at links (place + i) y)
+    ≡ times c (chained links place xs) + times c (chain_at links (place + i) y)
 chained_set c links place [] i y h = absurd (omega arith)
 chained_set c links place (x ∷ rest) zero y h =
     let e : place + 0 ≡ place = omega arith in
     rw e (omega (arith, times-append c (chain_at links place x) (chained links (suc place) rest), times-append c (chain_at links place y) (chained links (suc place) rest)))
 chained_set c links place (x ∷ rest) (suc i) y h =
     let e : place + suc i ≡ suc place + i = omega arith in
-    rw e (omega (arith, times-append c (chain_at links place x) (chained links (suc place) rest),
-        times-append c (chain_at links place x) (chained links (suc place) (set rest i y)),
-        chained_set c links (suc place) rest i y (omega arith)))
+    rw e (omega (
+      arith,
+      times-append c (chain_at links place x) (chained links (suc place) rest),
+      times-append c (chain_at links place x) (chained links (suc place) (set rest i y)),
+      chained_set c links (suc place) rest i y (omega arith),
+    ))
 
 pub chains_set : (cells : List (List ℕ)) (links : List ℕ) (place : ℕ) (xs : List (Option ℕ)) (i : ℕ) (y : Option ℕ)
     → chains_from cells links place (set xs i y) ≡ set (chains_from cells links place xs) i (text_at cells links (place + i) y)

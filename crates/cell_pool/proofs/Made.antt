@@ -1,9 +1,9 @@
-use Rattle.std.proofs.Common.{◌≡◌, ℕ, suc, zero, ◌+◌, ◌-◌, ◌*◌, ◌<◌, ◌≤◌, ◌++◌, ◌≢◌, ◌⊎◌, inl, inr, List, [], ◌∷◌, Option, Some, None, length, replicate, get_or, refl, sym, ap, ◌∙◌, arith, rules}
+use Rattle.std.proofs.Common.{◌≡◌, ℕ, suc, zero, ◌+◌, ◌<◌, ◌≤◌, ◌++◌, ◌≢◌, inl, inr, List, [], ◌∷◌, Option, None, length, replicate, get_or, refl, sym, ap, ◌∙◌, arith}
 use Rattle.std.specs.List.{sum_by}
 use Rattle.std.proofs.lemmas.List.Sums.{sum_by-cons}
 use Rattle.std.proofs.lemmas.List.{append-nil, length-replicate}
 use Rattle.std.proofs.lemmas.Bool.{cases_eq}
-use Rattle.cell_pool.specs.Region.{walk, times, chain_at, chained, text_at, chains_from, taken_by, IsWhole}
+use Rattle.cell_pool.specs.Region.{walk, times, chained, chains_from, taken_by, IsWhole}
 use Rattle.cell_pool.proofs.Walks.{times_most, times_other}
 
 -- each link up to n leads to the next cell
@@ -22,23 +22,25 @@ once_each links n c s zero next fits = omega arith
 once_each links n c s (suc k) next fits =
     let e : get_or links s 0 ≡ s + 1 = next s (omega arith) in
     elim (cases_eq s c) as (λ _. times c (walk links s (suc k)) ≤ 1) [
-        inl same ↦
-            let later : times c (walk links (get_or links s 0) k) ≡ 0 = rw e (not_below links n c (s + 1) k next (omega arith) (omega arith)) in
-            omega (arith, times_most c s (walk links (get_or links s 0) k))
+      | inl same ↦
+          let later : times c (walk links (get_or links s 0) k) ≡ 0 = rw e (not_below links n c (s + 1) k next (omega arith) (omega arith)) in
+          omega (arith, times_most c s (walk links (get_or links s 0) k))
       | inr other ↦
-            let later : times c (walk links (get_or links s 0) k) ≤ 1 = rw e (once_each links n c (s + 1) k next (omega arith)) in
-            omega (arith, times_other c s (walk links (get_or links s 0) k) other) ]
+          let later : times c (walk links (get_or links s 0) k) ≤ 1 = rw e (once_each links n c (s + 1) k next (omega arith)) in
+          omega (arith, times_other c s (walk links (get_or links s 0) k) other)
+    ]
 
 pub below_end : (links : List ℕ) (n c s k : ℕ) → InOrder links n → s + k ≤ n → 0 < times c (walk links s k) → c < s + k
 below_end links n c s zero next fits h = absurd (omega arith)
 below_end links n c s (suc k) next fits h =
     let e : get_or links s 0 ≡ s + 1 = next s (omega arith) in
     elim (cases_eq s c) as (λ _. c < s + suc k) [
-        inl same ↦ omega arith
+      | inl same ↦ omega arith
       | inr other ↦
-            let there : 0 < times c (walk links (get_or links s 0) k) = omega (arith, times_other c s (walk links (get_or links s 0) k) other) in
-            let low : c < s + 1 + k = below_end links n c (s + 1) k next (omega arith) (rw e at there) in
-            omega arith ]
+          let there : 0 < times c (walk links (get_or links s 0) k) = omega (arith, times_other c s (walk links (get_or links s 0) k) other) in
+          let low : c < s + 1 + k = below_end links n c (s + 1) k next (omega arith) (rw e at there) in
+          omega arith
+    ]
 
 pub no_chain : (links : List ℕ) (place n : ℕ) → chained links place (replicate n None) ≡ []
 no_chain links place zero = refl
@@ -61,10 +63,10 @@ made_whole cells links lengths n a b e next full =
     let top : 0 + n ≡ n = omega arith in
     let none : sum_by taken_by lengths ≡ 0 = rw e (none_taken n) in
     record {
-  a_link_each = b ∙ sym size;
-  a_cell_each = a ∙ sym size;
-  full_size = λ c low. full c (omega arith);
-  once = λ c. rw all (once_each links n c 0 n next (omega arith));
-  inside = λ c h. rw (size, ← top) (below_end links n c 0 n next (omega arith) (rw all at h));
-  all = omega arith;
-}
+      a_link_each = b ∙ sym size;
+      a_cell_each = a ∙ sym size;
+      full_size = λ c low. full c (omega arith);
+      once = λ c. rw all (once_each links n c 0 n next (omega arith));
+      inside = λ c h. rw (size, ← top) (below_end links n c 0 n next (omega arith) (rw all at h));
+      all = omega arith;
+    }

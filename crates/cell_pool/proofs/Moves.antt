@@ -1,11 +1,11 @@
-use Rattle.std.proofs.Common.{◌≡◌, ℕ, suc, zero, ◌+◌, ◌-◌, ◌*◌, ◌/◌, ◌<◌, ◌≤◌, ◌++◌, ◌≢◌, min, max, List, [], ◌∷◌, Option, Some, None, unwrap_or, length, take, drop, get_or, set, refl, sym, ap, ◌∙◌, subst, arith, rules, length-append, length-take, length-set, append_assoc}
+use Rattle.std.proofs.Common.{◌≡◌, ℕ, suc, zero, ◌+◌, ◌-◌, ◌<◌, ◌≤◌, ◌++◌, ◌≢◌, List, [], ◌∷◌, Option, Some, None, length, take, drop, get_or, set, refl, sym, ap, ◌∙◌, subst, arith, length-set}
 use Rattle.std.specs.List.{sum_by}
-use Rattle.std.proofs.lemmas.List.Sums.{sum_by-set, sum_by-cons}
+use Rattle.std.proofs.lemmas.List.Sums.{sum_by-set}
 use Rattle.std.proofs.lemmas.List.{get_or-set_same, get_or-set_other, take_at}
-use Rattle.cell_pool.specs.Cells.{cells_for, cells_at, used_cells, free_cells, IsInUse, bytes_of}
-use Rattle.cell_pool.specs.Region.{walk, after, times, chain_at, chained, content, text_at, chains_from, taken_by, IsWhole, filled}
-use Rattle.cell_pool.proofs.Walks.{times-append, times_here, times_there, walk_step}
-use Rattle.cell_pool.proofs.Frames.{walk-add, walk_frame, not_head, not_rest, chained_frame, chains_frame, chains_kept, chained_set, chains_set, chains_get, length-chains}
+use Rattle.cell_pool.specs.Cells.{cells_for}
+use Rattle.cell_pool.specs.Region.{walk, after, times, chained, content, text_at, chains_from, taken_by, IsWhole, filled}
+use Rattle.cell_pool.proofs.Walks.{times-append, times_here, times_there}
+use Rattle.cell_pool.proofs.Frames.{walk-add, walk_frame, chained_frame, chains_frame, chains_kept, chained_set, chains_set, chains_get, length-chains}
 use Rattle.cell_pool.proofs.Fills.{filled_reads, filled_other, length-filled, full_filled, AreFull}
 use Rattle.cell_pool.proofs.Whole.{length-walk, some_cell, cells_suffice, first_there, free_first_unused, full_of, Held}
 
@@ -28,17 +28,17 @@ pub takes : (cells : List (List ℕ)) (links : List ℕ) (lengths : List (Option
     → IsWhole cells links lengths first free → 0 < count → count ≤ free → Takes links lengths first count
 takes cells links lengths first free count h some few =
     let parts : (c : ℕ) → times c (walk links first free ++ chained links 0 lengths)
-          ≡ times c (walk links first count) + times c (walk links (after links first count) (free - count)) + times c (chained links 0 lengths) =
-        λ c. times-append c (walk links first free) (chained links 0 lengths) ∙ ap (λ (n : ℕ). n + times c (chained links 0 lengths)) (split_free c links first count free few) in
+    ≡ times c (walk links first count) + times c (walk links (after links first count) (free - count)) + times c (chained links 0 lengths) =
+    λ c. times-append c (walk links first free) (chained links 0 lengths) ∙ ap (λ (n : ℕ). n + times c (chained links 0 lengths)) (split_free c links first count free few) in
     let inside : (c : ℕ) → 0 < times c (walk links first count) → c < length lengths = λ c k. h.inside c (omega (arith, parts c)) in
     let low : first < length lengths = inside first (first_there links first count some) in
     record {
-  low = low;
-  unused = free_first_unused links lengths first free (omega arith) low (λ c. h.once c);
-  inside = inside;
-  once = λ c. omega (arith, parts c, h.once c);
-  apart = λ c k. omega (arith, parts c, h.once c);
-}
+      low = low;
+      unused = free_first_unused links lengths first free (omega arith) low (λ c. h.once c);
+      inside = inside;
+      once = λ c. omega (arith, parts c, h.once c);
+      apart = λ c k. omega (arith, parts c, h.once c);
+    }
 
 -- where each cell stands as often as before, the region is whole as before
 pub whole_again : (cells new : List (List ℕ)) (links links' : List ℕ) (lengths lengths' : List (Option ℕ)) (first free first' free' : ℕ)
@@ -60,7 +60,7 @@ whole_again cells new links links' lengths lengths' first free first' free' h l 
 pub whole_put : (cells : List (List ℕ)) (links : List ℕ) (lengths : List (Option ℕ)) (first free : ℕ) (bytes : List ℕ)
     → IsWhole cells links lengths first free → cells_for (length bytes) ≤ free
     → IsWhole (filled cells (walk links first (cells_for (length bytes))) bytes) links (set lengths first (Some (length bytes)))
-        (after links first (cells_for (length bytes))) (free - cells_for (length bytes))
+    (after links first (cells_for (length bytes))) (free - cells_for (length bytes))
 whole_put cells links lengths first free bytes h few =
     let size : ℕ = length bytes in
     let count : ℕ = cells_for size in
@@ -68,24 +68,28 @@ whole_put cells links lengths first free bytes h few =
     let t = takes cells links lengths first free count h some few in
     let e : 0 + first ≡ first = omega arith in
     let parts : (c : ℕ) → times c (walk links (after links first count) (free - count) ++ chained links 0 (set lengths first (Some size)))
-          ≡ times c (walk links first free ++ chained links 0 lengths) =
-        λ c.
-          let change : times c (chained links 0 (set lengths first (Some size))) + 0 ≡ times c (chained links 0 lengths) + times c (walk links first count) =
-              rw (e, t.unused) at (chained_set c links 0 lengths first (Some size) t.low) in
-          omega (arith, times-append c (walk links (after links first count) (free - count)) (chained links 0 (set lengths first (Some size))),
-              times-append c (walk links first free) (chained links 0 lengths), split_free c links first count free few) in
+    ≡ times c (walk links first free ++ chained links 0 lengths) =
+    λ c.
+    let change : times c (chained links 0 (set lengths first (Some size))) + 0 ≡ times c (chained links 0 lengths) + times c (walk links first count) =
+    rw (e, t.unused) at (chained_set c links 0 lengths first (Some size) t.low) in
+    omega (
+      arith,
+      times-append c (walk links (after links first count) (free - count)) (chained links 0 (set lengths first (Some size))),
+      times-append c (walk links first free) (chained links 0 lengths),
+      split_free c links first count free few,
+    ) in
     let taken : sum_by taken_by (set lengths first (Some size)) + 0 ≡ sum_by taken_by lengths + count =
-        rw t.unused at (sum_by-set taken_by lengths first (Some size) None t.low) in
+    rw t.unused at (sum_by-set taken_by lengths first (Some size) None t.low) in
     whole_again cells (filled cells (walk links first count) bytes) links links lengths (set lengths first (Some size)) first free
-        (after links first count) (free - count) h refl (length-filled cells (walk links first count) bytes) (length-set lengths first (Some size))
-        (full_filled cells (walk links first count) bytes (full_of cells links lengths first free h)) parts
-        (omega (arith, h.all, length-set lengths first (Some size)))
+    (after links first count) (free - count) h refl (length-filled cells (walk links first count) bytes) (length-set lengths first (Some size))
+    (full_filled cells (walk links first count) bytes (full_of cells links lengths first free h)) parts
+    (omega (arith, h.all, length-set lengths first (Some size)))
 
 -- a put adds its bytes, and the other chains stay
 pub chains_put : (cells : List (List ℕ)) (links : List ℕ) (lengths : List (Option ℕ)) (first free : ℕ) (bytes : List ℕ)
     → IsWhole cells links lengths first free → cells_for (length bytes) ≤ free
     → chains_from (filled cells (walk links first (cells_for (length bytes))) bytes) links 0 (set lengths first (Some (length bytes)))
-      ≡ set (chains_from cells links 0 lengths) first (Some bytes)
+    ≡ set (chains_from cells links 0 lengths) first (Some bytes)
 chains_put cells links lengths first free bytes h few =
     let size : ℕ = length bytes in
     let count : ℕ = cells_for size in
@@ -93,21 +97,24 @@ chains_put cells links lengths first free bytes h few =
     let t = takes cells links lengths first free count h (some_cell size) few in
     let e : 0 + first ≡ first = omega arith in
     let kept : chains_from new links 0 lengths ≡ chains_from cells links 0 lengths =
-        chains_kept cells new links 0 lengths (λ c k. filled_other cells (walk links first count) bytes c (t.apart c k)) in
+    chains_kept cells new links 0 lengths (λ c k. filled_other cells (walk links first count) bytes c (t.apart c k)) in
     let reads : take size (content new (walk links first count)) ≡ bytes =
-        filled_reads cells (walk links first count) bytes (λ c. t.once c)
-            (λ c k. let low = t.inside c k in omega (arith, h.a_cell_each))
-            (full_of cells links lengths first free h) (omega (arith, length-walk links first count, cells_suffice size)) in
+    filled_reads cells (walk links first count) bytes (λ c. t.once c)
+    (λ c k. let low = t.inside c k in omega (arith, h.a_cell_each))
+    (full_of cells links lengths first free h) (omega (arith, length-walk links first count, cells_suffice size)) in
     let made : chains_from new links 0 (set lengths first (Some size)) ≡ set (chains_from new links 0 lengths) first (Some (take size (content new (walk links first count)))) =
-        rw e at (chains_set new links 0 lengths first (Some size)) in
+    rw e at (chains_set new links 0 lengths first (Some size)) in
     made ∙ rw (kept, reads) refl
 
 -- the last cell of a walk is in it
 pub last_there : (links : List ℕ) (first m : ℕ) → 0 < times (after links first m) (walk links first (suc m))
 last_there links first zero = omega (arith, times_here first [])
 last_there links first (suc m) =
-    omega (arith, last_there links (get_or links first 0) m,
-        times_there (after links (get_or links first 0) m) first (walk links (get_or links first 0) (suc m)))
+    omega (
+      arith,
+      last_there links (get_or links first 0) m,
+      times_there (after links (get_or links first 0) m) first (walk links (get_or links first 0) (suc m)),
+    )
 
 twice_refused : (links : List ℕ) (first n : ℕ) → ((c : ℕ) → times c (walk links first (suc n)) ≤ 1)
     → 0 < times first (walk links (get_or links first 0) n) → ⊥
@@ -131,14 +138,14 @@ spliced links first (suc m) head free once apart low =
     let other : first ≢ last = λ (same : first ≡ last). twice_refused links first (suc m) once (subst (λ (x : ℕ). 0 < times x (walk links second (suc m))) (sym same) there) in
     let next : get_or (set links last head) first 0 ≡ second = get_or-set_other links last first head 0 other in
     rw (e, next) (ap (λ (r : List ℕ). first ∷ r)
-        (spliced links second m head free (λ c. omega (arith, times_there c first (walk links second (suc m)), once c)) apart low))
+    (spliced links second m head free (λ c. omega (arith, times_there c first (walk links second (suc m)), once c)) apart low))
 
 pub joined : (links : List ℕ) (chain m first free last count : ℕ) → last ≡ after links chain m → suc m ≡ count
     → ((c : ℕ) → times c (walk links chain count) ≤ 1) → times last (walk links first free) ≡ 0 → last < length links
     → walk (set links last first) chain (free + count) ≡ walk links chain count ++ walk links first free
 joined links chain m first free last count at_end size once apart low =
     let e : free + count ≡ suc m + free = omega arith in
-    rw (at_end, e, ← size) (spliced links chain m first free (λ c. rw size (once c)) (rw at_end at apart) (rw at_end at low))
+    rw (at_end, e, ← size) (spliced links chain m first free (λ c. subst (λ (n : ℕ). times c (walk links chain n) ≤ 1) (sym size) (once c)) (rw at_end at apart) (rw at_end at low))
 
 pub end_there : (links : List ℕ) (chain m last count : ℕ) → last ≡ after links chain m → suc m ≡ count → 0 < times last (walk links chain count)
 end_there links chain m last count at_end size = rw (at_end, ← size) (last_there links chain m)
@@ -159,24 +166,29 @@ backs cells links lengths first free chain size last bytes h k at_end =
     let e : 0 + chain ≡ chain = omega arith in
     let left : List (Option ℕ) = set lengths chain None in
     let change : (c : ℕ) → times c (chained links 0 left) + times c (walk links chain (cells_for size)) ≡ times c (chained links 0 lengths) + 0 =
-        λ c. rw (e, k.some) at (chained_set c links 0 lengths chain None k.low) in
+    λ c. rw (e, k.some) at (chained_set c links 0 lengths chain None k.low) in
     let whole : (c : ℕ) → times c (walk links first free ++ chained links 0 lengths) ≡ times c (walk links first free) + times c (chained links 0 lengths) =
-        λ c. times-append c (walk links first free) (chained links 0 lengths) in
+    λ c. times-append c (walk links first free) (chained links 0 lengths) in
     let there : 0 < times last (walk links chain (cells_for size)) = end_there links chain m last (cells_for size) at_end count in
     let apart : times last (chained links 0 left) ≡ 0 = omega (arith, h.once last, whole last, change last) in
     let free_apart : times last (walk links first free) ≡ 0 = omega (arith, h.once last, whole last, change last) in
     let low : last < length links = let l = k.inside last there in omega (arith, h.a_link_each) in
     let once : (c : ℕ) → times c (walk links chain (cells_for size)) ≤ 1 = λ c. omega (arith, h.once c, whole c, change c) in
     let path : walk (set links last first) chain (free + cells_for size) ≡ walk links chain (cells_for size) ++ walk links first free =
-        joined links chain m first free last (cells_for size) at_end count once free_apart low in
+    joined links chain m first free last (cells_for size) at_end count once free_apart low in
     record {
-  low = low;
-  apart = apart;
-  same = λ c.
-      rw (path, chained_frame links last first 0 left apart)
-        (omega (arith, times-append c (walk links chain (cells_for size) ++ walk links first free) (chained links 0 left),
-          times-append c (walk links chain (cells_for size)) (walk links first free), whole c, change c));
-}
+      low = low;
+      apart = apart;
+      same = λ c.
+          rw (path, chained_frame links last first 0 left apart)
+          (omega (
+            arith,
+            times-append c (walk links chain (cells_for size) ++ walk links first free) (chained links 0 left),
+            times-append c (walk links chain (cells_for size)) (walk links first free),
+            whole c,
+            change c,
+          ));
+    }
 
 -- a chain given back is whole again with the free chain
 pub whole_back : (cells : List (List ℕ)) (links : List ℕ) (lengths : List (Option ℕ)) (first free chain size last : ℕ) (bytes : List ℕ)
@@ -185,10 +197,10 @@ pub whole_back : (cells : List (List ℕ)) (links : List ℕ) (lengths : List (O
 whole_back cells links lengths first free chain size last bytes h k at_end =
     let b = backs cells links lengths first free chain size last bytes h k at_end in
     let taken : sum_by taken_by (set lengths chain None) + cells_for size ≡ sum_by taken_by lengths + 0 =
-        rw k.some at (sum_by-set taken_by lengths chain None None k.low) in
+    rw k.some at (sum_by-set taken_by lengths chain None None k.low) in
     whole_again cells cells links (set links last first) lengths (set lengths chain None) first free chain (free + cells_for size) h
-        (length-set links last first) refl (length-set lengths chain None) (full_of cells links lengths first free h) b.same
-        (omega (arith, h.all, length-set lengths chain None))
+    (length-set links last first) refl (length-set lengths chain None) (full_of cells links lengths first free h) b.same
+    (omega (arith, h.all, length-set lengths chain None))
 
 -- and it is gone, while the other chains stay
 pub chains_back : (cells : List (List ℕ)) (links : List ℕ) (lengths : List (Option ℕ)) (first free chain size last : ℕ) (bytes : List ℕ)
@@ -271,6 +283,6 @@ fresh_place cells links lengths first count pool t v =
     let e : 0 + first ≡ first = omega arith in
     let n : length (chains_from cells links 0 lengths) ≡ length lengths = length-chains cells links 0 lengths in
     let got : get_or (chains_from cells links 0 lengths) first None ≡ None =
-        (rw e at (chains_get cells links 0 lengths first)) ∙ ap (λ (x : Option ℕ). text_at cells links first x) t.unused in
+    (rw e at (chains_get cells links 0 lengths first)) ∙ ap (λ (x : Option ℕ). text_at cells links first x) t.unused in
     let low : first < length pool = rw (← v, n) t.low in
     (low, rw (← v) got)

@@ -39,9 +39,9 @@ pub front_step : (out new cell rest whole : List ℕ) (done size part : ℕ)
 front_step out new cell rest whole done size part full within room e n h =
     let m : part ≡ min (size - done) (length cell) = omega arith in
     let long : length (take done out ++ take part cell) ≡ done + part =
-        length-append (take done out) (take part cell) ∙ omega (arith, length-take done out, length-take part cell) in
+    length-append (take done out) (take part cell) ∙ omega (arith, length-take done out, length-take part cell) in
     let front : take (done + part) new ≡ take done out ++ take part cell =
-        rw n (take_at (take done out ++ take part cell) (drop (done + length (take part cell)) out) (done + part) long) in
+    rw n (take_at (take done out ++ take part cell) (drop (done + length (take part cell)) out) (done + part) long) in
     let same : take (size - done) cell ≡ take part cell = rw m (sym (take_min (size - done) cell)) in
     let rest_size : size - done - length cell ≡ size - (done + part) = omega arith in
     rw (front, append_assoc (take done out) (take part cell) (take (size - (done + part)) rest), ← same, ← rest_size, ← take-append (size - done) cell rest) h

@@ -1,12 +1,11 @@
-use Rattle.std.proofs.Common.{◌≡◌, ℕ, suc, zero, ◌+◌, ◌-◌, ◌*◌, ◌/◌, ◌<◌, ◌≤◌, ◌++◌, ◌≢◌, min, max, List, [], ◌∷◌, Option, Some, None, IsSome, unwrap_or, length, take, drop, get_or, set, refl, sym, ap, true, false, Bool, ◌∙◌, subst, arith, rules, length-append, length-take, length-set, append_assoc}
+use Rattle.std.proofs.Common.{◌≡◌, ℕ, suc, zero, ◌+◌, ◌-◌, ◌*◌, ◌<◌, ◌≤◌, ◌++◌, List, [], ◌∷◌, Option, Some, None, IsSome, unwrap_or, length, take, drop, get_or, set, refl, sym, ap, true, false, ◌∙◌, subst, arith, length-append, length-take}
 use Rattle.std.specs.List.{sum_by}
-use Rattle.std.proofs.lemmas.List.Sums.{sum_by-set, sum_by-cons}
-use Rattle.std.proofs.lemmas.List.{get_or-set_same, get_or_past}
+use Rattle.std.proofs.lemmas.List.Sums.{sum_by-cons}
 use Rattle.cell_pool.specs.Cells.{cells_for, cells_at, used_cells, free_cells, IsInUse, bytes_of}
-use Rattle.cell_pool.specs.Region.{walk, after, times, chain_at, chained, content, text_at, chains_from, taken_by, IsWhole, filled}
+use Rattle.cell_pool.specs.Region.{walk, times, chain_at, chained, content, text_at, chains_from, taken_by, IsWhole}
 use Rattle.cell_pool.proofs.Walks.{times-append, times_here, times_there, walk_step}
-use Rattle.cell_pool.proofs.Frames.{walk-add, walk_frame, not_head, not_rest, chained_frame, chains_frame, chains_kept, chained_set, chains_set, chains_get, length-chains}
-use Rattle.cell_pool.proofs.Fills.{filled_reads, filled_other, length-filled, full_filled, AreFull}
+use Rattle.cell_pool.proofs.Frames.{chained_set, chains_get, length-chains}
+use Rattle.cell_pool.proofs.Fills.{AreFull}
 
 pub length-walk : (links : List ℕ) (c n : ℕ) → length (walk links c n) ≡ n
 length-walk links c zero = refl
@@ -34,7 +33,7 @@ free_first_unused links lengths first free some low once =
     let all = times-append first (walk links first free) (chained links 0 lengths) in
     let here = first_there links first free some in
     let split : times first (chained links 0 (set lengths first None)) + times first (chain_at links first (get_or lengths first None))
-        ≡ times first (chained links 0 lengths) + 0 = rw e at (chained_set first links 0 lengths first None low) in
+    ≡ times first (chained links 0 lengths) + 0 = rw e at (chained_set first links 0 lengths first None low) in
     unused_of links first (get_or lengths first None) (omega (arith, once first))
 
 -- the content of cells is 256 bytes for each
@@ -67,9 +66,9 @@ pub used_is : (cells : List (List ℕ)) (links : List ℕ) (place : ℕ) (xs : L
 used_is cells links place [] full inside = refl
 used_is cells links place (x ∷ rest) full inside =
     let here = cells_at_text cells links place x full
-        (λ c k. inside c (omega (arith, times-append c (chain_at links place x) (chained links (suc place) rest)))) in
+    (λ c k. inside c (omega (arith, times-append c (chain_at links place x) (chained links (suc place) rest)))) in
     let later = used_is cells links (suc place) rest full
-        (λ c k. inside c (omega (arith, times-append c (chain_at links place x) (chained links (suc place) rest)))) in
+    (λ c k. inside c (omega (arith, times-append c (chain_at links place x) (chained links (suc place) rest)))) in
     sum_by-cons cells_at (text_at cells links place x) (chains_from cells links (suc place) rest)
     ∙ rw (here, later) refl ∙ sym (sum_by-cons taken_by x rest)
 
@@ -87,7 +86,15 @@ pub free_is : (cells : List (List ℕ)) (links : List ℕ) (lengths : List (Opti
     → IsWhole cells links lengths first free → free ≡ free_cells (chains_from cells links 0 lengths)
 free_is cells links lengths first free h =
     let used = used_is cells links 0 lengths (full_of cells links lengths first free h)
-        (λ c k. let low = chained_inside cells links lengths first free h c k in omega (arith, h.a_cell_each)) in
+    (λ c k. let low = chained_inside cells links lengths first free h c k in omega (arith, h.a_cell_each)) in
+    omega (arith, length-chains cells links 0 lengths, h.all)
+
+-- free and used are all cells
+pub all_is : (cells : List (List ℕ)) (links : List ℕ) (lengths : List (Option ℕ)) (first free : ℕ)
+    → IsWhole cells links lengths first free → used_cells (chains_from cells links 0 lengths) + free ≡ length (chains_from cells links 0 lengths)
+all_is cells links lengths first free h =
+    let used = used_is cells links 0 lengths (full_of cells links lengths first free h)
+    (λ c k. let low = chained_inside cells links lengths first free h c k in omega (arith, h.a_cell_each)) in
     omega (arith, length-chains cells links 0 lengths, h.all)
 
 -- what is known of a chain in use
@@ -125,22 +132,22 @@ held cells links lengths first free chain h use_of =
     let size : ℕ = unwrap_or (get_or lengths chain None) 0 in
     let e : 0 + chain ≡ chain = omega arith in
     let got : get_or (chains_from cells links 0 lengths) chain None ≡ text_at cells links chain (get_or lengths chain None) =
-        rw e at (chains_get cells links 0 lengths chain) in
+    rw e at (chains_get cells links 0 lengths chain) in
     let is : get_or lengths chain None ≡ Some size = some_of_text cells links chain (get_or lengths chain None) (rw got at use_of) in
     let inside : (c : ℕ) → 0 < times c (walk links chain (cells_for size)) → c < length lengths =
-        λ c k. chained_inside cells links lengths first free h c (omega (arith, chain_cells_below links lengths chain size c is)) in
+    λ c k. chained_inside cells links lengths first free h c (omega (arith, chain_cells_below links lengths chain size c is)) in
     let text : get_or (chains_from cells links 0 lengths) chain None ≡ Some (take size (content cells (walk links chain (cells_for size)))) =
-        got ∙ ap (λ (x : Option ℕ). text_at cells links chain x) is in
+    got ∙ ap (λ (x : Option ℕ). text_at cells links chain x) is in
     let bytes : bytes_of (chains_from cells links 0 lengths) chain ≡ take size (content cells (walk links chain (cells_for size))) =
-        ap (λ (x : Option (List ℕ)). unwrap_or x []) text in
+    ap (λ (x : Option (List ℕ)). unwrap_or x []) text in
     record {
-  low = below_of_some lengths chain size is;
-  some = is;
-  inside = inside;
-  bytes_are = bytes;
-  length_is = ap (λ (b : List ℕ). length b) bytes ∙ length-text cells links chain size (full_of cells links lengths first free h)
-      (λ c k. let low = inside c k in omega (arith, h.a_cell_each));
-}
+      low = below_of_some lengths chain size is;
+      some = is;
+      inside = inside;
+      bytes_are = bytes;
+      length_is = ap (λ (b : List ℕ). length b) bytes ∙ length-text cells links chain size (full_of cells links lengths first free h)
+          (λ c k. let low = inside c k in omega (arith, h.a_cell_each));
+    }
 
 -- the same of the pool's value
 pub held_in : (cells : List (List ℕ)) (links : List ℕ) (lengths : List (Option ℕ)) (first free place : ℕ) (pool : List (Option (List ℕ))) (chain : ℕ)
@@ -149,7 +156,7 @@ pub held_in : (cells : List (List ℕ)) (links : List ℕ) (lengths : List (Opti
 held_in cells links lengths first free place pool chain h e f use_of =
     let same : bytes_of (chains_from cells links 0 lengths) place ≡ bytes_of pool chain = rw (e, f) refl in
     subst (λ (b : List ℕ). Held cells links lengths place (unwrap_or (get_or lengths place None) 0) b) same
-        (held cells links lengths first free place h (rw (e, f) use_of))
+    (held cells links lengths first free place h (rw (e, f) use_of))
 
 -- the cells of a chain in use, as a reader of the fields sees them
 pub inside_of : (cells : List (List ℕ)) (links : List ℕ) (lengths : List (Option ℕ)) (place size : ℕ) (bytes : List ℕ) (links' : List ℕ) (n b : ℕ)

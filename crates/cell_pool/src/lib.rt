@@ -7,5 +7,4 @@
 mod pool;
 mod region;
 
-pub use pool::Chain;
-pub use pool::Pool;
+pub use pool::{Chain, Pool};

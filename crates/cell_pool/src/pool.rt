@@ -1,5 +1,5 @@
-ghost use Rattle.std.specs.Prelude.{◌≡◌, ◌↔◌, ℕ, ◌+◌, ◌<◌, ◌≤◌, ◌++◌, length, drop, replicate, [], unwrap_or, slice_index_or, slice_set, IsNone, IfSome, IfNone, IfOk};
-ghost use Rattle.cell_pool.specs.Cells.{cells_for, free_cells, IsInUse, bytes_of};
+ghost use Rattle.std.specs.Prelude.{◌≡◌, ℕ, ◌+◌, ◌<◌, ◌≤◌, ◌++◌, length, drop, replicate, [], unwrap_or, slice_index_or, slice_set, MatchOption, IfSome, IfNone, IfOk};
+ghost use Rattle.cell_pool.specs.Cells.{cells_for, used_cells, free_cells, IsInUse, bytes_of};
 
 use crate::region::{cells_needed, copy_out, fill, last_cell};
 use std::alloc::{AllocError, Global};
@@ -53,12 +53,18 @@ impl Pool {
         let cells = empty_cells(alloc, count)?;
         let links = links_in_order(alloc, count)?;
         let lengths = vec![in alloc; None; count]?;
-        Ok(Pool { cells, links, lengths, free_first: 0, free_count: count })
+        Ok(Pool {
+            cells,
+            links,
+            lengths,
+            free_first: 0,
+            free_count: count,
+        })
     }
 
     /// Puts the bytes into free cells, or answers None, where too few are free, and changes nothing.
     pub fn put(&mut self, bytes: &[u8]) -> Option<Chain>
-        ensures none { IsNone result ↔ (free_cells self.old < cells_for (length bytes.now)) }
+        ensures exactly { MatchOption result (free_cells self.old < cells_for (length bytes.now)) (λ _. cells_for (length bytes.now) ≤ free_cells self.old) }
         ensures unchanged { IfNone result (self.new ≡ self.old) }
         ensures fresh { IfSome result (λ chain. (chain < length self.old) × (slice_index_or self.old chain None ≡ None)) }
         ensures put { IfSome result (λ chain. self.new ≡ slice_set self.old chain (Some bytes.now)) }
@@ -82,7 +88,14 @@ impl Pool {
         ensures bytes { out.new ≡ bytes_of self.now chain.now ++ drop (length (bytes_of self.now chain.now)) out.old }
     {
         let size = length_at(&self.lengths, chain.first);
-        copy_out(&self.cells, &self.links, chain.first, cells_needed(size), size, out);
+        copy_out(
+            &self.cells,
+            &self.links,
+            chain.first,
+            cells_needed(size),
+            size,
+            out,
+        );
         size as u64
     }
 
@@ -102,7 +115,8 @@ impl Pool {
 
     /// How many cells are free.
     pub fn free(&self) -> u64
-        ensures { result ≡ free_cells self.now }
+        ensures value { result ≡ free_cells self.now }
+        ensures all { used_cells self.now + result ≡ length self.now }
     {
         self.free_count as u64
     }
@@ -138,4 +152,27 @@ fn links_in_order(alloc: Global, count: usize) -> Result<Vec<usize>, AllocError>
         links.push(i + 1)?;
     }
     Ok(links)
+}
+
+#[cfg(test)]
+mod tests {
+    use super::*;
+    use std::process::Abort;
+    use std::test::Fail;
+
+    #[test]
+    fn three_cells(rt: HostRuntime) -> Result<(), Fail> {
+        let mut pool = Pool::with_cells(rt.alloc(), 3)?;
+        assert_eq!(rt; pool.free(), 3);
+        let Some(chain) = pool.put(&[7; 257]) else {
+            return Err(Fail::from("257 bytes take two cells"));
+        };
+        assert_eq!(rt; pool.free(), 1);
+        let mut out = [0u8; 300];
+        assert_eq!(rt; pool.read(&chain, &mut out), 257);
+        assert_eq!(rt; (out[256], out[257]), (7, 0));
+        pool.give_back(chain);
+        assert_eq!(rt; pool.free(), 3);
+        Ok(())
+    }
 }

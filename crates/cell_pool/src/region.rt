@@ -21,7 +21,13 @@ fn overwrite(cell: &mut [u8; 256], piece: &[u8])
 }
 
 /// Writes the bytes into the cells of a chain, and gives the cell that comes after it.
-pub(crate) fn fill(cells: &mut [[u8; 256]], links: &[usize], first: usize, count: usize, bytes: &[u8]) -> usize
+pub(crate) fn fill(
+    cells: &mut [[u8; 256]],
+    links: &[usize],
+    first: usize,
+    count: usize,
+    bytes: &[u8],
+) -> usize
     requires inside_cells { (c : ℕ) → 0 < times c (walk links.now first count) → c < length cells.old }
     requires inside_links { (c : ℕ) → 0 < times c (walk links.now first count) → c < length links.now }
     ensures cells { cells.new ≡ filled cells.old (walk links.now first count) bytes.now }

@@ -21,12 +21,12 @@ loop-left-preserved c =
     let new = rw size at c.overwrite.ensures in
     let last = rw (walk_step _ _ _ c.loop-left-test.true) at c.loop-left.invariant.filled in
     record {
-  here_cells = rw length-set (here_inside _ _ _ c.loop-left.left c.loop-left-test.true c.loop-left.invariant.inside_cells);
-  here_links = here_inside _ _ _ c.loop-left.left c.loop-left-test.true c.loop-left.invariant.inside_links;
-  inside_cells = rw length-set (rest_inside _ _ _ c.loop-left.left c.loop-left-test.true c.loop-left.invariant.inside_cells);
-  inside_links = rest_inside _ _ _ c.loop-left.left c.loop-left-test.true c.loop-left.invariant.inside_links;
-  within = search rules;
-  same = sym (after_step _ _ _ c.loop-left-test.true) ∙ c.loop-left.invariant.same;
-  filled = fill_step c.loop-left.cells c.loop-left.cell (walk c.args.links.now (get_or c.args.links.now c.loop-left.cell 0) (c.loop-left.left - 1)) c.args.bytes.now c.overwrite.new.cell c.loop-left.done c.min-part.result (filled c.args.cells.now (walk c.args.links.now c.args.first c.args.count) c.args.bytes.now)
-      c.min-part.ensures new last;
-}
+      here_cells = rw length-set (here_inside _ _ _ c.loop-left.left c.loop-left-test.true c.loop-left.invariant.inside_cells);
+      here_links = here_inside _ _ _ c.loop-left.left c.loop-left-test.true c.loop-left.invariant.inside_links;
+      inside_cells = rw length-set (rest_inside _ _ _ c.loop-left.left c.loop-left-test.true c.loop-left.invariant.inside_cells);
+      inside_links = rest_inside _ _ _ c.loop-left.left c.loop-left-test.true c.loop-left.invariant.inside_links;
+      within = search rules;
+      same = sym (after_step _ _ _ c.loop-left-test.true) ∙ c.loop-left.invariant.same;
+      filled = fill_step c.loop-left.cells c.loop-left.cell (walk c.args.links.now (get_or c.args.links.now c.loop-left.cell 0) (c.loop-left.left - 1)) c.args.bytes.now c.overwrite.new.cell c.loop-left.done c.min-part.result (filled c.args.cells.now (walk c.args.links.now c.args.first c.args.count) c.args.bytes.now)
+          c.min-part.ensures new last;
+    }

@@ -1,4 +1,4 @@
-use Rattle.std.proofs.Common.{◌≡◌, ap, ◌∙◌, arith, rules, List, Option, None, ℕ, replicate}
+use Rattle.std.proofs.Common.{◌≡◌, ap, ◌∙◌, rules, List, Option, None, ℕ, replicate}
 use Rattle.cell_pool.specs.Region.{chains_from}
 use Rattle.cell_pool.proofs.Made.{made_whole, no_text}
 use Rattle.cell_pool.proofs.pool.Pool.with_cells.Goals as goal
