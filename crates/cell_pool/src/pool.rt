@@ -7,7 +7,8 @@ use std::marker::Model;
 
 /// A chain of cells in a pool, with the bytes that were put there.
 ///
-/// There is no copy of it, and it is not dropped: it goes back by [`Pool::give_back`].
+/// There is no copy of it. Its cells stay taken until it goes back by [`Pool::give_back`].
+#[derive(Drop)]
 pub struct Chain {
     first: usize,
 }
