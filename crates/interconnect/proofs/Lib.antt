@@ -1,3 +1,4 @@
 pub mod Shown
 pub mod Steps
 pub mod Finds
+pub mod Sends

@@ -1,4 +1,4 @@
-ghost use Rattle.std.specs.Prelude.{◌≡◌, ℕ, ◌^◌, ◌<◌, ◌≤◌, [], length, IfOk, IsOk, IsErr, IsOkAnd, MatchOption};
+ghost use Rattle.std.specs.Prelude.{◌≡◌, ℕ, ◌+◌, ◌^◌, ◌<◌, ◌≤◌, [], length, IfOk, IsOk, IsErr, IsOkAnd, MatchOption};
 ghost use Rattle.interconnect.specs.Links.{Links, sending, repeating, removing, packet_of, oldest_on, count_on, delivery_of, copied};
 
 use crate::flight::Flight;
@@ -49,6 +49,7 @@ impl Net {
         requires size { length bytes.now ≤ 131072 }
         ensures after { self.new ≡ (sending self.old from to bytes.now).after }
         ensures sent { result ≡ (sending self.old from to bytes.now).sent }
+        ensures next { self.new.next ≡ self.old.next + 1 }
     {
         self.flight.send(from, to, bytes)
     }
@@ -80,6 +81,7 @@ impl Net {
         requires { self.old.next < 2 ^ 63 }
         ensures answer { MatchOption (packet_of self.old.packets number) (IsErr result) (λ p. IsOkAnd result (λ s. s ≡ (sending self.old p.from p.to p.bytes).sent)) }
         ensures after { self.new ≡ repeating self.old number }
+        ensures next { self.new.next ≤ self.old.next + 1 }
     {
         let found = self.flight.copy(number, &mut self.buffer)?;
         Ok(self.flight.send(found.from, found.to, &self.buffer[..found.length as usize]))
@@ -97,5 +99,50 @@ impl Net {
         ensures { result ≡ count_on self.now.packets from to }
     {
         self.flight.in_flight(from, to)
+    }
+}
+
+#[cfg(test)]
+mod tests {
+    use super::*;
+    use crate::packet::DropCause;
+    use std::test::Fail;
+
+    #[test]
+    fn cells_of_a_send(rt: HostRuntime) -> Result<(), Fail> {
+        let mut net = Net::new(rt.alloc(), 3)?;
+        let one = NodeId::new(1)?;
+        let two = NodeId::new(2)?;
+        let mut out = vec![in rt.alloc(); 0u8; MOST]?;
+        let first = net.send(one, two, &[5; 600]);
+        assert_eq!(rt; (first.number, first.dropped), (Some(1), None));
+        let second = net.send(two, one, &[6]);
+        assert_eq!(rt; (second.number, second.dropped), (None, Some((2, DropCause::Pool))));
+        assert_eq!(rt; (net.oldest(one, two), net.in_flight(two, one)), (Some(1), 0));
+        let found = net.deliver(1, &mut out)?;
+        assert_eq!(rt; (found.from, found.to, found.length), (one, two, 600));
+        assert_eq!(rt; (out[0], out[599], out[600]), (5, 5, 0));
+        assert!(rt; net.deliver(1, &mut out).is_err());
+        let third = net.send(two, one, &[7]);
+        assert_eq!(rt; (third.number, third.dropped), (Some(3), None));
+        let copy = net.repeat(3)?;
+        assert_eq!(rt; (copy.number, copy.dropped), (Some(4), None));
+        net.lose(3)?;
+        assert_eq!(rt; net.oldest(two, one), Some(4));
+        Ok(())
+    }
+
+    #[test]
+    fn full_link(rt: HostRuntime) -> Result<(), Fail> {
+        let mut net = Net::new(rt.alloc(), 100)?;
+        let one = NodeId::new(1)?;
+        let two = NodeId::new(2)?;
+        for _ in 0..64 {
+            let _ = net.send(one, two, &[1]);
+        }
+        let last = net.send(one, two, &[2]);
+        assert_eq!(rt; (last.number, last.dropped), (Some(65), Some((1, DropCause::Link))));
+        assert_eq!(rt; (net.oldest(one, two), net.in_flight(one, two)), (Some(2), 64));
+        Ok(())
     }
 }
