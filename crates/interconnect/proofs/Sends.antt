@@ -1,14 +1,12 @@
-use Rattle.std.proofs.Common.{◌≡◌, ℕ, ◌+◌, ◌<◌, ◌≤◌, ◌++◌, true, false, Bool, if◌then◌else◌, not, nat_lt, ◌*◌, List, [], Option, Some, None, Result, Ok, Err, length, take, drop, refl, sym, ap, ◌∙◌, subst, arith, rules}
+use Rattle.std.proofs.Common.{◌≡◌, ℕ, ◌+◌, ◌≤◌, ◌++◌, true, false, Bool, if◌then◌else◌, nat_lt, List, Option, Some, None, Result, Ok, Err, length, take, drop, refl, ap, ◌∙◌, subst, arith}
 use Rattle.std.specs.Option.{MatchOption}
-use Rattle.std.specs.Result.{IsOkAnd, IsErr}
+use Rattle.std.specs.Result.{IsOkAnd}
 use Rattle.std.proofs.lemmas.List.{take_at}
-use Rattle.std.proofs.lemmas.Bool.Decides.{nat_tests}
 use Rattle.cell_pool.specs.Cells.{cells_for}
-use Rattle.interconnect.specs.declared.packet.DropCause.TheVariants.{Link, Pool}
 use Rattle.interconnect.specs.declared.packet.Sent.{Sent}
 use Rattle.interconnect.specs.declared.packet.Delivery.{Delivery}
 use Rattle.interconnect.specs.declared.packet.NoSuchPacket.{NoSuchPacket}
-use Rattle.interconnect.specs.Links.{Packet, Links, Outcome, packet_of, free_cells_of, count_on, oldest_on, refusing, dropping, crowding, appending, removing, sending, resending, delivery_of, copied}
+use Rattle.interconnect.specs.Links.{Packet, Links, packet_of, free_cells_of, count_on, oldest_on, refusing, dropping, crowding, appending, sending, resending, delivery_of, copied}
 
 dropping_next : (net : Links) (number : ℕ) (oldest : Option ℕ) → (dropping net number oldest).after.next ≡ net.next
 dropping_next net number None = refl
@@ -17,17 +15,19 @@ dropping_next net number (Some oldest) = refl
 crowding_next : (net : Links) (number from to : ℕ) → (crowding net number from to).after.next ≡ net.next
 crowding_next net number from to =
     elim (nat_lt 64 (count_on net.packets from to)) as (λ (b : Bool). (if b then dropping net number (oldest_on net.packets from to)
-        else record { after = net; sent = record { number = Some number; dropped = None } }).after.next ≡ net.next) [
-        true ↦ dropping_next net number (oldest_on net.packets from to)
-      | false ↦ refl ]
+    else record { after = net; sent = record { number = Some number; dropped = None } }).after.next ≡ net.next) [
+      | true ↦ dropping_next net number (oldest_on net.packets from to)
+      | false ↦ refl
+    ]
 
 -- each send uses one number
 pub sending_next : (net : Links) (from to : ℕ) (bytes : List ℕ) → (sending net from to bytes).after.next ≡ net.next + 1
 sending_next net from to bytes =
     elim (nat_lt (free_cells_of net) (cells_for (length bytes))) as (λ (b : Bool). (if b then refusing net
-        else crowding (appending net from to bytes) net.next from to).after.next ≡ net.next + 1) [
-        true ↦ refl
-      | false ↦ crowding_next (appending net from to bytes) net.next from to ]
+    else crowding (appending net from to bytes) net.next from to).after.next ≡ net.next + 1) [
+      | true ↦ refl
+      | false ↦ crowding_next (appending net from to bytes) net.next from to
+    ]
 
 pub resending_next : (net : Links) (o : Option Packet) → (resending net o).next ≤ net.next + 1
 resending_next net None = omega arith
@@ -73,55 +73,12 @@ pub missed : (o : Option Packet) (e : NoSuchPacket)
 missed None e h = refl
 missed (Some p) e h = absurd h
 
-lt_true : (a b : ℕ) → a < b → nat_lt a b ≡ true
-lt_true a b h = grind (arith, nat_tests)
-
-lt_false : (a b : ℕ) → b ≤ a → nat_lt a b ≡ false
-lt_false a b h = grind (arith, nat_tests)
-
-not_true : (b : Bool) → true ≡ not b → b ≡ false
-not_true true h = cc
-not_true false h = refl
-
-not_false : (b : Bool) → false ≡ not b → b ≡ true
-not_false true h = refl
-not_false false h = cc
-
--- too few cells
-pub send_refused : (old new : Links) (from to : ℕ) (bytes : List ℕ) (put : Bool) → put ≡ false
-    → put ≡ not (nat_lt (free_cells_of old) (cells_for (length bytes)))
-    → new ≡ (if put then appending old from to bytes else record old { next = old.next + 1 })
-    → (new ≡ (sending old from to bytes).after)
-      × ((let s : Sent = record { number = None; dropped = Some (old.next, Pool) } in s) ≡ (sending old from to bytes).sent)
-send_refused old new from to bytes put is exact h =
-    let few : nat_lt (free_cells_of old) (cells_for (length bytes)) ≡ true = not_false (nat_lt (free_cells_of old) (cells_for (length bytes))) (sym is ∙ exact) in
-    let left : new ≡ (refusing old).after = h ∙ rw is refl in
-    (left ∙ rw few refl, rw few refl)
-
--- the packet is in flight
-pub send_put : (old new : Links) (from to : ℕ) (bytes : List ℕ) (put : Bool) → put ≡ true
-    → put ≡ not (nat_lt (free_cells_of old) (cells_for (length bytes)))
-    → new ≡ (if put then appending old from to bytes else record old { next = old.next + 1 })
-    → sending old from to bytes ≡ crowding new old.next from to
-send_put old new from to bytes put is exact h =
-    let enough : nat_lt (free_cells_of old) (cells_for (length bytes)) ≡ false = not_true (nat_lt (free_cells_of old) (cells_for (length bytes))) (sym is ∙ exact) in
-    let left : new ≡ appending old from to bytes = h ∙ rw is refl in
-    rw enough (ap (λ (l : Links). crowding l old.next from to) (sym left))
-
-pub crowd_few : (net : Links) (number from to : ℕ) → count_on net.packets from to ≤ 64
-    → crowding net number from to ≡ (let o : Outcome = record { after = net; sent = record { number = Some number; dropped = None } } in o)
-crowd_few net number from to h = rw (lt_false 64 (count_on net.packets from to) h) refl
-
-pub crowd_many : (net : Links) (number from to : ℕ) → 64 < count_on net.packets from to
-    → crowding net number from to ≡ dropping net number (oldest_on net.packets from to)
-crowd_many net number from to h = rw (lt_true 64 (count_on net.packets from to) h) refl
-
 pub repeat_answer_at : (old now : Links) (n : ℕ) (found : Delivery) (piece : List ℕ) (sent : Sent) → old ≡ now → Copied (packet_of old.packets n) found piece
     → sent ≡ (sending old found.from found.to piece).sent
     → MatchOption (packet_of now.packets n) (false ≡ true) (λ p. IsOkAnd (let r : Result Sent NoSuchPacket = Ok sent in r) (λ s. s ≡ (sending now p.from p.to p.bytes).sent))
 repeat_answer_at old now n found piece sent e k h =
     subst (λ (l : Links). MatchOption (packet_of l.packets n) (false ≡ true) (λ p. IsOkAnd (let r : Result Sent NoSuchPacket = Ok sent in r) (λ s. s ≡ (sending l p.from p.to p.bytes).sent)))
-        e (repeat_answer old (packet_of old.packets n) found piece sent k h)
+    e (repeat_answer old (packet_of old.packets n) found piece sent k h)
 
 pub repeat_after_at : (old now after : Links) (n : ℕ) (found : Delivery) (piece : List ℕ) → old ≡ now → Copied (packet_of old.packets n) found piece
     → after ≡ (sending old found.from found.to piece).after → after ≡ resending now (packet_of now.packets n)

@@ -1,9 +1,9 @@
-use Rattle.std.proofs.Common.{◌≡◌, ℕ, suc, zero, ◌+◌, ◌-◌, ◌*◌, ◌<◌, ◌≤◌, ◌++◌, ◌==◌, ◌&&◌, not, if◌then◌else◌, cond, true, false, Bool, ◌≢◌, List, [], ◌∷◌, Option, Some, None, IsSome, unwrap_or, length, map, filter, get_or, set, remove, refl, sym, ap, ◌∙◌, subst, arith, rules}
-use Rattle.std.specs.List.{find, sum_by}
-use Rattle.std.proofs.lemmas.List.Sums.{sum_by-cons, sum_by-append, sum_by-set}
-use Rattle.std.proofs.lemmas.List.{get_or-set_same, get_or-set_other}
+use Rattle.std.proofs.Common.{◌≡◌, ℕ, suc, zero, ◌+◌, ◌<◌, ◌≤◌, ◌++◌, ◌==◌, not, true, false, ◌≢◌, List, [], ◌∷◌, Option, Some, None, IsSome, length, map, filter, get_or, set, remove, refl, sym, ap, ◌∙◌, subst, arith}
+use Rattle.std.specs.List.{sum_by}
+use Rattle.std.proofs.lemmas.List.Sums.{sum_by-cons}
+use Rattle.std.proofs.lemmas.List.{get_or-set_other}
 use Rattle.std.proofs.lemmas.Bool.Decides.{nat_tests}
-use Rattle.cell_pool.specs.Cells.{cells_for, cells_at, used_cells, free_cells, IsInUse, bytes_of}
+use Rattle.cell_pool.specs.Cells.{cells_for, IsInUse, bytes_of}
 use Rattle.interconnect.specs.declared.flight.Held.{Held}
 use Rattle.interconnect.specs.Links.{Packet, cells_of, packet_of}
 use Rattle.interconnect.specs.Flights.{shown, all_shown, IsRising, LacksChain, IsApart}
@@ -180,8 +180,12 @@ cells_remove pool (x ∷ rest) zero h l e =
     let n : bytes_of pool h.chain ≡ bytes_of pool x.chain = ap (λ (v : Held). bytes_of pool v.chain) e in
     rw n (omega (arith, sum_by-cons cells_of (shown pool x) (all_shown pool rest)))
 cells_remove pool (x ∷ rest) (suc i) h l e =
-    omega (arith, sum_by-cons cells_of (shown pool x) (all_shown pool rest), sum_by-cons cells_of (shown pool x) (all_shown pool (remove rest i)),
-        cells_remove pool rest i h (omega arith) e)
+    omega (
+      arith,
+      sum_by-cons cells_of (shown pool x) (all_shown pool rest),
+      sum_by-cons cells_of (shown pool x) (all_shown pool (remove rest i)),
+      cells_remove pool rest i h (omega arith) e,
+    )
 
 -- each packet takes a cell at least
 pub packets_fit : (pool : List (Option (List ℕ))) (held : List Held) → length held ≤ sum_by cells_of (all_shown pool held)

@@ -1,8 +1,8 @@
 -- How the packets in flight stand in the pool: each has a chain of its own there.
-use Rattle.std.specs.Prelude.{ℕ, ◌+◌, ◌≤◌, ◌<◌, ◌≡◌, ◌≢◌, List, [], ◌∷◌, Option, length, map, sum_by}
+use Rattle.std.specs.Prelude.{ℕ, ◌+◌, ◌≤◌, ◌≡◌, ◌≢◌, List, [], ◌∷◌, Option, length, map, sum_by}
 use Rattle.cell_pool.specs.Cells.{IsInUse, bytes_of, used_cells}
 use Rattle.interconnect.specs.declared.flight.Held.{Held}
-use Rattle.interconnect.specs.Links.{Packet, Links, cells_of}
+use Rattle.interconnect.specs.Links.{Packet, cells_of}
 
 -- the packet with its bytes
 abbrev pub shown : List (Option (List ℕ)) → Held → Packet

@@ -3,7 +3,6 @@
 use Rattle.std.specs.Prelude.{ℕ, ◌+◌, ◌-◌, ◌==◌, ◌&&◌, not, nat_lt, Bool, if◌then◌else◌, List, [], ◌∷◌, ◌++◌, Option, Some, None, length, filter, find, sum_by, count_by, drop}
 use Rattle.std.specs.Option.{option_map}
 use Rattle.cell_pool.specs.Cells.{cells_for}
-use Rattle.interconnect.specs.declared.packet.DropCause.{DropCause}
 use Rattle.interconnect.specs.declared.packet.DropCause.TheVariants.{Link, Pool}
 use Rattle.interconnect.specs.declared.packet.Sent.{Sent}
 use Rattle.interconnect.specs.declared.packet.Delivery.{Delivery}

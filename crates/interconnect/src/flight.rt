@@ -69,7 +69,14 @@ impl Flight {
         let Some(chain) = self.pool.put(bytes) else {
             return false;
         };
-        self.packets.push(Held { number, from, to, chain }).unwrap();
+        self.packets
+            .push(Held {
+                number,
+                from,
+                to,
+                chain,
+            })
+            .unwrap();
         true
     }
 
@@ -82,16 +89,28 @@ impl Flight {
     {
         let number = self.next;
         if !self.append(from, to, bytes) {
-            return Sent { number: None, dropped: Some((number, DropCause::Pool)) };
+            return Sent {
+                number: None,
+                dropped: Some((number, DropCause::Pool)),
+            };
         }
         if self.in_flight(from, to) <= LINK {
-            return Sent { number: Some(number), dropped: None };
+            return Sent {
+                number: Some(number),
+                dropped: None,
+            };
         }
         let Some(oldest) = self.oldest(from, to) else {
-            return Sent { number: Some(number), dropped: None };
+            return Sent {
+                number: Some(number),
+                dropped: None,
+            };
         };
         let _ = self.lose(oldest);
-        Sent { number: Some(number), dropped: Some((oldest, DropCause::Link)) }
+        Sent {
+            number: Some(number),
+            dropped: Some((oldest, DropCause::Link)),
+        }
     }
 
     /// Copies the bytes of a packet to the front of `out`.
@@ -105,7 +124,11 @@ impl Flight {
         };
         let held = &self.packets[place];
         let length = self.pool.read(&held.chain, out);
-        Ok(Delivery { from: held.from, to: held.to, length })
+        Ok(Delivery {
+            from: held.from,
+            to: held.to,
+            length,
+        })
     }
 
     /// Takes a packet out of flight.
@@ -140,14 +163,20 @@ impl Flight {
 fn first_on(packets: &[Held], from: NodeId, to: NodeId) -> Option<u64>
     ensures { result ≡ option_map (λ h. h.number) (find (λ h. (h.from == from) && (h.to == to)) packets.now) }
 {
-    packets.iter().find(|h| h.from == from && h.to == to).map(|h| h.number)
+    packets
+        .iter()
+        .find(|h| h.from == from && h.to == to)
+        .map(|h| h.number)
 }
 
 /// How many packets are on a link.
 fn size_on(packets: &[Held], from: NodeId, to: NodeId) -> u64
     ensures { result ≡ count_by (λ h. (h.from == from) && (h.to == to)) packets.now }
 {
-    packets.iter().filter(|h| h.from == from && h.to == to).count() as u64
+    packets
+        .iter()
+        .filter(|h| h.from == from && h.to == to)
+        .count() as u64
 }
 
 /// The place of a packet in the list, which is in the order of the numbers.

@@ -9,7 +9,4 @@ mod net;
 mod packet;
 
 pub use net::Net;
-pub use packet::Delivery;
-pub use packet::DropCause;
-pub use packet::NoSuchPacket;
-pub use packet::Sent;
+pub use packet::{Delivery, DropCause, NoSuchPacket, Sent};

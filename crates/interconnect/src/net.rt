@@ -117,8 +117,14 @@ mod tests {
         let first = net.send(one, two, &[5; 600]);
         assert_eq!(rt; (first.number, first.dropped), (Some(1), None));
         let second = net.send(two, one, &[6]);
-        assert_eq!(rt; (second.number, second.dropped), (None, Some((2, DropCause::Pool))));
-        assert_eq!(rt; (net.oldest(one, two), net.in_flight(two, one)), (Some(1), 0));
+        assert_eq!(rt;
+            (second.number, second.dropped),
+            (None, Some((2, DropCause::Pool)))
+        );
+        assert_eq!(rt;
+            (net.oldest(one, two), net.in_flight(two, one)),
+            (Some(1), 0)
+        );
         let found = net.deliver(1, &mut out)?;
         assert_eq!(rt; (found.from, found.to, found.length), (one, two, 600));
         assert_eq!(rt; (out[0], out[599], out[600]), (5, 5, 0));
@@ -141,8 +147,14 @@ mod tests {
             let _ = net.send(one, two, &[1]);
         }
         let last = net.send(one, two, &[2]);
-        assert_eq!(rt; (last.number, last.dropped), (Some(65), Some((1, DropCause::Link))));
-        assert_eq!(rt; (net.oldest(one, two), net.in_flight(one, two)), (Some(2), 64));
+        assert_eq!(rt;
+            (last.number, last.dropped),
+            (Some(65), Some((1, DropCause::Link)))
+        );
+        assert_eq!(rt;
+            (net.oldest(one, two), net.in_flight(one, two)),
+            (Some(2), 64)
+        );
         Ok(())
     }
 }

@@ -1,4 +1,4 @@
-use Rattle.std.proofs.Common.{◌≡◌, ℕ, ◌+◌, ◌-◌, ◌<◌, ◌≤◌, length, get_or, map}
+use Rattle.std.proofs.Common.{ℕ, ◌-◌, ◌<◌, ◌≤◌, length, get_or, map}
 use Rattle.interconnect.proofs.flight.place_of.Given as goal
 
 abbrev pub invariant-loop-low : goal.invariant-loop-low

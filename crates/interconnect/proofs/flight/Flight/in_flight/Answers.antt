@@ -1,4 +1,4 @@
-use Rattle.std.proofs.Common.{◌≡◌, ◌∙◌, ap, rules}
+use Rattle.std.proofs.Common.{◌∙◌, ap}
 use Rattle.interconnect.specs.Links.{Links, count_on}
 use Rattle.interconnect.proofs.Steps.{count_view}
 use Rattle.interconnect.proofs.flight.Flight.in_flight.Goals as goal

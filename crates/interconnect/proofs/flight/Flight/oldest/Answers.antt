@@ -1,4 +1,4 @@
-use Rattle.std.proofs.Common.{◌≡◌, ◌∙◌, ap, rules}
+use Rattle.std.proofs.Common.{◌∙◌, ap}
 use Rattle.interconnect.specs.Links.{Links, oldest_on}
 use Rattle.interconnect.proofs.Steps.{oldest_view}
 use Rattle.interconnect.proofs.flight.Flight.oldest.Goals as goal

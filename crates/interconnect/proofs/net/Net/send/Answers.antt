@@ -1,4 +1,4 @@
-use Rattle.std.proofs.Common.{◌≡◌, ◌+◌, ◌∙◌, ap, rules}
+use Rattle.std.proofs.Common.{◌+◌, ◌∙◌, ap}
 use Rattle.interconnect.specs.Links.{Links}
 use Rattle.interconnect.proofs.Sends.{sending_next}
 use Rattle.interconnect.proofs.net.Net.send.Goals as goal
