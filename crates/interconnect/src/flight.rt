@@ -23,6 +23,9 @@ pub(crate) struct Held {
 }
 
 /// The packets in flight, in the order of their numbers.
+///
+/// A packet is found by halving the list. The oldest of a link, and how many it has, are found by
+/// going along the list, and a packet that leaves moves those after it up by one place.
 #[derive(Drop)]
 pub(crate) struct Flight {
     pool: Pool,

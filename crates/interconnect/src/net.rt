@@ -94,7 +94,7 @@ impl Net {
         self.flight.oldest(from, to)
     }
 
-    /// How many packets are in flight on a link, 64 at most.
+    /// How many packets are in flight on a link.
     pub fn in_flight(&self, from: NodeId, to: NodeId) -> u64
         ensures { result ≡ count_on self.now.packets from to }
     {
