@@ -1,0 +1,7 @@
+pub mod Walks
+pub mod Pieces
+pub mod Frames
+pub mod Fills
+pub mod Whole
+pub mod Moves
+pub mod Made

@@ -1,0 +1,119 @@
+use Rattle.std.proofs.Common.{◌≡◌, ℕ, suc, zero, ◌+◌, ◌-◌, ◌<◌, ◌≤◌, ◌++◌, ◌==◌, ◌&&◌, not, cond, true, false, Bool, List, [], ◌∷◌, Option, Some, None, IsSome, unwrap_or, length, filter, get_or, set, remove, refl, sym, ap, ◌∙◌, arith, length-set}
+use Rattle.std.specs.List.{find, sum_by, count_by}
+use Rattle.std.specs.Option.{option_map}
+use Rattle.std.proofs.lemmas.List.Sums.{sum_by-cons, sum_by_push, sum_by-set}
+use Rattle.std.proofs.lemmas.List.{get_or-set_same, map_push}
+use Rattle.cell_pool.specs.Cells.{cells_for, cells_at, used_cells, free_cells, bytes_of}
+use Rattle.interconnect.specs.declared.flight.Held.{Held}
+use Rattle.interconnect.specs.Links.{Packet, cells_of, packet_of, is_on}
+use Rattle.interconnect.specs.Flights.{shown, all_shown, LacksChain, IsSound}
+use Rattle.interconnect.proofs.Shown.{rising_push, rising_next, rising_remove, apart_push, apart_frame, apart_remove, unused_lacks, shown_frame, own_at, cells_remove, without_at, found_at}
+
+pub sound_refused : (pool : List (Option (List ℕ))) (held : List Held) (room next : ℕ) → IsSound pool held room next → IsSound pool held room (next + 1)
+sound_refused pool held room next s =
+    record { rising = rising_next 1 next held s.rising; apart = s.apart; used = s.used; enough = s.enough }
+
+-- the packets once one more stands in its chain
+pub shown_push : (pool : List (Option (List ℕ))) (held : List Held) (h : Held) (bytes : List ℕ) → LacksChain h.chain held → h.chain < length pool
+    → all_shown (set pool h.chain (Some bytes)) (held ++ h ∷ [])
+    ≡ all_shown pool held ++ (record { number = h.number; from = h.from; to = h.to; bytes = bytes }) ∷ []
+shown_push pool held h bytes lacks low =
+    let new : List (Option (List ℕ)) = set pool h.chain (Some bytes) in
+    let got : get_or new h.chain None ≡ Some bytes = get_or-set_same pool h.chain (Some bytes) None low in
+    map_push (shown new) held h ∙ rw (got, shown_frame pool h.chain (Some bytes) held lacks) refl
+
+pub sound_appended : (pool new : List (Option (List ℕ))) (held : List Held) (h : Held) (room room' next : ℕ) (bytes : List ℕ)
+    → IsSound pool held room next → h.number ≡ next → h.chain < length pool → get_or pool h.chain None ≡ None → new ≡ set pool h.chain (Some bytes)
+    → length bytes ≤ 131072 → room ≤ room' → IsSound new (held ++ h ∷ []) room' (next + 1)
+sound_appended pool new held h room room' next bytes s n low none is size more =
+    let next_pool : List (Option (List ℕ)) = set pool h.chain (Some bytes) in
+    let lacks = unused_lacks pool h.chain held none s.apart in
+    let got : get_or next_pool h.chain None ≡ Some bytes = get_or-set_same pool h.chain (Some bytes) None low in
+    let used : used_cells next_pool + 0 ≡ used_cells pool + cells_for (length bytes) = rw none at (sum_by-set cells_at pool h.chain (Some bytes) None low) in
+    let cells : sum_by cells_of (all_shown next_pool (held ++ h ∷ [])) ≡ sum_by cells_of (all_shown pool held) + cells_for (length bytes) =
+    rw (shown_push pool held h bytes lacks low) (sum_by_push cells_of (all_shown pool held) (record { number = h.number; from = h.from; to = h.to; bytes = bytes })) in
+    let old = s.used in
+    let enough = s.enough in
+    rw is (record {
+      rising = rising_push 1 next held h s.rising n;
+      apart = apart_push next_pool held h (apart_frame pool h.chain (Some bytes) held lacks s.apart) lacks (rw got refl) (rw got size);
+      used = omega arith;
+      enough = omega (arith, length-set pool h.chain (Some bytes));
+    })
+
+pub appended_view : (pool new : List (Option (List ℕ))) (held : List Held) (h : Held) (room next : ℕ) (bytes : List ℕ)
+    → IsSound pool held room next → h.chain < length pool → get_or pool h.chain None ≡ None → new ≡ set pool h.chain (Some bytes)
+    → all_shown new (held ++ h ∷ []) ≡ all_shown pool held ++ (record { number = h.number; from = h.from; to = h.to; bytes = bytes }) ∷ []
+appended_view pool new held h room next bytes s low none is =
+    rw is (shown_push pool held h bytes (unused_lacks pool h.chain held none s.apart) low)
+
+no_some : false ≡ true → ⊥
+no_some h = cc
+
+pub some_of : (o : Option (List ℕ)) → IsSome o → o ≡ Some (unwrap_or o [])
+some_of None h = absurd (no_some h)
+some_of (Some bytes) h = refl
+
+pub low_of_used : (pool : List (Option (List ℕ))) (chain : ℕ) → IsSome (get_or pool chain None) → chain < length pool
+low_of_used [] chain h = absurd (no_some h)
+low_of_used (x ∷ rest) zero h = omega arith
+low_of_used (x ∷ rest) (suc chain) h = let k = low_of_used rest chain h in omega arith
+
+pub sound_removed : (pool new : List (Option (List ℕ))) (held : List Held) (i : ℕ) (h : Held) (room room' next : ℕ)
+    → IsSound pool held room next → i < length held → h ≡ get_or held i h → new ≡ set pool h.chain None → room ≡ room'
+    → IsSound new (remove held i) room' next
+sound_removed pool new held i h room room' next s l e is more =
+    let own = own_at pool held i h s.apart l e in
+    let low = low_of_used pool h.chain own.in_use in
+    let some : get_or pool h.chain None ≡ Some (bytes_of pool h.chain) = some_of (get_or pool h.chain None) own.in_use in
+    let cells : cells_at (get_or pool h.chain None) ≡ cells_for (length (bytes_of pool h.chain)) = ap (λ (o : Option (List ℕ)). cells_at o) some in
+    let used : used_cells (set pool h.chain None) + cells_at (get_or pool h.chain None) ≡ used_cells pool + 0 = sum_by-set cells_at pool h.chain None None low in
+    let same : all_shown (set pool h.chain None) (remove held i) ≡ all_shown pool (remove held i) = shown_frame pool h.chain None (remove held i) own.alone in
+    let sum : sum_by cells_of (all_shown (set pool h.chain None) (remove held i)) ≡ sum_by cells_of (all_shown pool (remove held i)) =
+    ap (λ (ps : List Packet). sum_by cells_of ps) same in
+    let old = s.used in
+    let enough = s.enough in
+    rw is (record {
+      rising = rising_remove 1 next held i s.rising;
+      apart = apart_frame pool h.chain None (remove held i) own.alone (apart_remove pool held i s.apart);
+      used = omega (arith, cells_remove pool held i h l e);
+      enough = omega (arith, length-set pool h.chain None);
+    })
+
+pub removed_view : (pool new : List (Option (List ℕ))) (held : List Held) (i n : ℕ) (h : Held) (room next : ℕ)
+    → IsSound pool held room next → i < length held → h ≡ get_or held i h → h.number ≡ n → new ≡ set pool h.chain None
+    → all_shown new (remove held i) ≡ filter (λ p. not (p.number == n)) (all_shown pool held)
+removed_view pool new held i n h room next s l e at is =
+    let own = own_at pool held i h s.apart l e in
+    let rest : all_shown new (remove held i) ≡ all_shown pool (remove held i) = rw is (shown_frame pool h.chain None (remove held i) own.alone) in
+    let gone : all_shown pool (remove held i) ≡ filter (λ p. not (p.number == h.number)) (all_shown pool held) = sym (without_at pool 1 next held i h s.rising l e) in
+    rest ∙ gone ∙ ap (λ (m : ℕ). filter (λ (p : Packet). not (p.number == m)) (all_shown pool held)) at
+
+-- the packet that a place shows
+pub found_view : (pool : List (Option (List ℕ))) (held : List Held) (i n : ℕ) (h : Held) (room next : ℕ)
+    → IsSound pool held room next → i < length held → h ≡ get_or held i h → h.number ≡ n → packet_of (all_shown pool held) n ≡ Some (shown pool h)
+found_view pool held i n h room next s l e at =
+    ap (λ (m : ℕ). packet_of (all_shown pool held) m) (sym at) ∙ found_at pool 1 next held i h s.rising l e
+
+-- free cells, by the packets and by the pool
+pub free_same : (pool : List (Option (List ℕ))) (held : List Held) (room next : ℕ) → IsSound pool held room next
+    → length pool - sum_by cells_of (all_shown pool held) ≡ free_cells pool
+free_same pool held room next s = let u = s.used in omega arith
+
+pub oldest_view : (pool : List (Option (List ℕ))) (held : List Held) (from to : ℕ)
+    → option_map (λ h. h.number) (find (λ h. (h.from == from) && (h.to == to)) held) ≡ option_map (λ p. p.number) (find (is_on from to) (all_shown pool held))
+oldest_view pool [] from to = refl
+oldest_view pool (x ∷ rest) from to =
+    elim ((x.from == from) && (x.to == to)) as (λ (b : Bool). option_map (λ h. h.number) (cond b (Some x) (find (λ h. (h.from == from) && (h.to == to)) rest))
+    ≡ option_map (λ p. p.number) (cond b (Some (shown pool x)) (find (is_on from to) (all_shown pool rest)))) [
+      | true ↦ refl
+      | false ↦ oldest_view pool rest from to
+    ]
+
+pub count_view : (pool : List (Option (List ℕ))) (held : List Held) (from to : ℕ)
+    → count_by (λ h. (h.from == from) && (h.to == to)) held ≡ count_by (is_on from to) (all_shown pool held)
+count_view pool [] from to = refl
+count_view pool (x ∷ rest) from to =
+    sum_by-cons (λ (h : Held). cond ((h.from == from) && (h.to == to)) 1 0) x rest
+    ∙ ap (λ (n : ℕ). cond ((x.from == from) && (x.to == to)) 1 0 + n) (count_view pool rest from to)
+    ∙ sym (sum_by-cons (λ (p : Packet). cond (is_on from to p) 1 0) (shown pool x) (all_shown pool rest))

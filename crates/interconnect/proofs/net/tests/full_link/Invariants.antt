@@ -1,0 +1,5 @@
+use Rattle.std.proofs.Common.{◌≡◌, ℕ, ◌+◌}
+use Rattle.interconnect.proofs.net.tests.full_link.Given as goal
+
+abbrev pub invariant-loop : goal.invariant-loop
+invariant-loop l = l.net.next ≡ l.counter + 1

@@ -1,0 +1,12 @@
+//! The links between the nodes: packets in flight, numbered in the order of their sending.
+//!
+//! Packets stand in the cells of a pool. All memory is taken when the links are made.
+
+#![tactic(auto)]
+
+mod flight;
+mod net;
+mod packet;
+
+pub use net::Net;
+pub use packet::{Delivery, DropCause, NoSuchPacket, Sent};
