@@ -1,4 +1,0 @@
-pub mod CutLemmas
-pub mod OneAnswer
-pub mod RowLemmas
-pub mod TableLemmas
