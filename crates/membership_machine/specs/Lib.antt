@@ -1,0 +1,7 @@
+pub mod Records
+pub mod Votes
+pub mod State
+pub mod Steps
+pub mod Events
+pub mod Starts
+pub mod Invariant

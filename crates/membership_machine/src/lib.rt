@@ -1,0 +1,2 @@
+//! The abstract machine of memberships and updates.
+#![tactic(auto)]
