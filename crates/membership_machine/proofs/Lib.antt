@@ -1,0 +1,4 @@
+pub mod Majorities
+pub mod Prefixes
+pub mod Before
+pub mod Followed
