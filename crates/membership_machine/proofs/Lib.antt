@@ -2,3 +2,4 @@ pub mod Majorities
 pub mod Prefixes
 pub mod Before
 pub mod Followed
+pub mod Growth
