@@ -15,7 +15,7 @@ pub record NodeGrows (n n' : Node) : Type 0 where
   pub answered : (q : ℕ) → n.answered q ≡ true → n'.answered q ≡ true
   pub showed : (q : ℕ) → n.answered q ≡ true → n'.showed q ≡ n.showed q
   pub ready : (f : ℕ) → n.ready f ≡ true → n'.ready f ≡ true
-  pub reached : (f : ℕ) → n.reached f ≤ n'.reached f
+  pub reached : (f : ℕ) → n.ready f ≡ true → n.reached f ≤ n'.reached f
 
 pub record EpochGrows (e e' : Epoch) : Type 0 where
   pub tried : e.tried ≡ true → e'.tried ≡ true
@@ -30,7 +30,7 @@ pub record EpochGrows (e e' : Epoch) : Type 0 where
   pub covered : e'.started ≡ true → e'.settled ≤ e'.acked
 
 pub node_same : (n : Node) → NodeGrows n n
-node_same n = record { promised = omega arith; installed = omega arith; answered = λ q h. h; showed = λ q h. refl; ready = λ f h. h; reached = λ f. omega arith }
+node_same n = record { promised = omega arith; installed = omega arith; answered = λ q h. h; showed = λ q h. refl; ready = λ f h. h; reached = λ f h. omega arith }
 
 pub epoch_same : (S : Setting) (N : ℕ → Node) (q : ℕ) (e : Epoch) → EpochOk S N q e → EpochGrows e e
 epoch_same S N q e k = record { tried = λ h. h; members = λ h m. refl; counted = λ h. h; base = λ h. refl; settled = λ h. refl; started = λ h. h; acked = omega arith;
@@ -115,7 +115,7 @@ epoch_stays S N N' q e g k = record {
   majority_settled = k.majority_settled;
   majority_base = k.majority_base;
   started_ready = λ h m i. (g m).ready q (k.started_ready h m i);
-  started_reached = λ h m i. omega (arith, k.started_reached h m i, (g m).reached q);
+  started_reached = λ h m i. omega (arith, k.started_reached h m i, (g m).reached q (k.started_ready h m i));
   one_proposed = k.one_proposed;
   base_acked = k.base_acked;
   acked_log = k.acked_log;

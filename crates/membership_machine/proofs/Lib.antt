@@ -3,3 +3,4 @@ pub mod Prefixes
 pub mod Before
 pub mod Followed
 pub mod Growth
+pub mod NodeSteps
