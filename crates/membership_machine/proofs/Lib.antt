@@ -4,3 +4,5 @@ pub mod Before
 pub mod Followed
 pub mod Growth
 pub mod NodeSteps
+pub mod EpochSteps
+pub mod Leaders
