@@ -106,7 +106,7 @@ count_grows S N q e n devices r k c s = record {
 -- Start
 
 pub start_epoch : (S : Setting) (N : ℕ → Node) (q : ℕ) (e : Epoch) → EpochOk S N q e → e.counted ≡ true → e.started ≡ false
-    → ((m : ℕ) → e.members m ≡ true → (N m).ready q ≡ true) → ((m : ℕ) → (N m).ready q ≡ true → length e.base ≤ (N m).reached q) → EpochOk S N q (starting e)
+    → ((m : ℕ) → e.members m ≡ true → (N m).ready q ≡ true) → ((m : ℕ) → e.members m ≡ true → length e.base ≤ (N m).reached q) → EpochOk S N q (starting e)
 start_epoch S N q e k c s ready reached = record {
   tried_positive = k.tried_positive;
   tried_promised = k.tried_promised;
@@ -122,7 +122,7 @@ start_epoch S N q e k c s ready reached = record {
   majority_settled = k.majority_settled;
   majority_base = k.majority_base;
   started_ready = λ h. ready;
-  started_reached = λ h m i. reached m (ready m i);
+  started_reached = λ h. reached;
   one_proposed = λ h. let l : length e.log ≡ length e.base = ap length (k.unstarted_log s) in omega arith;
   base_acked = λ h. omega arith;
   acked_log = k.base_within;

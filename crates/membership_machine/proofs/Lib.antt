@@ -6,3 +6,4 @@ pub mod Growth
 pub mod NodeSteps
 pub mod EpochSteps
 pub mod Leaders
+pub mod Preserved
