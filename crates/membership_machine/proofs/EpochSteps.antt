@@ -8,7 +8,7 @@ use Rattle.membership_machine.specs.State.{Node, Epoch}
 use Rattle.membership_machine.specs.Steps.{beginning, counting, starting, proposing, acknowledging}
 use Rattle.membership_machine.specs.Events.{IsCounted}
 use Rattle.membership_machine.specs.Invariant.{EpochOk}
-use Rattle.membership_machine.proofs.Growth.{EpochGrows}
+use Rattle.membership_machine.specs.Growth.{EpochGrows}
 
 -- Begin
 
@@ -46,6 +46,7 @@ begin_grows e members t s = record {
   tried = λ h. refl;
   members = λ h. absurd (cc);
   counted = λ h. h;
+  holds = λ h d. refl;
   base = λ h. refl;
   settled = λ h. refl;
   started = λ h. h;
@@ -92,6 +93,7 @@ count_grows S N q e n devices r k c s = record {
   tried = λ h. h;
   members = λ h m. refl;
   counted = λ h. refl;
+  holds = λ h. absurd (cc);
   base = λ h. absurd (cc);
   settled = λ h. absurd (cc);
   started = λ h. h;
@@ -139,6 +141,7 @@ start_grows S N q e k s = record {
   tried = λ h. h;
   members = λ h m. refl;
   counted = λ h. h;
+  holds = λ h d. refl;
   base = λ h. refl;
   settled = λ h. refl;
   started = λ h. refl;
@@ -185,6 +188,7 @@ propose_grows S N q e u k = record {
   tried = λ h. h;
   members = λ h m. refl;
   counted = λ h. h;
+  holds = λ h d. refl;
   base = λ h. refl;
   settled = λ h. refl;
   started = λ h. h;
@@ -229,6 +233,7 @@ acknowledge_grows S N q e k = record {
   tried = λ h. h;
   members = λ h m. refl;
   counted = λ h. h;
+  holds = λ h d. refl;
   base = λ h. refl;
   settled = λ h. refl;
   started = λ h. h;

@@ -8,32 +8,18 @@ use Rattle.membership_machine.specs.Votes.{Setting}
 use Rattle.membership_machine.specs.State.{Node, Epoch, Memberships}
 use Rattle.membership_machine.specs.Events.{at_node, at_both}
 use Rattle.membership_machine.specs.Invariant.{Fits, Commits, NodeOk, Leads, EpochOk, Holds}
+use Rattle.membership_machine.specs.Growth.{NodeGrows, EpochGrows, Grows}
 
-pub record NodeGrows (n n' : Node) : Type 0 where
-  pub promised : n.promised ≤ n'.promised
-  pub installed : n.saved.installed ≤ n'.saved.installed
-  pub answered : (q : ℕ) → n.answered q ≡ true → n'.answered q ≡ true
-  pub showed : (q : ℕ) → n.answered q ≡ true → n'.showed q ≡ n.showed q
-  pub ready : (f : ℕ) → n.ready f ≡ true → n'.ready f ≡ true
-  pub reached : (f : ℕ) → n.ready f ≡ true → n.reached f ≤ n'.reached f
-
-pub record EpochGrows (e e' : Epoch) : Type 0 where
-  pub tried : e.tried ≡ true → e'.tried ≡ true
-  pub members : e.tried ≡ true → (m : ℕ) → e'.members m ≡ e.members m
-  pub counted : e.counted ≡ true → e'.counted ≡ true
-  pub base : e.counted ≡ true → e'.base ≡ e.base
-  pub settled : e.counted ≡ true → e'.settled ≡ e.settled
-  pub started : e.started ≡ true → e'.started ≡ true
-  pub acked : e.acked ≤ e'.acked
-  pub log : e.log ≡ take (length e.log) e'.log
-  pub log_length : length e.log ≤ length e'.log
-  pub covered : e'.started ≡ true → e'.settled ≤ e'.acked
+-- an event led from w to v: v is in order, and w grew to it
+pub record Goes (S : Setting) (w v : Memberships) : Type 0 where
+  pub holds : Holds S v
+  pub grows : Grows w v
 
 pub node_same : (n : Node) → NodeGrows n n
 node_same n = record { promised = omega arith; installed = omega arith; answered = λ q h. h; showed = λ q h. refl; ready = λ f h. h; reached = λ f h. omega arith }
 
 pub epoch_same : (S : Setting) (N : ℕ → Node) (q : ℕ) (e : Epoch) → EpochOk S N q e → EpochGrows e e
-epoch_same S N q e k = record { tried = λ h. h; members = λ h m. refl; counted = λ h. h; base = λ h. refl; settled = λ h. refl; started = λ h. h; acked = omega arith;
+epoch_same S N q e k = record { tried = λ h. h; members = λ h m. refl; counted = λ h. h; holds = λ h d. refl; base = λ h. refl; settled = λ h. refl; started = λ h. h; acked = omega arith;
   log = sym (take_all (length e.log) e.log (omega arith)); log_length = omega arith;
   covered = λ h. let a : length e.base ≤ e.acked = k.base_acked h in let b : e.settled ≤ length e.base = k.settled_base in omega arith }
 
@@ -149,22 +135,24 @@ epochs_grow : (S : Setting) (w : Memberships) → Holds S w → (q : ℕ) (e : E
 epochs_grow S w i q e g = put_cases (λ k x. EpochGrows (w.epoch k) x) w.epoch q e g (λ k ne. epoch_same S w.node k (w.epoch k) (i.epoch k))
 
 -- one node steps
-pub kept_at_node : (S : Setting) (w : Memberships) (m : ℕ) (n : Node) → Holds S w → NodeGrows (w.node m) n → NodeOk w.epoch m n → Leads w.epoch m n → Holds S (at_node w m n)
-kept_at_node S w m n i g o l = record {
+pub kept_at_node : (S : Setting) (w : Memberships) (m : ℕ) (n : Node) → Holds S w → NodeGrows (w.node m) n → NodeOk w.epoch m n → Leads w.epoch m n → Goes S w (at_node w m n)
+kept_at_node S w m n i g o l = record { holds = record {
   node = put_cases (λ k x. NodeOk w.epoch k x) w.node m n o (λ k ne. i.node k);
   leads = put_cases (λ k x. Leads w.epoch k x) w.node m n l (λ k ne. i.leads k);
-  epoch = λ q. epoch_stays S w.node (put w.node m n) q (w.epoch q) (nodes_grow w.node m n g) (i.epoch q) }
+  epoch = λ q. epoch_stays S w.node (put w.node m n) q (w.epoch q) (nodes_grow w.node m n g) (i.epoch q) };
+  grows = record { node = nodes_grow w.node m n g; epoch = λ q. epoch_same S w.node q (w.epoch q) (i.epoch q) } }
 
 -- one node steps, and with it an epoch that it coordinates
 pub kept_at_both : (S : Setting) (w : Memberships) (m : ℕ) (n : Node) (q : ℕ) (e : Epoch) → Holds S w → coordinator q ≡ m → 0 < q → NodeGrows (w.node m) n → EpochGrows (w.epoch q) e
     → ((E : ℕ → Epoch) → E q ≡ e → NodeOk E m (w.node m) → NodeOk E m n)
     → ((E : ℕ → Epoch) → E q ≡ e → Leads E m n)
     → ((N : ℕ → Node) → N m ≡ n → ((k : ℕ) → NodeGrows (w.node k) (N k)) → EpochOk S N q (w.epoch q) → EpochOk S N q e)
-    → Holds S (at_both w m n q e)
-kept_at_both S w m n q e i c p gn ge on ol oe = record {
+    → Goes S w (at_both w m n q e)
+kept_at_both S w m n q e i c p gn ge on ol oe = record { holds = record {
   node = put_cases (λ k x. NodeOk E' k x) w.node m n (on E' (put_here w.epoch q e) (still m)) (λ k ne. still k);
   leads = put_cases (λ k x. Leads E' k x) w.node m n (ol E' (put_here w.epoch q e)) (λ k ne. leads_stays w.epoch q e k (w.node k) (other k ne) (i.leads k));
-  epoch = put_cases (λ k x. EpochOk S N' k x) w.epoch q e (oe N' (put_here w.node m n) grown (epoch_stays S w.node N' q (w.epoch q) grown (i.epoch q))) (λ k ne. epoch_stays S w.node N' k (w.epoch k) grown (i.epoch k)) }
+  epoch = put_cases (λ k x. EpochOk S N' k x) w.epoch q e (oe N' (put_here w.node m n) grown (epoch_stays S w.node N' q (w.epoch q) grown (i.epoch q))) (λ k ne. epoch_stays S w.node N' k (w.epoch k) grown (i.epoch k)) };
+  grows = record { node = grown; epoch = epochs_grow S w i q e ge } }
   where
     E' : ℕ → Epoch
     E' = put w.epoch q e
@@ -178,3 +166,33 @@ kept_at_both S w m n q e i c p gn ge on ol oe = record {
     not_first z = omega arith
     still : (k : ℕ) → NodeOk E' k (w.node k)
     still k = node_stays w.epoch E' k (w.node k) (epochs_grow S w i q e ge) (put_there w.epoch q e 0 not_first) (λ f h. (i.epoch f).counted_tried h) (i.node k)
+
+-- growth goes on
+node_over : (n n' n'' : Node) → NodeGrows n n' → NodeGrows n' n'' → NodeGrows n n''
+node_over n n' n'' g h = record {
+  promised = omega (arith, g.promised, h.promised);
+  installed = omega (arith, g.installed, h.installed);
+  answered = λ q a. h.answered q (g.answered q a);
+  showed = λ q a. h.showed q (g.answered q a) ∙ g.showed q a;
+  ready = λ f r. h.ready f (g.ready f r);
+  reached = λ f r. omega (arith, g.reached f r, h.reached f (g.ready f r)) }
+
+epoch_over : (e e' e'' : Epoch) → EpochGrows e e' → EpochGrows e' e'' → EpochGrows e e''
+epoch_over e e' e'' g h = record {
+  tried = λ t. h.tried (g.tried t);
+  members = λ t m. h.members (g.tried t) m ∙ g.members t m;
+  counted = λ t. h.counted (g.counted t);
+  holds = λ t d. h.holds (g.counted t) d ∙ g.holds t d;
+  base = λ t. h.base (g.counted t) ∙ g.base t;
+  settled = λ t. h.settled (g.counted t) ∙ g.settled t;
+  started = λ t. h.started (g.started t);
+  acked = omega (arith, g.acked, h.acked);
+  log = g.log ∙ ap (take (length e.log)) h.log ∙ take-take (length e.log) (length e'.log) e''.log g.log_length;
+  log_length = omega (arith, g.log_length, h.log_length);
+  covered = h.covered }
+
+pub grows_over : (u v w : Memberships) → Grows u v → Grows v w → Grows u w
+grows_over u v w g h = record { node = λ m. node_over (u.node m) (v.node m) (w.node m) (g.node m) (h.node m); epoch = λ q. epoch_over (u.epoch q) (v.epoch q) (w.epoch q) (g.epoch q) (h.epoch q) }
+
+pub grows_same : (S : Setting) (w : Memberships) → Holds S w → Grows w w
+grows_same S w i = record { node = λ m. node_same (w.node m); epoch = λ q. epoch_same S w.node q (w.epoch q) (i.epoch q) }

@@ -7,7 +7,7 @@ use Rattle.membership_machine.specs.Records.{Update, Saved}
 use Rattle.membership_machine.specs.State.{Node, Epoch}
 use Rattle.membership_machine.specs.Steps.{promising, installing, joining, appending, committing, crashing}
 use Rattle.membership_machine.specs.Invariant.{Fits, Commits, NodeOk}
-use Rattle.membership_machine.proofs.Growth.{NodeGrows}
+use Rattle.membership_machine.specs.Growth.{NodeGrows}
 
 -- an epoch that a promising node answered is the new one, with the record as it is, or one answered before
 answered_either : (n : Node) (q k : ℕ) → put n.answered q true k ≡ true → ((k ≡ q) × (put n.showed q n.saved k ≡ n.saved)) ⊎ ((n.answered k ≡ true) × (put n.showed q n.saved k ≡ n.showed k))

@@ -9,7 +9,8 @@ use Rattle.membership_machine.specs.Steps.{promising, installing, joining, appen
 use Rattle.membership_machine.specs.Events.{Event, Begin, Promise, Count, Install, Start, Join, Propose, Propose_lost, Prepare, Acknowledge, Commit, Crash, Allowed, after, Run, HasNewest, IsCounted, AllReady, AllPrepared, Sits, at_node, at_both}
 use Rattle.membership_machine.specs.Invariant.{Fits, Commits, NodeOk, Leads, EpochOk, Holds}
 use Rattle.membership_machine.proofs.Prefixes.{next_part, next_within}
-use Rattle.membership_machine.proofs.Growth.{NodeGrows, EpochGrows, kept_at_node, kept_at_both}
+use Rattle.membership_machine.proofs.Growth.{Goes, kept_at_node, kept_at_both, grows_over, grows_same}
+use Rattle.membership_machine.specs.Growth.{NodeGrows, EpochGrows, Grows}
 use Rattle.membership_machine.proofs.NodeSteps
 use Rattle.membership_machine.proofs.EpochSteps
 use Rattle.membership_machine.proofs.Leaders
@@ -30,7 +31,7 @@ not_marked a f = go (true_or_false a)
     go (inl t) = absurd (f t)
     go (inr t) = t
 
-begin_keeps : (S : Setting) (w : Memberships) (q : ℕ) (members : ℕ → Bool) → Holds S w → Allowed S w (Begin q members) → Holds S (after w (Begin q members))
+begin_keeps : (S : Setting) (w : Memberships) (q : ℕ) (members : ℕ → Bool) → Holds S w → Allowed S w (Begin q members) → Goes S w (after w (Begin q members))
 begin_keeps S w q members i a =
     kept_at_both S w c (promising n q true) q (beginning e members) i refl positive (NodeSteps.promise_grows w.epoch c n q true (i.node c) a.0) (EpochSteps.begin_grows e members untried unstarted)
         (λ E is o. NodeSteps.promise_node E c n q true o a.0 (λ h. refl) (λ h. ap (λ (x : Epoch). x.tried) is))
@@ -54,7 +55,7 @@ begin_keeps S w q members i a =
     unstarted : e.started ≡ false
     unstarted = unmarked e.started e.counted (i.epoch q).started_counted uncounted
 
-promise_keeps : (S : Setting) (w : Memberships) (m q : ℕ) → Holds S w → Allowed S w (Promise m q) → Holds S (after w (Promise m q))
+promise_keeps : (S : Setting) (w : Memberships) (m q : ℕ) → Holds S w → Allowed S w (Promise m q) → Goes S w (after w (Promise m q))
 promise_keeps S w m q i a =
     kept_at_node S w m (promising (w.node m) q false) i (NodeSteps.promise_grows w.epoch m (w.node m) q false (i.node m) a.1)
         (NodeSteps.promise_node w.epoch m (w.node m) q false (i.node m) a.1 (λ h. absurd (cc)) (λ h. absurd (cc)))
@@ -70,7 +71,7 @@ count_commits : (e : Epoch) (q n : ℕ) (devices : ℕ → Bool) (r : Saved) →
     → Commits (record { installed = q; entries = r.entries; committed = r.committed }) (counting e n devices r)
 count_commits e q n devices r s low one = record { within = low; one_pending = one; acked = λ h. absurd (cc); settled = λ h. omega arith }
 
-count_keeps : (S : Setting) (w : Memberships) (q n : ℕ) (devices : ℕ → Bool) → Holds S w → Allowed S w (Count q n devices) → Holds S (after w (Count q n devices))
+count_keeps : (S : Setting) (w : Memberships) (q n : ℕ) (devices : ℕ → Bool) → Holds S w → Allowed S w (Count q n devices) → Goes S w (after w (Count q n devices))
 count_keeps S w q n devices i a =
     kept_at_both S w c (installing o q r.entries r.committed) q (counting e n devices r) i refl (omega (arith, below)) (NodeSteps.install_grows w.epoch c o q r.entries r.committed (i.node c) below) (EpochSteps.count_grows S w.node q e n devices r (i.epoch q) uncounted unstarted)
         (λ E is k. NodeSteps.install_node E c o q r.entries r.committed k a.0 below (ap (λ (x : Epoch). x.counted) is)
@@ -107,7 +108,7 @@ count_keeps S w q n devices i a =
     commits : Commits r (w.epoch r.installed)
     commits = (i.node n).showed_commits q answered
 
-install_keeps : (S : Setting) (w : Memberships) (m q : ℕ) → Holds S w → Allowed S w (Install m q) → Holds S (after w (Install m q))
+install_keeps : (S : Setting) (w : Memberships) (m q : ℕ) → Holds S w → Allowed S w (Install m q) → Goes S w (after w (Install m q))
 install_keeps S w m q i a =
     kept_at_node S w m (installing (w.node m) q e.base e.settled) i (NodeSteps.install_grows w.epoch m (w.node m) q e.base e.settled (i.node m) a.3)
         (NodeSteps.install_node w.epoch m (w.node m) q e.base e.settled (i.node m) a.2 a.3 a.0 a.1 refl
@@ -122,7 +123,7 @@ install_keeps S w m q i a =
     other : coordinator q ≢ m
     other d = let p : q ≤ (w.node m).saved.installed = subst (λ j. q ≤ (w.node j).saved.installed) d (k.counted_installed a.0) in omega (arith, a.3)
 
-start_keeps : (S : Setting) (w : Memberships) (q : ℕ) → Holds S w → Allowed S w (Start q) → Holds S (after w (Start q))
+start_keeps : (S : Setting) (w : Memberships) (q : ℕ) → Holds S w → Allowed S w (Start q) → Goes S w (after w (Start q))
 start_keeps S w q i a =
     kept_at_both S w c (joining n) q (starting e) i refl positive (NodeSteps.join_grows n) (EpochSteps.start_grows S w.node q e k unstarted)
         (λ E is o. NodeSteps.join_node E c n o (omega (arith, a.1, positive)) (a.1 ∙ sym at_q) (ap (λ f. (E f).started) a.1 ∙ ap (λ (x : Epoch). x.started) is) (acked E is o))
@@ -150,7 +151,7 @@ start_keeps S w q i a =
     acked : (E : ℕ → Epoch) → E q ≡ starting e → NodeOk E c n → length n.saved.entries ≤ (E n.saved.installed).acked
     acked E is o = let s : (E n.saved.installed).acked ≡ length e.base = ap (λ (x : Epoch). x.acked) (ap E at_q ∙ is) in omega (arith, s, entries)
 
-join_keeps : (S : Setting) (w : Memberships) (m q : ℕ) → Holds S w → Allowed S w (Join m q) → Holds S (after w (Join m q))
+join_keeps : (S : Setting) (w : Memberships) (m q : ℕ) → Holds S w → Allowed S w (Join m q) → Goes S w (after w (Join m q))
 join_keeps S w m q i a =
     kept_at_node S w m (joining n) i (NodeSteps.join_grows n)
         (NodeSteps.join_node w.epoch m n (i.node m) (omega (arith, a.1, positive)) (a.1 ∙ sym a.2) started acked)
@@ -195,7 +196,7 @@ president S w q i a = record {
     log : length (w.node c).saved.entries ≡ length (w.epoch q).log
     log = (i.leads c).log a.0 (ap coordinator a.1) ∙ ap (λ f. length (w.epoch f).log) a.1
 
-propose_keeps : (S : Setting) (w : Memberships) (q : ℕ) (u : Update) → Holds S w → Allowed S w (Propose q u) → Holds S (after w (Propose q u))
+propose_keeps : (S : Setting) (w : Memberships) (q : ℕ) (u : Update) → Holds S w → Allowed S w (Propose q u) → Goes S w (after w (Propose q u))
 propose_keeps S w q u i a =
     kept_at_both S w c (appending n q u) q (proposing e u) i refl p.positive (NodeSteps.append_grows w.epoch c n q u (i.node c) a.0.0 a.0.1) (EpochSteps.propose_grows S w.node q e u (i.epoch q))
         (λ E is o. NodeSteps.append_node E c n q u o a.0.0 a.0.1 (subst (λ (x : Epoch). length n.saved.entries ≤ x.acked) (sym is) (omega (arith, all)))
@@ -219,7 +220,7 @@ propose_keeps S w q u i a =
     next : n.saved.entries ++ u ∷ [] ≡ take (suc (length n.saved.entries)) (e.log ++ u ∷ [])
     next = ap (λ (xs : List Update). xs ++ u ∷ []) p.entries ∙ sym (take_all (suc (length n.saved.entries)) (e.log ++ u ∷ []) (omega (arith, more)))
 
-propose_lost_keeps : (S : Setting) (w : Memberships) (q : ℕ) (u : Update) → Holds S w → Allowed S w (Propose_lost q u) → Holds S (after w (Propose_lost q u))
+propose_lost_keeps : (S : Setting) (w : Memberships) (q : ℕ) (u : Update) → Holds S w → Allowed S w (Propose_lost q u) → Goes S w (after w (Propose_lost q u))
 propose_lost_keeps S w q u i a =
     kept_at_both S w c (crashing n) q (proposing e u) i refl p.positive (NodeSteps.crash_grows n) (EpochSteps.propose_grows S w.node q e u (i.epoch q))
         (λ E is o. NodeSteps.crash_node E c n o)
@@ -235,7 +236,7 @@ propose_lost_keeps S w q u i a =
     p : President w q
     p = president S w q i a.0
 
-prepare_keeps : (S : Setting) (w : Memberships) (m q : ℕ) (u : Update) → Holds S w → Allowed S w (Prepare m q u) → Holds S (after w (Prepare m q u))
+prepare_keeps : (S : Setting) (w : Memberships) (m q : ℕ) (u : Update) → Holds S w → Allowed S w (Prepare m q u) → Goes S w (after w (Prepare m q u))
 prepare_keeps S w m q u i a =
     kept_at_node S w m (appending n q u) i (NodeSteps.append_grows w.epoch m n q u (i.node m) a.0.0 a.0.1)
         (NodeSteps.append_node w.epoch m n q u (i.node m) a.0.0 a.0.1 (omega (arith, within, k.one_proposed started)) next within)
@@ -254,7 +255,7 @@ prepare_keeps S w m q u i a =
     next : n.saved.entries ++ u ∷ [] ≡ take (suc (length n.saved.entries)) (w.epoch q).log
     next = ap (λ (xs : List Update). xs ++ u ∷ []) entries ∙ next_part (length n.saved.entries) (w.epoch q).log u a.2
 
-acknowledge_keeps : (S : Setting) (w : Memberships) (q : ℕ) → Holds S w → Allowed S w (Acknowledge q) → Holds S (after w (Acknowledge q))
+acknowledge_keeps : (S : Setting) (w : Memberships) (q : ℕ) → Holds S w → Allowed S w (Acknowledge q) → Goes S w (after w (Acknowledge q))
 acknowledge_keeps S w q i a =
     kept_at_both S w c (committing n) q (acknowledging e) i refl p.positive (NodeSteps.commit_grows n) (EpochSteps.acknowledge_grows S w.node q e (i.epoch q))
         (λ E is o. NodeSteps.commit_node E c n o a.0.0 (let s : (E n.saved.installed).acked ≡ length e.log = ap (λ (x : Epoch). x.acked) (ap E p.installed ∙ is) in omega (arith, s, p.log)))
@@ -270,7 +271,7 @@ acknowledge_keeps S w q i a =
     p : President w q
     p = president S w q i a.0
 
-commit_keeps : (S : Setting) (w : Memberships) (m q : ℕ) → Holds S w → Allowed S w (Commit m q) → Holds S (after w (Commit m q))
+commit_keeps : (S : Setting) (w : Memberships) (m q : ℕ) → Holds S w → Allowed S w (Commit m q) → Goes S w (after w (Commit m q))
 commit_keeps S w m q i a =
     kept_at_node S w m (committing n) i (NodeSteps.commit_grows n) (NodeSteps.commit_node w.epoch m n (i.node m) a.0.0 (subst (λ f. length n.saved.entries ≤ (w.epoch f).acked) (sym a.0.1 ∙ (i.node m).member_installed a.0.0) a.2))
         (Leaders.follows_other w.epoch m (committing n) (λ d. a.1 (sym d ∙ ap coordinator a.0.1)))
@@ -278,10 +279,10 @@ commit_keeps S w m q i a =
     n : Node
     n = w.node m
 
-crash_keeps : (S : Setting) (w : Memberships) (m : ℕ) → Holds S w → Holds S (after w (Crash m))
+crash_keeps : (S : Setting) (w : Memberships) (m : ℕ) → Holds S w → Goes S w (after w (Crash m))
 crash_keeps S w m i = kept_at_node S w m (crashing (w.node m)) i (NodeSteps.crash_grows (w.node m)) (NodeSteps.crash_node w.epoch m (w.node m) (i.node m)) (Leaders.leads_down w.epoch m (crashing (w.node m)) refl refl)
 
-pub event_keeps : (S : Setting) (w : Memberships) (e : Event) → Holds S w → Allowed S w e → Holds S (after w e)
+pub event_keeps : (S : Setting) (w : Memberships) (e : Event) → Holds S w → Allowed S w e → Goes S w (after w e)
 event_keeps S w (Begin q members) i a = begin_keeps S w q members i a
 event_keeps S w (Promise m q) i a = promise_keeps S w m q i a
 event_keeps S w (Count q n devices) i a = count_keeps S w q n devices i a
@@ -294,3 +295,39 @@ event_keeps S w (Prepare m q u) i a = prepare_keeps S w m q u i a
 event_keeps S w (Acknowledge q) i a = acknowledge_keeps S w q i a
 event_keeps S w (Commit m q) i a = commit_keeps S w m q i a
 event_keeps S w (Crash m) i a = crash_keeps S w m i
+
+-- so every run does, and all that grows grows over it
+pub run_goes : (S : Setting) (w : Memberships) (es : List Event) (v : Memberships) → Holds S w → Run S w es v → Goes S w v
+run_goes S w [] v i r = subst (λ x. Goes S w x) (sym r) (record { holds = i; grows = grows_same S w i })
+run_goes S w (e ∷ es) v i r = on (event_keeps S w e i r.0) (λ h. run_goes S (after w e) es v h r.1)
+  where
+    on : Goes S w (after w e) → (Holds S (after w e) → Goes S (after w e) v) → Goes S w v
+    on g f = record { holds = (f g.holds).holds; grows = grows_over w (after w e) v g.grows (f g.holds).grows }
+
+-- and it stands at first
+pub first_holds : (S : Setting) → Holds S first_memberships
+first_holds S = record { node = first_node_ok; leads = λ m. Leaders.leads_down (λ _. no_epoch) m first_node refl refl; epoch = first_epoch_ok S }
+  where
+    first_fits : Fits first_node.saved no_epoch
+    first_fits = record { counted = λ h. absurd (omega arith); entries = refl; within = omega arith; base = omega arith }
+    first_commits : Commits first_node.saved no_epoch
+    first_commits = record { within = omega arith; one_pending = omega arith; acked = λ h. omega arith; settled = λ h. omega arith }
+    first_node_ok : (m : ℕ) → NodeOk (λ _. no_epoch) m first_node
+    first_node_ok m = record {
+      session = λ h. refl; installed = omega arith; member_sits = λ h. absurd (cc); member_installed = λ h. refl; member_started = λ h. absurd (cc);
+      seeking_session = λ h. refl; seeking_own = λ h. absurd (cc); seeking_tried = λ h. absurd (cc); seeking_installs = λ h. absurd (cc);
+      fits = first_fits; commits = first_commits; ready_last = λ h. absurd (omega arith); reached_last = refl;
+      ready_installed = λ f h. absurd (cc); ready_counted = λ f h. absurd (cc); ready_member = λ f h. absurd (cc); ready_base = λ f h. absurd (cc);
+      installed_alone = λ p s h. refl; answered_promised = λ q h. absurd (cc); answered_session = λ p. absurd (omega arith); showed_again = λ p l. refl;
+      showed_installed = λ q h. absurd (cc); showed_fits = λ q h. first_fits; showed_commits = λ q h. first_commits; showed_ready = λ q h p. absurd (cc);
+      showed_greatest = λ q f h. absurd (cc); showed_all = λ q h. absurd (cc) }
+    first_epoch_ok : (S : Setting) (q : ℕ) → EpochOk S (λ _. first_node) q no_epoch
+    first_epoch_ok S q = record {
+      tried_positive = λ h. absurd (cc); tried_promised = λ h. absurd (cc); tried_member = λ h. absurd (cc); counted_tried = λ h. h; counted_installed = λ h. absurd (cc);
+      started_counted = λ h. h; counted_answered = λ h m i. absurd (cc); newest_member = λ h. absurd (cc); newest_base = λ h. refl; newest_settled = λ h. refl;
+      newest_behind = λ h. absurd (cc); majority_settled = λ h. absurd (cc); majority_base = λ h. absurd (cc); started_ready = λ h. absurd (cc); started_reached = λ h. absurd (cc);
+      one_proposed = λ h. omega arith; base_acked = λ h. omega arith; acked_log = omega arith; settled_base = omega arith; one_pending = omega arith; base_log = refl;
+      base_within = omega arith; unstarted_log = λ h. refl; unstarted_acked = λ h. refl; uncounted_base = λ h. refl }
+
+pub holds_of : (S : Setting) (es : List Event) (w : Memberships) → Run S first_memberships es w → Holds S w
+holds_of S es w r = (run_goes S first_memberships es w (first_holds S) r).holds

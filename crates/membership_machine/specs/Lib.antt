@@ -5,3 +5,4 @@ pub mod Steps
 pub mod Events
 pub mod Starts
 pub mod Invariant
+pub mod Growth
