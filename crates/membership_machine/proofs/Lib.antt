@@ -7,3 +7,4 @@ pub mod NodeSteps
 pub mod EpochSteps
 pub mod Leaders
 pub mod Preserved
+pub mod Lineages

@@ -6,3 +6,4 @@ pub mod Events
 pub mod Starts
 pub mod Invariant
 pub mod Growth
+pub mod Parts

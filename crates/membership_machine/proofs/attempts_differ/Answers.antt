@@ -1,0 +1,4 @@
+use Rattle.membership_machine.proofs.Preserved.{holds_of}
+use Rattle.membership_machine.proofs.Lineages.{attempts}
+
+returns c = λ S es w r. attempts S w (holds_of S es w r)

@@ -1,0 +1,4 @@
+use Rattle.membership_machine.proofs.Preserved.{holds_of}
+use Rattle.membership_machine.proofs.Lineages.{first_empty}
+
+returns c = λ S es w q r meet k z. first_empty S w (holds_of S es w r) meet q k z

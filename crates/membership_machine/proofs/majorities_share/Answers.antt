@@ -1,0 +1,3 @@
+use Rattle.membership_machine.proofs.Lineages.{majorities}
+
+returns c = majorities
