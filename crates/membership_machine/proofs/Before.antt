@@ -1,7 +1,6 @@
 -- Laws of the last start below a number.
-use Rattle.std.proofs.Common.{ℕ, zero, suc, ◌+◌, ◌<◌, ◌≤◌, ◌≡◌, ◌⊎◌, inl, inr, refl, sym, ap, subst, Bool, true, false, arith, eq-or-lt_of_le}
-use Rattle.std.specs.Prelude.{if◌then◌else◌}
-use Rattle.membership_machine.specs.State.{Memberships, Epoch}
+use Rattle.std.proofs.Common.{ℕ, zero, suc, ◌<◌, ◌≤◌, ◌≡◌, ◌⊎◌, inl, inr, refl, sym, ap, subst, Bool, true, false, arith, eq-or-lt_of_le}
+use Rattle.membership_machine.specs.State.{Memberships}
 use Rattle.membership_machine.specs.Starts.{last_start}
 
 abbrev starts : Memberships → ℕ → Bool
@@ -46,6 +45,7 @@ none_between w (suc q) t h k = go (starts w q) refl (none_between w q t) (eq-or-
   where
     le_of : (t q : ℕ) → t < suc q → t ≤ q
     le_of t q k = omega arith
+
     go : (b : Bool) → starts w q ≡ b → (last_start w q < t → t < q → starts w t ≡ false) → (t ≡ q) ⊎ (t < q) → starts w t ≡ false
     go true e ih c = absurd (omega (arith, last_here w q e))
     go false e ih (inl s) = subst (λ i. starts w i ≡ false) (sym s) e
@@ -58,6 +58,7 @@ last_greatest w (suc q) t h k = go (starts w q) refl (last_greatest w q t h) (eq
   where
     le_of : (t q : ℕ) → t < suc q → t ≤ q
     le_of t q k = omega arith
+
     go : (b : Bool) → starts w q ≡ b → (t < q → t ≤ last_start w q) → (t ≡ q) ⊎ (t < q) → t ≤ last_start w (suc q)
     go true e ih c = rw (last_here w q e) (omega arith)
     go false e ih (inl s) = let f : starts w q ≡ true = subst (λ i. starts w i ≡ true) s h in absurd (cc)
@@ -87,9 +88,11 @@ first_after w g (suc q) h = go (starts w q) refl (first_after w g q)
   where
     on : FirstAfter w g q → FirstAfter w g (suc q)
     on f = record { start = f.start; above = f.above; below = omega (arith, f.below); started = f.started; first = f.first }
+
     split : starts w q ≡ true → (g < last_start w q → FirstAfter w g q) → (last_start w q ≤ g) ⊎ (g < last_start w q) → FirstAfter w g (suc q)
     split e ih (inl k) = record { start = q; above = subst (λ i. g < i) (last_here w q e) h; below = omega arith; started = e; first = k }
     split e ih (inr k) = on (ih k)
+
     go : (b : Bool) → starts w q ≡ b → (g < last_start w q → FirstAfter w g q) → FirstAfter w g (suc q)
     go true e ih = split e ih (grind arith)
     go false e ih = on (ih (subst (λ i. g < i) (last_on w q e) h))

@@ -1,9 +1,9 @@
 -- What each step makes of an epoch keeps what is known of it, and the epoch grows by it.
-use Rattle.std.proofs.Common.{ℕ, zero, suc, ◌+◌, ◌<◌, ◌≤◌, ◌≡◌, ◌≢◌, ◌⊎◌, inl, inr, refl, sym, ap, ◌∙◌, subst, Bool, true, false, List, [], ◌∷◌, ◌++◌, length, take, arith, length-append, take_all}
+use Rattle.std.proofs.Common.{ℕ, suc, ◌+◌, ◌<◌, ◌≤◌, ◌≡◌, refl, sym, ap, ◌∙◌, subst, Bool, true, false, List, [], ◌∷◌, ◌++◌, length, take, arith, length-append, take_all}
 use Rattle.std.proofs.lemmas.List.{take-append-le}
 use Rattle.machine_base.specs.Epochs.{coordinator}
 use Rattle.membership_machine.specs.Records.{Update, Saved, IsBehind}
-use Rattle.membership_machine.specs.Votes.{Setting, IsMajority}
+use Rattle.membership_machine.specs.Votes.{Setting}
 use Rattle.membership_machine.specs.State.{Node, Epoch}
 use Rattle.membership_machine.specs.Steps.{beginning, counting, starting, proposing, acknowledging}
 use Rattle.membership_machine.specs.Events.{IsCounted}
@@ -39,7 +39,8 @@ begin_epoch S N q e members k c s p pr own = record {
   base_within = k.base_within;
   unstarted_log = k.unstarted_log;
   unstarted_acked = k.unstarted_acked;
-  uncounted_base = k.uncounted_base }
+  uncounted_base = k.uncounted_base;
+}
 
 pub begin_grows : (e : Epoch) (members : ℕ → Bool) → e.tried ≡ false → e.started ≡ false → EpochGrows e (beginning e members)
 begin_grows e members t s = record {
@@ -53,7 +54,8 @@ begin_grows e members t s = record {
   acked = omega arith;
   log = sym (take_all (length e.log) e.log (omega arith));
   log_length = omega arith;
-  covered = λ h. absurd (cc) }
+  covered = λ h. absurd (cc);
+}
 
 -- Count
 
@@ -86,7 +88,8 @@ count_epoch S N q e n devices r k t s i all mem is behind counted low one = reco
   base_within = omega arith;
   unstarted_log = λ h. refl;
   unstarted_acked = k.unstarted_acked;
-  uncounted_base = λ h. absurd (cc) }
+  uncounted_base = λ h. absurd (cc);
+}
 
 pub count_grows : (S : Setting) (N : ℕ → Node) (q : ℕ) (e : Epoch) (n : ℕ) (devices : ℕ → Bool) (r : Saved) → EpochOk S N q e → e.counted ≡ false → e.started ≡ false → EpochGrows e (counting e n devices r)
 count_grows S N q e n devices r k c s = record {
@@ -100,7 +103,8 @@ count_grows S N q e n devices r k c s = record {
   acked = omega arith;
   log = subst (λ (xs : List Update). xs ≡ take (length xs) r.entries) (sym empty) refl;
   log_length = rw empty (omega arith);
-  covered = λ h. absurd (cc) }
+  covered = λ h. absurd (cc);
+}
   where
     empty : e.log ≡ []
     empty = k.unstarted_log s ∙ k.uncounted_base c
@@ -134,7 +138,8 @@ start_epoch S N q e k c s ready reached = record {
   base_within = k.base_within;
   unstarted_log = λ h. absurd (cc);
   unstarted_acked = λ h. absurd (cc);
-  uncounted_base = k.uncounted_base }
+  uncounted_base = k.uncounted_base;
+}
 
 pub start_grows : (S : Setting) (N : ℕ → Node) (q : ℕ) (e : Epoch) → EpochOk S N q e → e.started ≡ false → EpochGrows e (starting e)
 start_grows S N q e k s = record {
@@ -148,7 +153,8 @@ start_grows S N q e k s = record {
   acked = omega (arith, k.unstarted_acked s);
   log = sym (take_all (length e.log) e.log (omega arith));
   log_length = omega arith;
-  covered = λ h. k.settled_base }
+  covered = λ h. k.settled_base;
+}
 
 -- Propose
 
@@ -178,7 +184,8 @@ propose_epoch S N q e u k s l = record {
   base_within = omega (arith, more, k.base_within);
   unstarted_log = λ h. absurd (cc);
   unstarted_acked = k.unstarted_acked;
-  uncounted_base = k.uncounted_base }
+  uncounted_base = k.uncounted_base;
+}
   where
     more : length (e.log ++ u ∷ []) ≡ suc (length e.log)
     more = omega (arith, length-append {A = Update})
@@ -195,7 +202,8 @@ propose_grows S N q e u k = record {
   acked = omega arith;
   log = sym (take_all (length e.log) e.log (omega arith)) ∙ sym (take-append-le (length e.log) e.log (u ∷ []) (omega arith));
   log_length = omega (arith, length-append {A = Update});
-  covered = λ h. omega (arith, k.base_acked h, k.settled_base) }
+  covered = λ h. omega (arith, k.base_acked h, k.settled_base);
+}
 
 -- Acknowledge
 
@@ -226,7 +234,8 @@ acknowledge_epoch S N q e k s all = record {
   base_within = k.base_within;
   unstarted_log = k.unstarted_log;
   unstarted_acked = λ h. absurd (cc);
-  uncounted_base = k.uncounted_base }
+  uncounted_base = k.uncounted_base;
+}
 
 pub acknowledge_grows : (S : Setting) (N : ℕ → Node) (q : ℕ) (e : Epoch) → EpochOk S N q e → EpochGrows e (acknowledging e)
 acknowledge_grows S N q e k = record {
@@ -240,4 +249,5 @@ acknowledge_grows S N q e k = record {
   acked = k.acked_log;
   log = sym (take_all (length e.log) e.log (omega arith));
   log_length = omega arith;
-  covered = λ h. omega (arith, k.base_within, k.settled_base) }
+  covered = λ h. omega (arith, k.base_within, k.settled_base);
+}

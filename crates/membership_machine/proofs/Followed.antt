@@ -1,13 +1,13 @@
 -- Every attempt that counted its votes stands on the last start below it. This is of one state, by induction on the epoch.
-use Rattle.std.proofs.Common.{ℕ, zero, suc, ◌+◌, ◌<◌, ◌≤◌, ◌≡◌, ◌⊎◌, inl, inr, refl, sym, ap, ◌∙◌, subst, Bool, true, false, List, [], length, take, arith, take_all, take-take, eq-or-lt_of_le, eq-zero-or-pos}
+use Rattle.std.proofs.Common.{ℕ, zero, suc, ◌+◌, ◌<◌, ◌≤◌, ◌≡◌, ◌⊎◌, inl, inr, refl, sym, ap, ◌∙◌, subst, Bool, true, false, List, length, take, arith, take_all, eq-or-lt_of_le, eq-zero-or-pos}
 use Rattle.membership_machine.specs.Records.{Update, Saved, IsBehind}
-use Rattle.membership_machine.specs.Votes.{Votes, Setting, IsMajority}
+use Rattle.membership_machine.specs.Votes.{Setting, IsMajority}
 use Rattle.membership_machine.specs.State.{Node, Epoch, Memberships}
-use Rattle.membership_machine.specs.Starts.{last_start, Follows, HasVotes, Meeting, DevicesMeet}
+use Rattle.membership_machine.specs.Starts.{last_start, HasVotes, Meeting, DevicesMeet}
 use Rattle.membership_machine.specs.Invariant.{Fits, Commits, NodeOk, EpochOk, Holds}
 use Rattle.membership_machine.proofs.Majorities.{Common, majorities_share}
 use Rattle.membership_machine.proofs.Prefixes.{first_of_part}
-use Rattle.membership_machine.proofs.Before.{last_within, last_below, last_started, none_between, last_of_between, FirstAfter, first_after}
+use Rattle.membership_machine.proofs.Before.{last_started, none_between, last_of_between, FirstAfter, first_after}
 
 -- what is known of the newest record of attempt q, which was installed in g
 pub record NewestIs (w : Memberships) (q g : ℕ) : Type 0 where
@@ -39,7 +39,8 @@ newest_from w q n r b s below f c a behind = record {
   acked = λ h. rw s (c.acked h);
   settled = λ h. rw s (c.settled h);
   all_saved = λ p v h. rw b (a p v h);
-  none_newer = λ m h. behind_installed _ _ (behind m h) }
+  none_newer = λ m h. behind_installed _ _ (behind m h);
+}
 
 source_saved : (w : Memberships) (q n g : ℕ) (r : Saved) (o : NodeOk w.epoch n (w.node n)) → (w.node n).answered q ≡ true → (w.node n).showed q ≡ r → r.installed ≡ g
     → 0 < g → (v : ℕ) → ((m : ℕ) → (w.epoch g).members m ≡ true → v ≤ (w.node m).reached g) → v ≤ length r.entries
@@ -57,7 +58,7 @@ newest_is S w i q h =
     let o : NodeOk w.epoch n (w.node n) = i.node n in
     let a : (w.node n).answered q ≡ true = e.counted_answered h n (e.newest_member h) in
     newest_from w q n ((w.node n).showed q) (e.newest_base h) (e.newest_settled h) (o.showed_installed q a) (o.showed_fits q a) (o.showed_commits q a)
-        (source_saved w q n _ _ o a refl refl) (e.newest_behind h)
+    (source_saved w q n _ _ o a refl refl) (e.newest_behind h)
 
 -- Attempt q stands on start s: its base is a first part of what was ever proposed there, at least all that is acknowledged, and
 -- at most one more is pending in it than is acknowledged; and it has whatever every member of s has saved.
@@ -77,7 +78,8 @@ on_start S w q s e n p h = record {
   settled = n.acked h;
   acked = n.all_saved p (w.epoch s).acked (e.started_reached h);
   one_pending = n.one_pending;
-  all_saved = n.all_saved }
+  all_saved = n.all_saved;
+}
 
 -- nothing was ever installed
 on_nothing : (S : Setting) (w : Memberships) (q : ℕ) → EpochOk S w.node 0 (w.epoch 0) → NewestIs w q 0 → (w.epoch 0).started ≡ false → StandsOn w q 0
@@ -85,16 +87,19 @@ on_nothing S w q e n h = record {
   begins = n.entries;
   within = n.within;
   settled = let k : (w.epoch q).settled ≤ (w.epoch 0).settled = n.settled h in let b : (w.epoch 0).settled ≤ length (w.epoch 0).base = e.settled_base in
-    let l : length (w.epoch 0).base ≡ 0 = ap length (e.uncounted_base (zero_uncounted S w.node (w.epoch 0) e)) in omega arith;
+      let l : length (w.epoch 0).base ≡ 0 = ap length (e.uncounted_base (zero_uncounted S w.node (w.epoch 0) e)) in omega arith;
   acked = let a : (w.epoch 0).acked ≡ 0 = e.unstarted_acked h in omega arith;
   one_pending = n.one_pending;
-  all_saved = λ p v k. absurd (omega arith) }
+  all_saved = λ p v k. absurd (omega arith);
+}
   where
     not_below : (S : Setting) (N : ℕ → Node) (e : Epoch) → EpochOk S N 0 e → e.counted ≡ true → ⊥
     not_below S N e k c = omega (arith, k.tried_positive (k.counted_tried c))
+
     zero_case : (S : Setting) (N : ℕ → Node) (e : Epoch) → EpochOk S N 0 e → (b : Bool) → e.counted ≡ b → e.counted ≡ false
     zero_case S N e k true c = absurd (not_below S N e k c)
     zero_case S N e k false c = c
+
     zero_uncounted : (S : Setting) (N : ℕ → Node) (e : Epoch) → EpochOk S N 0 e → e.counted ≡ false
     zero_uncounted S N e k = zero_case S N e k e.counted refl
 
@@ -111,7 +116,8 @@ on_attempt S w q g s e n h on =
       settled = omega (arith, on.settled, n.settled h);
       acked = omega (arith, on.acked);
       one_pending = n.one_pending;
-      all_saved = λ p v k. rw same_length (on.all_saved p v k) }
+      all_saved = λ p v k. rw same_length (on.all_saved p v k);
+    }
 
 -- Whichever of these g is, q stands on s.
 stands : (S : Setting) (w : Memberships) → Holds S w → (q g s : ℕ) → NewestIs w q g → (0 < s → (w.epoch s).started ≡ true)
@@ -121,9 +127,11 @@ stands S w i q g s n st (inl e) = go (eq-zero-or-pos s)
   where
     there : NewestIs w q s
     there = subst (λ f. NewestIs w q f) (sym e) n
+
     zero_unstarted : (b : Bool) → (w.epoch 0).started ≡ b → (w.epoch 0).started ≡ false
     zero_unstarted true h = absurd (omega (arith, (i.epoch 0).tried_positive ((i.epoch 0).counted_tried ((i.epoch 0).started_counted h))))
     zero_unstarted false h = h
+
     go : (s ≡ 0) ⊎ (0 < s) → StandsOn w q s
     go (inl z) = subst (λ f. StandsOn w q f) (sym z) (on_nothing S w q (i.epoch 0) (subst (λ f. NewestIs w q f) z there) (zero_unstarted (w.epoch 0).started refl))
     go (inr p) = on_start S w q s (i.epoch s) there p (st p)
@@ -135,6 +143,7 @@ acked_part w q s on = go (cases (w.epoch q).settled (w.epoch s).acked (length (w
   where
     cases : (a b c : ℕ) → a ≤ b → b ≤ c → c ≤ a + 1 → (b ≡ a) ⊎ (b ≡ c)
     cases a b c h k l = grind arith
+
     go : ((w.epoch s).acked ≡ (w.epoch q).settled) ⊎ ((w.epoch s).acked ≡ length (w.epoch q).base)
         → (take (w.epoch s).acked (w.epoch s).log ≡ take (w.epoch q).settled (w.epoch q).base) ⊎ (take (w.epoch s).acked (w.epoch s).log ≡ (w.epoch q).base)
     go (inl e) = inl (ap (λ k. take k (w.epoch s).log) e ∙ sym (first_of_part (w.epoch q).settled (w.epoch q).base (w.epoch s).log on.begins (omega (arith, on.acked))))
@@ -171,10 +180,11 @@ clash : (S : Setting) (w : Memberships) → Holds S w → DevicesMeet S w → (t
     → StandsOn w t s → StandsOn w q s → ⊥
 clash S w i meet t q g s st h n gt tq ont onq =
     go (majorities_share S (S.config (take (w.epoch s).acked (w.epoch s).log)) (w.epoch t).members (w.epoch q).members (w.epoch t).holds (w.epoch q).holds
-        (majority_on S w t s (i.epoch t) ((i.epoch t).started_counted st) ont) (majority_on S w q s (i.epoch q) h onq))
+    (majority_on S w t s (i.epoch t) ((i.epoch t).started_counted st) ont) (majority_on S w q s (i.epoch q) h onq))
   where
     met : Meeting w t q → ⊥
     met p = knows_newer S w i t q g p.node st h n gt tq p.later_member p.knows
+
     go : Common (S.config (take (w.epoch s).acked (w.epoch s).log)).of_node (w.epoch t).members (w.epoch q).members
         ⊎ Common (S.config (take (w.epoch s).acked (w.epoch s).log)).of_device (w.epoch t).holds (w.epoch q).holds → ⊥
     go (inl p) = knows_newer S w i t q g p.one st h n gt tq p.second (inl p.first)
@@ -191,10 +201,13 @@ follow S w i meet (suc n) q k h = step S w i meet n q k h (λ t l c. follow S w 
       where
         g : ℕ
         g = ((w.node (w.epoch q).newest).showed q).installed
+
         new : NewestIs w q g
         new = newest_is S w i q h
+
         order : (a b : ℕ) → (a < b) ⊎ (b ≤ a)
         order a b = grind arith
+
         -- q stands on the last start below t, where g stands between them
         over : (t : ℕ) → last_start w t ≤ g → g < t → t ≤ q → StandsOn w q (last_start w t)
         over t l gt tq = stands S w i q g (last_start w t) new (last_started w t) (cases (eq-or-lt_of_le l))
@@ -202,6 +215,7 @@ follow S w i meet (suc n) q k h = step S w i meet n q k h (λ t l c. follow S w 
             cases : (last_start w t ≡ g) ⊎ (last_start w t < g) → (last_start w t ≡ g) ⊎ (((w.epoch g).started ≡ false) × StandsOn w g (last_start w t))
             cases (inl e) = inl e
             cases (inr s) = inr (none_between w t g s gt, subst (λ f. StandsOn w g f) (last_of_between w t g s (omega arith)) (ih g (omega (arith, new.below)) (new.counted (omega arith))))
+
         which : (g < last_start w q) ⊎ (last_start w q ≤ g) → StandsOn w q (last_start w q)
         which (inr l) = over q l new.below (omega arith)
         which (inl l) = first (first_after w g q l)

@@ -1,9 +1,9 @@
 -- How nodes and epochs grow, and that what is known of the one stays while the other grows.
-use Rattle.std.proofs.Common.{ℕ, zero, suc, ◌+◌, ◌<◌, ◌≤◌, ◌≡◌, ◌≢◌, ◌⊎◌, inl, inr, refl, sym, ap, ◌∙◌, subst, Bool, true, false, List, [], length, take, arith, take_all, take-take, eq-zero-or-pos}
+use Rattle.std.proofs.Common.{ℕ, ◌<◌, ◌≤◌, ◌≡◌, ◌≢◌, ◌⊎◌, inl, inr, refl, sym, ap, ◌∙◌, subst, true, false, length, take, arith, take_all, take-take, eq-zero-or-pos}
 use Rattle.machine_base.specs.Put.{put}
 use Rattle.machine_base.specs.Epochs.{coordinator}
-use Rattle.machine_base.proofs.Puts.{put_cases, put_here, put_there, true_or_false, same_or_not}
-use Rattle.membership_machine.specs.Records.{Update, Saved, IsBehind}
+use Rattle.machine_base.proofs.Puts.{put_cases, put_here, put_there, true_or_false}
+use Rattle.membership_machine.specs.Records.{Saved}
 use Rattle.membership_machine.specs.Votes.{Setting}
 use Rattle.membership_machine.specs.State.{Node, Epoch, Memberships}
 use Rattle.membership_machine.specs.Events.{at_node, at_both}
@@ -19,9 +19,19 @@ pub node_same : (n : Node) → NodeGrows n n
 node_same n = record { promised = omega arith; installed = omega arith; answered = λ q h. h; showed = λ q h. refl; ready = λ f h. h; reached = λ f h. omega arith }
 
 pub epoch_same : (S : Setting) (N : ℕ → Node) (q : ℕ) (e : Epoch) → EpochOk S N q e → EpochGrows e e
-epoch_same S N q e k = record { tried = λ h. h; members = λ h m. refl; counted = λ h. h; holds = λ h d. refl; base = λ h. refl; settled = λ h. refl; started = λ h. h; acked = omega arith;
-  log = sym (take_all (length e.log) e.log (omega arith)); log_length = omega arith;
-  covered = λ h. let a : length e.base ≤ e.acked = k.base_acked h in let b : e.settled ≤ length e.base = k.settled_base in omega arith }
+epoch_same S N q e k = record {
+  tried = λ h. h;
+  members = λ h m. refl;
+  counted = λ h. h;
+  holds = λ h d. refl;
+  base = λ h. refl;
+  settled = λ h. refl;
+  started = λ h. h;
+  acked = omega arith;
+  log = sym (take_all (length e.log) e.log (omega arith));
+  log_length = omega arith;
+  covered = λ h. let a : length e.base ≤ e.acked = k.base_acked h in let b : e.settled ≤ length e.base = k.settled_base in omega arith;
+}
 
 fits_stays : (r : Saved) (e e' : Epoch) → (e.counted ≡ true) ⊎ (e' ≡ e) → EpochGrows e e' → Fits r e → Fits r e'
 fits_stays r e e' (inr s) g f = subst (λ (x : Epoch). Fits r x) (sym s) f
@@ -29,7 +39,8 @@ fits_stays r e e' (inl c) g f = record {
   counted = λ h. g.counted c;
   entries = f.entries ∙ ap (take (length r.entries)) g.log ∙ take-take (length r.entries) (length e.log) e'.log f.within;
   within = omega (arith, f.within, g.log_length);
-  base = rw (g.base c) f.base }
+  base = rw (g.base c) f.base;
+}
 
 commits_stays : (r : Saved) (e e' : Epoch) → (e.counted ≡ true) ⊎ (e' ≡ e) → EpochGrows e e' → Commits r e → Commits r e'
 commits_stays r e e' (inr s) g k = subst (λ (x : Epoch). Commits r x) (sym s) k
@@ -37,11 +48,13 @@ commits_stays r e e' (inl c) g k = record {
   within = k.within;
   one_pending = k.one_pending;
   acked = λ h. acked_by h (true_or_false e.started);
-  settled = λ h. rw (g.settled c) (k.settled (unstarted h (true_or_false e.started))) }
+  settled = λ h. rw (g.settled c) (k.settled (unstarted h (true_or_false e.started)));
+}
   where
     acked_by : e'.started ≡ true → (e.started ≡ true) ⊎ (e.started ≡ false) → r.committed ≤ e'.acked
     acked_by h (inl s) = omega (arith, k.acked s, g.acked)
     acked_by h (inr s) = omega (arith, k.settled s, g.settled c, g.covered h)
+
     unstarted : e'.started ≡ false → (e.started ≡ true) ⊎ (e.started ≡ false) → e.started ≡ false
     unstarted h (inl s) = let t : e'.started ≡ true = g.started s in absurd (cc)
     unstarted h (inr s) = s
@@ -82,7 +95,8 @@ node_stays E E' m n g z t o = record {
   showed_commits = λ q h. commits_stays (n.showed q) (E (n.showed q).installed) (E' (n.showed q).installed) (counted_or_first E E' (n.showed q).installed z (o.showed_fits q h).counted) (g (n.showed q).installed) (o.showed_commits q h);
   showed_ready = o.showed_ready;
   showed_greatest = o.showed_greatest;
-  showed_all = o.showed_all }
+  showed_all = o.showed_all;
+}
 
 -- what is known of an epoch stays while nodes grow
 pub epoch_stays : (S : Setting) (N N' : ℕ → Node) (q : ℕ) (e : Epoch) → ((m : ℕ) → NodeGrows (N m) (N' m)) → EpochOk S N q e → EpochOk S N' q e
@@ -111,7 +125,8 @@ epoch_stays S N N' q e g k = record {
   base_within = k.base_within;
   unstarted_log = k.unstarted_log;
   unstarted_acked = k.unstarted_acked;
-  uncounted_base = k.uncounted_base }
+  uncounted_base = k.uncounted_base;
+}
   where
     newest_same : e.counted ≡ true → (N' e.newest).showed q ≡ (N e.newest).showed q
     newest_same h = (g e.newest).showed q (k.counted_answered h e.newest (k.newest_member h))
@@ -121,10 +136,12 @@ leads_stays : (E : ℕ → Epoch) (q : ℕ) (e : Epoch) (k : ℕ) (n : Node) →
 leads_stays E q e k n ne l = record {
   sits = λ p c s. l.sits p c (subst (λ (x : Epoch). x.started ≡ true) (there c) s);
   log = λ p c. rw (there c) (l.log p c);
-  acked = λ p c. rw (there c) (l.acked p c) }
+  acked = λ p c. rw (there c) (l.acked p c);
+}
   where
     other : coordinator n.session ≡ k → n.session ≢ q
     other c s = ne (ap coordinator (sym s) ∙ c)
+
     there : coordinator n.session ≡ k → put E q e n.session ≡ E n.session
     there c = put_there E q e n.session (other c)
 
@@ -136,11 +153,14 @@ epochs_grow S w i q e g = put_cases (λ k x. EpochGrows (w.epoch k) x) w.epoch q
 
 -- one node steps
 pub kept_at_node : (S : Setting) (w : Memberships) (m : ℕ) (n : Node) → Holds S w → NodeGrows (w.node m) n → NodeOk w.epoch m n → Leads w.epoch m n → Goes S w (at_node w m n)
-kept_at_node S w m n i g o l = record { holds = record {
-  node = put_cases (λ k x. NodeOk w.epoch k x) w.node m n o (λ k ne. i.node k);
-  leads = put_cases (λ k x. Leads w.epoch k x) w.node m n l (λ k ne. i.leads k);
-  epoch = λ q. epoch_stays S w.node (put w.node m n) q (w.epoch q) (nodes_grow w.node m n g) (i.epoch q) };
-  grows = record { node = nodes_grow w.node m n g; epoch = λ q. epoch_same S w.node q (w.epoch q) (i.epoch q) } }
+kept_at_node S w m n i g o l = record {
+  holds = record {
+    node = put_cases (λ k x. NodeOk w.epoch k x) w.node m n o (λ k ne. i.node k);
+    leads = put_cases (λ k x. Leads w.epoch k x) w.node m n l (λ k ne. i.leads k);
+    epoch = λ q. epoch_stays S w.node (put w.node m n) q (w.epoch q) (nodes_grow w.node m n g) (i.epoch q);
+  };
+  grows = record { node = nodes_grow w.node m n g; epoch = λ q. epoch_same S w.node q (w.epoch q) (i.epoch q) };
+}
 
 -- one node steps, and with it an epoch that it coordinates
 pub kept_at_both : (S : Setting) (w : Memberships) (m : ℕ) (n : Node) (q : ℕ) (e : Epoch) → Holds S w → coordinator q ≡ m → 0 < q → NodeGrows (w.node m) n → EpochGrows (w.epoch q) e
@@ -148,22 +168,30 @@ pub kept_at_both : (S : Setting) (w : Memberships) (m : ℕ) (n : Node) (q : ℕ
     → ((E : ℕ → Epoch) → E q ≡ e → Leads E m n)
     → ((N : ℕ → Node) → N m ≡ n → ((k : ℕ) → NodeGrows (w.node k) (N k)) → EpochOk S N q (w.epoch q) → EpochOk S N q e)
     → Goes S w (at_both w m n q e)
-kept_at_both S w m n q e i c p gn ge on ol oe = record { holds = record {
-  node = put_cases (λ k x. NodeOk E' k x) w.node m n (on E' (put_here w.epoch q e) (still m)) (λ k ne. still k);
-  leads = put_cases (λ k x. Leads E' k x) w.node m n (ol E' (put_here w.epoch q e)) (λ k ne. leads_stays w.epoch q e k (w.node k) (other k ne) (i.leads k));
-  epoch = put_cases (λ k x. EpochOk S N' k x) w.epoch q e (oe N' (put_here w.node m n) grown (epoch_stays S w.node N' q (w.epoch q) grown (i.epoch q))) (λ k ne. epoch_stays S w.node N' k (w.epoch k) grown (i.epoch k)) };
-  grows = record { node = grown; epoch = epochs_grow S w i q e ge } }
+kept_at_both S w m n q e i c p gn ge on ol oe = record {
+  holds = record {
+    node = put_cases (λ k x. NodeOk E' k x) w.node m n (on E' (put_here w.epoch q e) (still m)) (λ k ne. still k);
+    leads = put_cases (λ k x. Leads E' k x) w.node m n (ol E' (put_here w.epoch q e)) (λ k ne. leads_stays w.epoch q e k (w.node k) (other k ne) (i.leads k));
+    epoch = put_cases (λ k x. EpochOk S N' k x) w.epoch q e (oe N' (put_here w.node m n) grown (epoch_stays S w.node N' q (w.epoch q) grown (i.epoch q))) (λ k ne. epoch_stays S w.node N' k (w.epoch k) grown (i.epoch k));
+  };
+  grows = record { node = grown; epoch = epochs_grow S w i q e ge };
+}
   where
     E' : ℕ → Epoch
     E' = put w.epoch q e
+
     N' : ℕ → Node
     N' = put w.node m n
+
     grown : (k : ℕ) → NodeGrows (w.node k) (N' k)
     grown = nodes_grow w.node m n gn
+
     other : (k : ℕ) → k ≢ m → coordinator q ≢ k
     other k ne d = ne (sym d ∙ c)
+
     not_first : 0 ≢ q
     not_first z = omega arith
+
     still : (k : ℕ) → NodeOk E' k (w.node k)
     still k = node_stays w.epoch E' k (w.node k) (epochs_grow S w i q e ge) (put_there w.epoch q e 0 not_first) (λ f h. (i.epoch f).counted_tried h) (i.node k)
 
@@ -175,7 +203,8 @@ node_over n n' n'' g h = record {
   answered = λ q a. h.answered q (g.answered q a);
   showed = λ q a. h.showed q (g.answered q a) ∙ g.showed q a;
   ready = λ f r. h.ready f (g.ready f r);
-  reached = λ f r. omega (arith, g.reached f r, h.reached f (g.ready f r)) }
+  reached = λ f r. omega (arith, g.reached f r, h.reached f (g.ready f r));
+}
 
 epoch_over : (e e' e'' : Epoch) → EpochGrows e e' → EpochGrows e' e'' → EpochGrows e e''
 epoch_over e e' e'' g h = record {
@@ -189,7 +218,8 @@ epoch_over e e' e'' g h = record {
   acked = omega (arith, g.acked, h.acked);
   log = g.log ∙ ap (take (length e.log)) h.log ∙ take-take (length e.log) (length e'.log) e''.log g.log_length;
   log_length = omega (arith, g.log_length, h.log_length);
-  covered = h.covered }
+  covered = h.covered;
+}
 
 pub grows_over : (u v w : Memberships) → Grows u v → Grows v w → Grows u w
 grows_over u v w g h = record { node = λ m. node_over (u.node m) (v.node m) (w.node m) (g.node m) (h.node m); epoch = λ q. epoch_over (u.epoch q) (v.epoch q) (w.epoch q) (g.epoch q) (h.epoch q) }

@@ -1,10 +1,8 @@
 -- What is known of a coordinator in a session of its own, after each step of a node.
-use Rattle.std.proofs.Common.{ℕ, zero, suc, ◌+◌, ◌<◌, ◌≤◌, ◌≡◌, ◌≢◌, refl, sym, ap, ◌∙◌, subst, Bool, true, false, List, [], ◌∷◌, ◌++◌, length, arith, length-append}
+use Rattle.std.proofs.Common.{ℕ, ◌≡◌, ◌≢◌, true, false, length, arith}
 use Rattle.machine_base.specs.Epochs.{coordinator}
-use Rattle.membership_machine.specs.Records.{Update}
 use Rattle.membership_machine.specs.State.{Node, Epoch}
-use Rattle.membership_machine.specs.Steps.{promising, installing, joining, appending, committing, crashing, beginning, counting, starting, proposing, acknowledging}
-use Rattle.membership_machine.specs.Invariant.{NodeOk, Leads}
+use Rattle.membership_machine.specs.Invariant.{Leads}
 
 -- a node in a session that it does not coordinate leads nothing
 pub follows_other : (E : ℕ → Epoch) (m : ℕ) (n : Node) → coordinator n.session ≢ m → Leads E m n

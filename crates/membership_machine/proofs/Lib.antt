@@ -4,7 +4,9 @@ pub mod Before
 pub mod Followed
 pub mod Growth
 pub mod NodeSteps
+pub mod MemberSteps
 pub mod EpochSteps
 pub mod Leaders
+pub mod Updates
 pub mod Preserved
 pub mod Lineages

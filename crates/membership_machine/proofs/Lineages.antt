@@ -1,12 +1,10 @@
 -- The laws, of one state in which the invariant stands.
-use Rattle.std.proofs.Common.{ℕ, zero, suc, ◌+◌, ◌<◌, ◌≤◌, ◌≡◌, ◌⊎◌, inl, inr, refl, sym, ap, ◌∙◌, subst, Bool, true, false, List, [], length, take, arith, eq-or-lt_of_le, eq-zero-or-pos}
-use Rattle.machine_base.specs.Epochs.{coordinator}
-use Rattle.membership_machine.specs.Records.{Update, Saved}
+use Rattle.std.proofs.Common.{ℕ, zero, suc, ◌<◌, ◌≤◌, ◌≡◌, ◌⊎◌, inl, inr, sym, ap, ◌∙◌, subst, Bool, true, false, [], length, take, arith, eq-or-lt_of_le}
+use Rattle.membership_machine.specs.Records.{Saved}
 use Rattle.membership_machine.specs.Votes.{Votes, Setting, IsMajority}
-use Rattle.membership_machine.specs.State.{Node, Epoch, Memberships}
-use Rattle.membership_machine.specs.Events.{Event, Begin, Allowed, after}
+use Rattle.membership_machine.specs.State.{Epoch, Memberships}
 use Rattle.membership_machine.specs.Starts.{last_start, Follows, Alike, DevicesMeet}
-use Rattle.membership_machine.specs.Invariant.{Fits, NodeOk, EpochOk, Holds}
+use Rattle.membership_machine.specs.Invariant.{Fits, Holds}
 use Rattle.membership_machine.specs.Parts.{PromisesHold, AttemptsDiffer, AllSaved, RecordsAgree, ShareMember, ShareDevice}
 use Rattle.membership_machine.proofs.Majorities.{Common, majorities_share}
 use Rattle.membership_machine.proofs.Prefixes.{first_of_part, alike_from_part, alike_back, alike_over}
@@ -37,19 +35,25 @@ saved_until S w i meet e v st all (suc n) q k l c = step S w i meet e v st all n
       where
         s : ℕ
         s = last_start w q
+
         on : StandsOn w q s
         on = stands_on_last S w i meet q c
+
         positive : 0 < e
         positive = (i.epoch e).tried_positive ((i.epoch e).counted_tried ((i.epoch e).started_counted st))
+
         here : StandsOn w q e → Alike v (w.epoch e).log (w.epoch q).base
         here o = base_alike w q e v o (o.all_saved positive v all)
+
         through : (w.epoch s).started ≡ true → Alike v (w.epoch e).log (w.epoch s).base → Alike v (w.epoch e).log (w.epoch q).base
         through ss a = alike_over v (w.epoch e).log (w.epoch s).log (w.epoch q).base
             (alike_over v (w.epoch e).log (w.epoch s).base (w.epoch s).log a (alike_from_part v (w.epoch s).base (w.epoch s).log (i.epoch s).base_log (i.epoch s).base_within a.second_reaches))
             (base_alike w q s v on (omega (arith, a.second_reaches, (i.epoch s).base_acked ss, on.acked)))
+
         between : e < s → Alike v (w.epoch e).log (w.epoch q).base
         between h = let ss : (w.epoch s).started ≡ true = last_started w q (omega arith) in
             through ss (ih s (omega (arith, last_below w q (omega arith))) h ((i.epoch s).started_counted ss))
+
         go : (e ≡ s) ⊎ (e < s) → Alike v (w.epoch e).log (w.epoch q).base
         go (inl h) = here (subst (λ f. StandsOn w q f) (sym h) on)
         go (inr h) = between h
@@ -69,7 +73,8 @@ promises S w i = record {
   session = λ m. session (w.node m).session (w.node m).promised (i.node m).session;
   member_session = λ m h. (i.node m).session ((i.node m).member_sits h);
   member_installed = λ m h. sym ((i.node m).member_installed h) ∙ (i.node m).session ((i.node m).member_sits h);
-  member_started = λ m h. subst (λ f. (w.epoch f).started ≡ true) ((i.node m).session ((i.node m).member_sits h)) ((i.node m).member_started h) }
+  member_started = λ m h. subst (λ f. (w.epoch f).started ≡ true) ((i.node m).session ((i.node m).member_sits h)) ((i.node m).member_started h);
+}
   where
     session : (a b : ℕ) → (0 < a → a ≡ b) → (a ≡ 0) ⊎ (a ≡ b)
     session a b h = grind arith
@@ -77,20 +82,23 @@ promises S w i = record {
 pub attempts : (S : Setting) (w : Memberships) → Holds S w → AttemptsDiffer S w
 attempts S w i = record {
   promised = λ q h. (i.epoch q).tried_promised h;
-  once = λ q members h a. omega (arith, (i.epoch q).tried_promised h, a.0) }
+  once = λ q members h a. omega (arith, (i.epoch q).tried_promised h, a.0);
+}
 
 records_alike : (E : ℕ → Epoch) (r s : Saved) (v : ℕ) → Fits r (E r.installed) → Fits s (E s.installed) → r.installed ≡ s.installed → v ≤ length r.entries → v ≤ length s.entries → Alike v r.entries s.entries
 records_alike E r s v f g e h k = record {
   same = first_of_part v r.entries (E r.installed).log f.entries h ∙ ap (λ x. take v (E x).log) e ∙ sym (first_of_part v s.entries (E s.installed).log g.entries k);
   first_reaches = h;
-  second_reaches = k }
+  second_reaches = k;
+}
 
 pub records : (S : Setting) (w : Memberships) → Holds S w → DevicesMeet S w → RecordsAgree w
 records S w i meet = record {
   place_by_place = λ m k v e h l. records_alike w.epoch (w.node m).saved (w.node k).saved v (i.node m).fits (i.node k).fits e h l;
   committed_first = λ m. (i.node m).commits.within;
   one_pending = λ m. (i.node m).commits.one_pending;
-  saved_by_all = λ e q v st l c all. saved_kept S w i meet e q v st l c all }
+  saved_by_all = λ e q v st l c all. saved_kept S w i meet e q v st l c all;
+}
 
 pub majorities : (S : Setting) (v : Votes) (a b x y : ℕ → Bool) → IsMajority S v a x → IsMajority S v b y → ShareMember a b ⊎ ShareDevice v x y
 majorities S v a b x y p q = go (majorities_share S v a b x y p q)
@@ -105,9 +113,12 @@ first_empty S w i meet q c z = nil_from_length (w.epoch q).base (empty (subst (�
   where
     not_counted : (w.epoch 0).counted ≡ false
     not_counted = not_marked (w.epoch 0).counted (λ h. omega (arith, (i.epoch 0).tried_positive ((i.epoch 0).counted_tried h)))
+
     unstarted : (w.epoch 0).started ≡ false
     unstarted = unmarked (w.epoch 0).started (w.epoch 0).counted (i.epoch 0).started_counted not_counted
+
     log : length (w.epoch 0).log ≡ 0
     log = ap length ((i.epoch 0).unstarted_log unstarted ∙ (i.epoch 0).uncounted_base not_counted)
+
     empty : StandsOn w q 0 → length (w.epoch q).base ≡ 0
     empty on = omega (arith, on.within, log)

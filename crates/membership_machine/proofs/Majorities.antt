@@ -1,7 +1,6 @@
 -- Two majorities of the same votes share a node, or a quorum device with votes.
-use Rattle.std.proofs.Common.{ℕ, zero, suc, ◌+◌, ◌*◌, ◌<◌, ◌≤◌, ◌≡◌, ◌⊎◌, inl, inr, refl, Bool, true, false, arith, eq-zero-or-pos}
-use Rattle.std.specs.Prelude.{if◌then◌else◌}
-use Rattle.membership_machine.specs.Votes.{Votes, Setting, weight, held, total, IsMajority}
+use Rattle.std.proofs.Common.{ℕ, zero, suc, ◌+◌, ◌<◌, ◌≤◌, ◌≡◌, ◌⊎◌, inl, inr, refl, Bool, true, false, arith, eq-zero-or-pos}
+use Rattle.membership_machine.specs.Votes.{Votes, Setting, weight, IsMajority}
 
 -- one of those in both sets, who has votes
 pub record Common (v : ℕ → ℕ) (a b : ℕ → Bool) : Type 0 where

@@ -1,6 +1,6 @@
 -- First parts of lists.
-use Rattle.std.proofs.Common.{ℕ, zero, suc, ◌+◌, ◌<◌, ◌≤◌, ◌≡◌, ◌⊎◌, inl, inr, refl, sym, ap, ◌∙◌, List, [], ◌∷◌, ◌++◌, length, take, slice_get, Some, Option, arith, take_all, take-take, length-append, add-one, rules}
-use Rattle.std.proofs.lemmas.List.{take-append-le, length-take-le, take_at}
+use Rattle.std.proofs.Common.{ℕ, zero, suc, ◌≤◌, ◌≡◌, sym, ap, ◌∙◌, List, [], ◌∷◌, ◌++◌, length, take, slice_get, Some, arith, take-take}
+use Rattle.std.proofs.lemmas.List.{take-append-le, length-take-le}
 use Rattle.membership_machine.specs.Records.{Update}
 use Rattle.membership_machine.specs.Starts.{Alike}
 

@@ -1,6 +1,6 @@
 -- The events, when each may come, and what it does. A run is any list of events each of which may come where it stands.
 -- A node that goes down inside a save is the event followed by Crash, where the new text is durable, or Crash alone, where it is not.
-use Rattle.std.specs.Prelude.{ℕ, suc, ◌≡◌, ◌≢◌, ◌<◌, ◌≤◌, Bool, true, false, List, [], ◌∷◌, length, take, slice_get, Some}
+use Rattle.std.specs.Prelude.{ℕ, ◌≡◌, ◌≢◌, ◌<◌, ◌≤◌, Bool, true, false, List, [], ◌∷◌, length, take, slice_get, Some}
 use Rattle.machine_base.specs.Put.{put}
 use Rattle.machine_base.specs.Epochs.{coordinator}
 use Rattle.membership_machine.specs.Records.{Update, Saved, IsBehind}

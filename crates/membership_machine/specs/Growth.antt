@@ -1,7 +1,7 @@
 -- What only grows. A message tells facts of its sender that are among these, so what it tells is true whenever it comes:
 -- a Collect that an attempt was begun among its members, a Promise what was answered and shown, an Install the base,
 -- a Ready what was installed, a Prepare the log, a Prepared what was reached, a Commit what is acknowledged.
-use Rattle.std.specs.Prelude.{ℕ, ◌≡◌, ◌≤◌, Bool, true, List, length, take}
+use Rattle.std.specs.Prelude.{ℕ, ◌≡◌, ◌≤◌, true, length, take}
 use Rattle.membership_machine.specs.State.{Node, Epoch, Memberships}
 
 pub record NodeGrows (n n' : Node) : Type 0 where

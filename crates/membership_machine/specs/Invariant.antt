@@ -1,8 +1,8 @@
 -- What every event keeps. Clauses on a node read epochs, clauses on an epoch read nodes; those of `Leads` read what a coordinator still changes.
 -- Each clause is worded so that it stays true when others go on: promises, installed epochs and logs only grow.
-use Rattle.std.specs.Prelude.{ℕ, suc, ◌+◌, ◌≡◌, ◌<◌, ◌≤◌, Bool, true, false, List, [], length, take}
+use Rattle.std.specs.Prelude.{ℕ, ◌+◌, ◌≡◌, ◌<◌, ◌≤◌, true, false, [], length, take}
 use Rattle.machine_base.specs.Epochs.{coordinator}
-use Rattle.membership_machine.specs.Records.{Update, Saved, IsBehind}
+use Rattle.membership_machine.specs.Records.{Saved, IsBehind}
 use Rattle.membership_machine.specs.Votes.{Setting, IsMajority}
 use Rattle.membership_machine.specs.State.{Node, Epoch, Memberships}
 

@@ -1,8 +1,7 @@
 -- What holds of the state after every list of events: of promises and sessions, of numbers of attempts, and of records.
-use Rattle.std.specs.Prelude.{ℕ, ◌+◌, ◌≡◌, ◌<◌, ◌≤◌, ◌⊎◌, Bool, true, false, List, length, take}
+use Rattle.std.specs.Prelude.{ℕ, ◌+◌, ◌≡◌, ◌<◌, ◌≤◌, ◌⊎◌, Bool, true, length}
 use Rattle.machine_base.specs.Epochs.{coordinator}
-use Rattle.membership_machine.specs.Records.{Saved}
-use Rattle.membership_machine.specs.Votes.{Votes, Setting, IsMajority}
+use Rattle.membership_machine.specs.Votes.{Votes, Setting}
 use Rattle.membership_machine.specs.State.{Memberships}
 use Rattle.membership_machine.specs.Events.{Event, Begin, Allowed, after}
 use Rattle.membership_machine.specs.Starts.{Alike}
@@ -30,7 +29,7 @@ AllSaved w q v = (m : ℕ) → (w.epoch q).members m ≡ true → v ≤ (w.node 
 -- What every member of a started membership has saved in it is in the newest record of each later attempt that counted a majority: in its base.
 pub record RecordsAgree (w : Memberships) : Type 0 where
   pub place_by_place : (m k v : ℕ) → (w.node m).saved.installed ≡ (w.node k).saved.installed → v ≤ length (w.node m).saved.entries → v ≤ length (w.node k).saved.entries
-    → Alike v (w.node m).saved.entries (w.node k).saved.entries
+      → Alike v (w.node m).saved.entries (w.node k).saved.entries
   pub committed_first : (m : ℕ) → (w.node m).saved.committed ≤ length (w.node m).saved.entries
   pub one_pending : (m : ℕ) → length (w.node m).saved.entries ≤ (w.node m).saved.committed + 1
   pub saved_by_all : (e q v : ℕ) → (w.epoch e).started ≡ true → e < q → (w.epoch q).counted ≡ true → AllSaved w e v → Alike v (w.epoch e).log (w.epoch q).base

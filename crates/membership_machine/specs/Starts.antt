@@ -1,5 +1,5 @@
 -- The words of the laws: the start before an attempt, what it means to follow it, and where two attempts meet.
-use Rattle.std.specs.Prelude.{ℕ, zero, suc, ◌+◌, ◌≡◌, ◌<◌, ◌≤◌, ◌⊎◌, Bool, true, false, List, length, take, if◌then◌else◌}
+use Rattle.std.specs.Prelude.{ℕ, zero, suc, ◌+◌, ◌≡◌, ◌<◌, ◌≤◌, ◌⊎◌, true, List, length, take, if◌then◌else◌}
 use Rattle.membership_machine.specs.Records.{Update}
 use Rattle.membership_machine.specs.Votes.{Setting}
 use Rattle.membership_machine.specs.State.{Epoch, Memberships}

@@ -1,7 +1,7 @@
 -- The machine's state: what each node holds, and what was ever begun, counted, installed, proposed and acknowledged in each epoch.
 -- A message is no part of it. What a message tells is a fact of the state that stays once it stands, so a message that comes
 -- late, twice or not at all needs no case of its own.
-use Rattle.std.specs.Prelude.{ℕ, zero, Bool, true, false, List, [], length}
+use Rattle.std.specs.Prelude.{ℕ, zero, Bool, false, List, []}
 use Rattle.membership_machine.specs.Records.{Update, Saved, first_record}
 
 -- A node. Durable are its promise and its record; session, membership and an attempt of its own are lost when it goes down.

@@ -21,51 +21,43 @@ ghost use Rattle.membership_machine.specs.Parts.{PromisesHold, AttemptsDiffer, R
 /// A durable promise never falls, sessions and installed epochs are promises, and members are in a membership that started.
 pub fn promises_hold()
     ensures { (S : Setting) (events : List Event) (w : Memberships) → Run S first_memberships events w → PromisesHold S w }
-{
-}
+{}
 
 /// Distinct attempts have distinct numbers: none is begun again, and each number has the one coordinator that it names.
 pub fn attempts_differ()
     ensures { (S : Setting) (events : List Event) (w : Memberships) → Run S first_memberships events w → AttemptsDiffer S w }
-{
-}
+{}
 
 /// What a message tells stays true: of two states of one run the earlier grows to the later.
 pub fn told_facts_stay()
     ensures { (S : Setting) (events later : List Event) (w v : Memberships) → Run S first_memberships events w → Run S w later v → Grows w v }
-{
-}
+{}
 
 /// Two majorities of the same votes share a member or a device that has votes.
 pub fn majorities_share()
     ensures { (S : Setting) (v : Votes) (a b x y : ℕ → Bool) → IsMajority S v a x → IsMajority S v b y → ShareMember a b ⊎ ShareDevice v x y }
-{
-}
+{}
 
 /// Lineage: the base of an attempt that counted is what the greatest smaller start had and then the first of its proposals,
 /// all that are acknowledged or one more. Where nothing started before, the base is empty.
 pub fn lineage()
     ensures { (S : Setting) (events : List Event) (w : Memberships) (q : ℕ) → Run S first_memberships events w → DevicesMeet S w
         → (w.epoch q).counted ≡ true → Follows w q (last_start w q) }
-{
-}
+{}
 
 /// The first start has an empty base.
 pub fn first_base_is_empty()
     ensures { (S : Setting) (events : List Event) (w : Memberships) (q : ℕ) → Run S first_memberships events w → DevicesMeet S w
         → (w.epoch q).counted ≡ true → last_start w q ≡ 0 → (w.epoch q).base ≡ [] }
-{
-}
+{}
 
 /// Kept: what is acknowledged in a start stands at its place in the base of every greater attempt that counted, and so of every greater start.
-pub fn acknowledged_is_kept()
+pub fn kept()
     ensures { (S : Setting) (events : List Event) (w : Memberships) (e q : ℕ) → Run S first_memberships events w → DevicesMeet S w
         → (w.epoch e).started ≡ true → e < q → (w.epoch q).counted ≡ true → Alike (w.epoch e).acked (w.epoch e).log (w.epoch q).base }
-{
-}
+{}
 
 /// Records of one installed epoch agree place by place, and what every member has saved is in every later base.
 pub fn records_agree()
     ensures { (S : Setting) (events : List Event) (w : Memberships) → Run S first_memberships events w → DevicesMeet S w → RecordsAgree w }
-{
-}
+{}
