@@ -1,0 +1,2 @@
+//! The whole: memberships and shared devices side by side.
+#![tactic(auto)]

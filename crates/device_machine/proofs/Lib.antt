@@ -1,0 +1,15 @@
+pub mod Invariant
+pub mod Growth
+pub mod Frames
+pub mod Nodes
+pub mod Pasts
+pub mod On
+pub mod Devices
+pub mod Claims
+pub mod Steps
+pub mod Commands
+pub mod Attempts
+pub mod Held
+pub mod Kept
+pub mod Later
+pub mod Laws

@@ -1,0 +1,6 @@
+pub mod Phase
+pub mod Device
+pub mod Initiator
+pub mod Attempt
+pub mod Sharing
+pub mod Laws
