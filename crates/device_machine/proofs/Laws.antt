@@ -4,8 +4,8 @@ use Rattle.device_machine.specs.Phase.{Phase, rank}
 use Rattle.device_machine.specs.Device.{Device, LetsWrite}
 use Rattle.device_machine.specs.Initiator.{Initiator}
 use Rattle.device_machine.specs.Attempt.{Attempt}
-use Rattle.device_machine.specs.Sharing.{Sharing}
-use Rattle.device_machine.specs.Laws.{Holds, Writes, MemberOrAbove, HasJoined}
+use Rattle.device_machine.specs.Sharing.{Sharing, Writes}
+use Rattle.device_machine.specs.Laws.{Holds, MemberOrAbove, HasJoined}
 use Rattle.device_machine.proofs.Steps.{not_true}
 use Rattle.device_machine.proofs.Invariant.{PastOk, NodeOk, OnDevice, AttemptOk, DeviceOk, Inv}
 
@@ -14,6 +14,9 @@ clash b h h' = let e : true ≡ false = sym h ∙ h' in apart e
   where
     apart : true ≡ false → ⊥
     apart e = grind arith
+
+is_over : (p : Phase) → rank p ≡ 10 → p ≡ Phase.Over
+is_over p h = grind arith
 
 module _ (s : Sharing) (i : Inv s) where
   -- a counted attempt that holds the device had its seizing end held, so it is no greater than the greatest
@@ -99,15 +102,16 @@ module _ (s : Sharing) (i : Inv s) where
   pub valid_above : (n e : ℕ) → (s.node n).valid ≡ true → s.device.keys n ≡ true → (s.attempt e).held ≡ true → MemberOrAbove s n e (s.node n).installed
   valid_above n e c key h = (i.on n).valid_held e c key h
 
-  -- a later attempt that holds the device as a quorum device meets each earlier one in its seizer
+  -- the node that was asked last is a member, and a later attempt that holds the device as a quorum device meets each earlier one in it
+  pub seizer_member : (q : ℕ) → Holds s q → (s.attempt q).members (s.attempt q).seizer ≡ true
+  seizer_member q h = (i.attempt q).asked_member (s.attempt q).seizer ((i.attempt q).asked_seizer ((i.attempt q).holds_asking h.0 h.1))
+
   pub meets : (e q : ℕ) → Holds s e → Holds s q → (s.attempt q).quorum ≡ true → e < q
       → ((s.attempt q).members (s.attempt q).seizer ≡ true) × MemberOrAbove s (s.attempt q).seizer e ((s.node (s.attempt q).seizer).past.showed q)
-  meets e q he hq kind lt = (
-      (i.attempt q).asked_member (s.attempt q).seizer ((i.attempt q).asked_seizer ((i.attempt q).holds_asking hq.0 hq.1)),
-      (i.on (s.attempt q).seizer).seized_showed q e ((i.attempt q).holds_seized hq.0 hq.1) kind (held e he) lt)
+  meets e q he hq kind lt = (seizer_member q hq, (i.on (s.attempt q).seizer).seized_showed q e ((i.attempt q).holds_seized hq.0 hq.1) kind (held e he) lt)
 
-  pub idle_when_joined : (n : ℕ) → (s.node n).joined ≡ true → rank (s.node n).phase ≡ 10
-  idle_when_joined n j = (i.node n).joined j
+  pub over_when_joined : (n : ℕ) → (s.node n).joined ≡ true → (s.node n).phase ≡ Phase.Over
+  over_when_joined n j = is_over (s.node n).phase ((i.node n).joined j)
 
   pub session_of : (n : ℕ) → ((s.node n).session ≡ 0) ⊎ ((s.node n).session ≡ (s.node n).promised)
   session_of n = go (s.node n).session (i.node n).session

@@ -13,3 +13,5 @@ pub mod Held
 pub mod Kept
 pub mod Later
 pub mod Laws
+pub mod Reached
+pub mod Samples

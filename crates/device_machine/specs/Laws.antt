@@ -9,10 +9,6 @@ use Rattle.device_machine.specs.Sharing.{Sharing}
 abbrev pub Holds : Sharing → ℕ → Type 0
 Holds s q = ((s.attempt q).counted ≡ true) × ((s.attempt q).holds ≡ true)
 
--- node n may write: it joined the device in the membership of its session, and the device lets it
-abbrev pub Writes : Sharing → ℕ → Type 0
-Writes s n = ((s.node n).joined ≡ true) × LetsWrite s.device n
-
 -- n is a member of attempt e, or has installed a greater one
 abbrev pub MemberOrAbove : Sharing → ℕ → ℕ → ℕ → Type 0
 MemberOrAbove s n e installed = ((s.attempt e).members n ≡ true) ⊎ (e < installed)

@@ -4,3 +4,4 @@ pub mod Initiator
 pub mod Attempt
 pub mod Sharing
 pub mod Laws
+pub mod Sample

@@ -99,6 +99,10 @@ MayInstall s n =
 abbrev pub AllAnswered : Sharing → ℕ → Type 0
 AllAnswered s q = ((s.attempt q).asking ≡ false) ⊎ ((s.node (s.attempt q).seizer).past.ended q ≡ true)
 
+-- node n joined the device in the membership that it installed in this session, and the device lets it write
+abbrev pub Writes : Sharing → ℕ → Type 0
+Writes s n = ((s.node n).joined ≡ true) × LetsWrite s.device n
+
 abbrev pub Allowed : Sharing → Event → Type 0
 Allowed s (Promise n q) = (s.node n).promised < q
 Allowed s (Crash n) = Unit
@@ -147,7 +151,7 @@ Allowed s (Enter n) = (s.node n).phase ≡ Phase.Joining
 Allowed s (Enter_lost n) = (s.node n).phase ≡ Phase.Joining
 Allowed s (Admit n) = ((s.node n).phase ≡ Phase.Entered) × (s.device.word ≡ (s.node n).session)
 Allowed s (Late n) = IsJoining (s.node n).phase
-Allowed s (Write n x) = ((s.node n).joined ≡ true) × LetsWrite s.device n
+Allowed s (Write n x) = Writes s n
 
 abbrev pub at_node : Sharing → ℕ → Initiator → Sharing
 at_node s n v = record s { node = put s.node n v }
