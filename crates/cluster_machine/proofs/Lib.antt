@@ -1,3 +1,4 @@
 pub mod Commands
 pub mod Agreements
 pub mod Whole
+pub mod Safety
