@@ -2,3 +2,4 @@ pub mod Commands
 pub mod Agreements
 pub mod Whole
 pub mod Safety
+pub mod SampleRun

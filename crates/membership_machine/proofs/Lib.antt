@@ -10,3 +10,4 @@ pub mod Leaders
 pub mod Updates
 pub mod Preserved
 pub mod Lineages
+pub mod SampleRun

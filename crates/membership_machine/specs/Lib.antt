@@ -7,3 +7,4 @@ pub mod Starts
 pub mod Invariant
 pub mod Growth
 pub mod Parts
+pub mod Sample

@@ -10,12 +10,13 @@
 //! votes meet there (`DevicesMeet`). The crate `cluster_machine` proves that premise of devices that are seized by the rules.
 #![tactic(auto)]
 
-ghost use Rattle.std.specs.Prelude.{ℕ, Bool, true, List, [], length, ◌≡◌, ◌<◌, ◌≤◌, ◌⊎◌};
+ghost use Rattle.std.specs.Prelude.{ℕ, Bool, true, List, [], ◌∷◌, ◌++◌, length, ◌≡◌, ◌<◌, ◌≤◌, ◌⊎◌};
 ghost use Rattle.membership_machine.specs.Votes.{Votes, Setting, IsMajority};
 ghost use Rattle.membership_machine.specs.State.{Memberships, first_memberships};
 ghost use Rattle.membership_machine.specs.Events.{Event, Run};
 ghost use Rattle.membership_machine.specs.Starts.{last_start, Follows, Alike, DevicesMeet};
 ghost use Rattle.membership_machine.specs.Growth.{Grows};
+ghost use Rattle.membership_machine.specs.Sample.{sample_setting, forming, formed, changing, reforming, updating, splitting, split, add_device, create_group};
 ghost use Rattle.membership_machine.specs.Parts.{PromisesHold, AttemptsDiffer, RecordsAgree, ShareMember, ShareDevice};
 
 /// A durable promise never falls, sessions and installed epochs are promises, and members are in a membership that started.
@@ -61,3 +62,15 @@ pub fn kept()
 pub fn records_agree()
     ensures { (S : Setting) (events : List Event) (w : Memberships) → Run S first_memberships events w → DevicesMeet S w → RecordsAgree w }
 {}
+
+/// A run of two nodes and a quorum device, which shows that the events can come. They form membership 65. Node 1 proposes that the
+/// device has a vote, and goes down before it is acknowledged. Node 2 forms 130 of both, with a majority under the votes before and
+/// after that update, which its start commits; then one more update is acknowledged. Node 1 is heard no more, and node 2 forms 194
+/// with the device. Its base has both updates.
+pub fn sample_of_a_split()
+    ensures run { Run sample_setting first_memberships (forming ++ changing ++ reforming ++ updating ++ splitting) split }
+    ensures formed { ((formed.node 1).member ≡ true) × ((formed.node 2).member ≡ true) }
+    ensures started { ((split.epoch 194).started ≡ true) × ((split.node 2).member ≡ true) }
+    ensures base { (split.epoch 194).base ≡ add_device ∷ create_group ∷ [] }
+{
+}
