@@ -1,30 +1,30 @@
 -- Each step of an attempt: what it leaves true of it.
-use Rattle.std.proofs.Common.{◌≡◌, ◌≢◌, ℕ, ◌<◌, ◌≤◌, ◌⊎◌, inl, inr, Bool, true, false, refl, sym, ap, subst, ◌∙◌, arith}
+use Rattle.std.proofs.Common.{◌≡◌, ◌≢◌, ℕ, ◌<◌, ◌≤◌, ◌⊎◌, inl, inr, Bool, true, false, refl, sym, subst}
 use Rattle.machine_base.specs.Put.{put}
-use Rattle.machine_base.proofs.Puts.{put_here, put_there, put_true, put_true_stays}
+use Rattle.machine_base.proofs.Puts.{put_here, put_true, put_true_stays}
 use Rattle.device_machine.specs.Initiator.{Initiator}
 use Rattle.device_machine.specs.Attempt.{Attempt, collecting, asking_node, counting}
-use Rattle.device_machine.proofs.Invariant.{PastOk, AttemptOk}
+use Rattle.device_machine.proofs.Invariant.{AttemptOk}
 use Rattle.device_machine.proofs.Growth.{AttemptGrows}
 
 module _ (N : ℕ → Initiator) (q : ℕ) (e : Attempt) (i : AttemptOk N q e) where
   -- Collected: nothing else was done for the attempt before
   pub collecting_ok : (members : ℕ → Bool) → e.collected ≡ false → 0 < q → ((m : ℕ) → members m ≡ true → q ≤ (N m).promised) → AttemptOk N q (collecting e members)
   collecting_ok members none p all = record {
-      positive = λ c. p;
-      promised = λ m c h. all m h;
-      collected_asking = λ h. refl;
-      collected_held = λ h. refl;
-      collected_counted = λ h. refl;
-      asking = i.asking;
-      asked_member = λ m h. let a = i.asking m h in let c = i.collected_asking a in absurd (cc);
-      asked_seizer = i.asked_seizer;
-      asked_last = i.asked_last;
-      answered = i.answered;
-      holds_asking = i.holds_asking;
-      holds_held = i.holds_held;
-      holds_seized = i.holds_seized;
-    }
+    positive = λ c. p;
+    promised = λ m c h. all m h;
+    collected_asking = λ h. refl;
+    collected_held = λ h. refl;
+    collected_counted = λ h. refl;
+    asking = i.asking;
+    asked_member = λ m h. let a = i.asking m h in let c = i.collected_asking a in absurd (cc);
+    asked_seizer = i.asked_seizer;
+    asked_last = i.asked_last;
+    answered = i.answered;
+    holds_asking = i.holds_asking;
+    holds_held = i.holds_held;
+    holds_seized = i.holds_seized;
+  }
 
   pub collecting_grows : (members : ℕ → Bool) → e.collected ≡ false → AttemptGrows e (collecting e members)
   collecting_grows members none = record { collected = λ h. refl; members = λ m h. absurd (cc); asked = λ m h. h; quorum = λ m h. refl; held = λ h. h; counted = λ h. h; holds = λ h. refl }
@@ -56,46 +56,51 @@ module _ (N : ℕ → Initiator) (q : ℕ) (e : Attempt) (i : AttemptOk N q e) w
 
     pub asking_ok : AttemptOk N q (asking_node e n k)
     asking_ok = record {
-        positive = i.positive;
-        promised = i.promised;
-        collected_asking = λ h. collected;
-        collected_held = i.collected_held;
-        collected_counted = i.collected_counted;
-        asking = λ m h. refl;
-        asked_member = by_case (λ m. e.members m ≡ true) member i.asked_member;
-        asked_seizer = λ h. put_here e.asked n true;
-        asked_last = by_case (λ m. (m ≡ n) ⊎ ((N m).past.unregistered q ≡ true)) (inl refl) (λ m h. inr (before m h));
-        answered = λ m c h. absurd (cc);
-        holds_asking = λ c h. refl;
-        holds_held = i.holds_held;
-        holds_seized = λ c h. absurd (cc);
-      }
+      positive = i.positive;
+      promised = i.promised;
+      collected_asking = λ h. collected;
+      collected_held = i.collected_held;
+      collected_counted = i.collected_counted;
+      asking = λ m h. refl;
+      asked_member = by_case (λ m. e.members m ≡ true) member i.asked_member;
+      asked_seizer = λ h. put_here e.asked n true;
+      asked_last = by_case (λ m. (m ≡ n) ⊎ ((N m).past.unregistered q ≡ true)) (inl refl) (λ m h. inr (before m h));
+      answered = λ m c h. absurd (cc);
+      holds_asking = λ c h. refl;
+      holds_held = i.holds_held;
+      holds_seized = λ c h. absurd (cc);
+    }
 
     pub asking_grows : AttemptGrows e (asking_node e n k)
     asking_grows = record {
-        collected = λ h. h; members = λ m h. refl; asked = λ m h. put_true_stays e.asked n m h; quorum = λ m h. same_kind m h;
-        held = λ h. h; counted = λ h. h; holds = λ h. refl;
-      }
+      collected = λ h. h;
+      members = λ m h. refl;
+      asked = λ m h. put_true_stays e.asked n m h;
+      quorum = λ m h. same_kind m h;
+      held = λ h. h;
+      counted = λ h. h;
+      holds = λ h. refl;
+    }
 
   -- Count: whoever was asked has answered
   module _ (holds : Bool) (collected : e.collected ≡ true) (open_yet : e.counted ≡ false) (ended : (m : ℕ) → e.asked m ≡ true → (N m).past.ended q ≡ true)
       (seized : holds ≡ true → (e.asking ≡ true) × (e.held ≡ true) × ((N e.seizer).past.seized q ≡ true)) where
     pub counting_ok : AttemptOk N q (counting e holds)
     counting_ok = record {
-        positive = i.positive;
-        promised = i.promised;
-        collected_asking = i.collected_asking;
-        collected_held = i.collected_held;
-        collected_counted = λ h. collected;
-        asking = i.asking;
-        asked_member = i.asked_member;
-        asked_seizer = i.asked_seizer;
-        asked_last = i.asked_last;
-        answered = λ m c h. ended m h;
-        holds_asking = λ c h. (seized h).0;
-        holds_held = λ c h. (seized h).1;
-        holds_seized = λ c h. (seized h).2;
-      }
+      positive = i.positive;
+      promised = i.promised;
+      collected_asking = i.collected_asking;
+      collected_held = i.collected_held;
+      collected_counted = λ h. collected;
+      asking = i.asking;
+      asked_member = i.asked_member;
+      asked_seizer = i.asked_seizer;
+      asked_last = i.asked_last;
+      answered = λ m c h. ended m h;
+      holds_asking = λ c h. (seized h).0;
+      holds_held = λ c h. (seized h).1;
+      holds_seized = λ c h. (seized h).2;
+    }
 
     pub counting_grows : AttemptGrows e (counting e holds)
     counting_grows = record { collected = λ h. h; members = λ m h. refl; asked = λ m h. h; quorum = λ m h. refl; held = λ h. h; counted = λ h. refl; holds = λ h. absurd (cc) }

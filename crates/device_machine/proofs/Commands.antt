@@ -1,16 +1,19 @@
 -- Each command that changes the device, as a step of its sender.
-use Rattle.std.proofs.Common.{◌≡◌, ◌≢◌, ℕ, ◌<◌, ◌≤◌, ◌⊎◌, inl, inr, Bool, true, false, refl, sym, ap, subst, ◌∙◌, arith}
+use Rattle.std.proofs.Common.{◌≡◌, ◌≢◌, ℕ, ◌<◌, ◌≤◌, inl, inr, true, false, refl, sym, ap, subst, arith}
 use Rattle.machine_base.proofs.Puts.{put_true_stays}
-use Rattle.device_machine.specs.Phase.{Phase, rank, IsSeizing, IsJoining}
+use Rattle.device_machine.specs.Phase.{Phase, rank}
 use Rattle.device_machine.specs.Device.{Device, registering, wording, reserving, preempting}
 use Rattle.device_machine.specs.Initiator.{Initiator, to_phase, marking, marking_lost, ending}
 use Rattle.device_machine.specs.Attempt.{Attempt}
 use Rattle.device_machine.proofs.Invariant.{PastOk, NodeOk, OnDevice, AttemptOk, DeviceOk}
-use Rattle.device_machine.proofs.Growth.{NodeGrows, Leaves, attempt_same, on_stays}
+use Rattle.device_machine.proofs.Growth.{Leaves, attempt_same, on_stays}
 use Rattle.device_machine.proofs.Frames.{NodeSteps}
-use Rattle.device_machine.proofs.Nodes
+use Rattle.device_machine.proofs.NodeSession
+use Rattle.device_machine.proofs.NodeAsking
+use Rattle.device_machine.proofs.NodeHolding
 use Rattle.device_machine.proofs.Pasts
-use Rattle.device_machine.proofs.On
+use Rattle.device_machine.proofs.OnSession
+use Rattle.device_machine.proofs.OnSeizing
 use Rattle.device_machine.proofs.Devices.{wording_leaves, reserving_leaves, reserving_own, preempting_leaves}
 use Rattle.device_machine.proofs.Claims.{Had, quiet_steps}
 use Rattle.device_machine.proofs.Steps.{keeps, ending_grows, session_low, not_true}
@@ -29,20 +32,20 @@ module _ (A : ℕ → Attempt) (N : ℕ → Initiator) (d : Device) (top n : ℕ
 
   pub registered_steps : v.phase ≡ Phase.Untrusted → NodeSteps A d (registering d n) top n v (to_phase v Phase.Keyed)
   registered_steps at = quiet_steps A d (registering d n) top n v (to_phase v Phase.Keyed) (grind arith) (grind arith) (grind arith) (grind arith) (keeps v (to_phase v Phase.Keyed) refl refl) past
-      (Nodes.registered_node A n v ok at) (On.checked_on A (registering d n) top n v ok (On.registering_on A d top n v ok on (inl (ap rank at))) (grind arith))
+      (NodeAsking.registered_node A n v ok at) (OnSeizing.checked_on A (registering d n) top n v ok (OnSession.registering_on A d top n v ok on (inl (ap rank at))) (grind arith))
 
   pub registered_lost_steps : v.phase ≡ Phase.Untrusted → NodeSteps A d (registering d n) top n v (ending v)
   registered_lost_steps at = quiet_steps A d (registering d n) top n v (ending v) (grind arith) (grind arith) (grind arith) (grind arith) (ending_grows v)
-      (Pasts.ending_past A n v past (low (grind arith))) (Nodes.ending_node A n v ok (grind arith))
-      (On.ending_on A (registering d n) top n v ok (On.registering_on A d top n v ok on (inl (ap rank at))))
+      (Pasts.ending_past A n v past (low (grind arith))) (NodeHolding.ending_node A n v ok (grind arith))
+      (OnSeizing.ending_on A (registering d n) top n v ok (OnSession.registering_on A d top n v ok on (inl (ap rank at))))
 
   pub entered_steps : v.phase ≡ Phase.Joining → NodeSteps A d (registering d n) top n v (to_phase v Phase.Entered)
   entered_steps at = quiet_steps A d (registering d n) top n v (to_phase v Phase.Entered) (grind arith) (grind arith) (grind arith) (grind arith) (keeps v (to_phase v Phase.Entered) refl refl) past
-      (Nodes.entered_node A n v ok at) (On.entered_on A (registering d n) top n v ok (On.registering_on A d top n v ok on (inr (grind arith))) at)
+      (NodeSession.entered_node A n v ok at) (OnSession.entered_on A (registering d n) top n v ok (OnSession.registering_on A d top n v ok on (inr (grind arith))) at)
 
   pub entered_lost_steps : v.phase ≡ Phase.Joining → NodeSteps A d (registering d n) top n v (to_phase v Phase.Over)
   entered_lost_steps at = quiet_steps A d (registering d n) top n v (to_phase v Phase.Over) (grind arith) (grind arith) (grind arith) (grind arith) (keeps v (to_phase v Phase.Over) refl refl) past
-      (Nodes.late_node A n v ok (grind arith)) (On.late_on A (registering d n) top n v ok (On.registering_on A d top n v ok on (inr (grind arith))) (grind arith))
+      (NodeSession.late_node A n v ok (grind arith)) (OnSession.late_on A (registering d n) top n v ok (OnSession.registering_on A d top n v ok on (inr (grind arith))) (grind arith))
 
   -- The word that it expects is smaller than its session.
   module _ (at : v.phase ≡ Phase.Swapping) (found : d.word ≡ v.expected) where
@@ -64,22 +67,22 @@ module _ (A : ℕ → Attempt) (N : ℕ → Initiator) (d : Device) (top n : ℕ
     pub marking_steps : NodeSteps A d (wording d v.session) top n v (marking v)
     marking_steps = quiet_steps A d (wording d v.session) top n v (marking v) rises (still (wording d v.session) (wording_leaves d v.session n rises)) (grind arith) (grind arith)
         (record { promised = grind arith; seized = λ q h. h; unregistered = λ q h. h; ended = λ q h. h })
-        marking_past (Nodes.marking_node A n v ok at) (On.marking_on A (wording d v.session) top n v ok new refl)
+        marking_past (NodeHolding.marking_node A n v ok at) (OnSeizing.marking_on A (wording d v.session) top n v ok new refl)
 
     pub marking_lost_steps : NodeSteps A d (wording d v.session) top n v (marking_lost v)
     marking_lost_steps = quiet_steps A d (wording d v.session) top n v (marking_lost v) rises (still (wording d v.session) (wording_leaves d v.session n rises)) (grind arith) (grind arith)
         (record { promised = grind arith; seized = λ q h. h; unregistered = λ q h. h; ended = λ q h. put_true_stays v.past.ended v.session q h })
-        (Pasts.ending_past A n (marking v) marking_past (low (grind arith))) (Nodes.marking_lost_node A n v ok at) (On.marking_lost_on A (wording d v.session) top n v ok new)
+        (Pasts.ending_past A n (marking v) marking_past (low (grind arith))) (NodeHolding.marking_lost_node A n v ok at) (OnSeizing.marking_lost_on A (wording d v.session) top n v ok new)
 
   pub reserved_steps : v.phase ≡ Phase.Marked → NodeSteps A d (reserving d n) top n v (to_phase v Phase.Reserved)
   reserved_steps at = quiet_steps A d (reserving d n) top n v (to_phase v Phase.Reserved) (grind arith) (still (reserving d n) (reserving_leaves d n n)) (grind arith) (grind arith)
-      (keeps v (to_phase v Phase.Reserved) refl refl) past (Nodes.reserved_node A n v ok (inl at))
-      (On.reserved_on A (reserving d n) top n v ok (left (reserving d n) (reserving_leaves d n n)) (grind arith) (grind arith) (reserving_own d n))
+      (keeps v (to_phase v Phase.Reserved) refl refl) past (NodeHolding.reserved_node A n v ok (inl at))
+      (OnSeizing.reserved_on A (reserving d n) top n v ok (left (reserving d n) (reserving_leaves d n n)) (grind arith) (grind arith) (reserving_own d n))
 
   pub reserved_lost_steps : v.phase ≡ Phase.Marked → NodeSteps A d (reserving d n) top n v (ending v)
   reserved_lost_steps at = quiet_steps A d (reserving d n) top n v (ending v) (grind arith) (still (reserving d n) (reserving_leaves d n n)) (grind arith) (grind arith)
-      (ending_grows v) (Pasts.ending_past A n v past (low (grind arith))) (Nodes.ending_node A n v ok (grind arith))
-      (On.ending_on A (reserving d n) top n v ok (left (reserving d n) (reserving_leaves d n n)))
+      (ending_grows v) (Pasts.ending_past A n v past (low (grind arith))) (NodeHolding.ending_node A n v ok (grind arith))
+      (OnSeizing.ending_on A (reserving d n) top n v ok (left (reserving d n) (reserving_leaves d n n)))
 
   -- The key to be preempted is that of no member, so not the sender's own.
   pub other_key : v.phase ≡ Phase.Preempting → n ≢ v.target
@@ -87,18 +90,19 @@ module _ (A : ℕ → Attempt) (N : ℕ → Initiator) (d : Device) (top n : ℕ
 
   pub preempted_steps : v.phase ≡ Phase.Preempting → NodeSteps A d (preempting d n v.target) top n v (to_phase v Phase.Reserved)
   preempted_steps at = quiet_steps A d (preempting d n v.target) top n v (to_phase v Phase.Reserved) (grind arith) (still (preempting d n v.target) gone) (grind arith) (grind arith)
-      (keeps v (to_phase v Phase.Reserved) refl refl) past (Nodes.reserved_node A n v ok (inr at))
-      (On.reserved_on A (preempting d n v.target) top n v ok there (grind arith) (grind arith) (there.reserved_own (grind arith) (grind arith)))
+      (keeps v (to_phase v Phase.Reserved) refl refl) past (NodeHolding.reserved_node A n v ok (inr at))
+      (OnSeizing.reserved_on A (preempting d n v.target) top n v ok there (grind arith) (grind arith) (there.reserved_own (grind arith) (grind arith)))
     where
       gone : Leaves d (preempting d n v.target) n
       gone = preempting_leaves d n v.target n
+
       there : OnDevice A (preempting d n v.target) top n v
       there = left (preempting d n v.target) gone
 
   pub preempted_lost_steps : v.phase ≡ Phase.Preempting → NodeSteps A d (preempting d n v.target) top n v (ending v)
   preempted_lost_steps at = quiet_steps A d (preempting d n v.target) top n v (ending v) (grind arith) (still (preempting d n v.target) gone) (grind arith) (grind arith)
-      (ending_grows v) (Pasts.ending_past A n v past (low (grind arith))) (Nodes.ending_node A n v ok (grind arith))
-      (On.ending_on A (preempting d n v.target) top n v ok (left (preempting d n v.target) gone))
+      (ending_grows v) (Pasts.ending_past A n v past (low (grind arith))) (NodeHolding.ending_node A n v ok (grind arith))
+      (OnSeizing.ending_on A (preempting d n v.target) top n v ok (left (preempting d n v.target) gone))
     where
       gone : Leaves d (preempting d n v.target) n
       gone = preempting_leaves d n v.target n

@@ -1,7 +1,5 @@
 -- What each command leaves the nodes, and leaves true of the device.
-use Rattle.std.proofs.Common.{◌≡◌, ◌≢◌, ℕ, ◌<◌, ◌≤◌, ◌⊎◌, Bool, true, false, arith}
-use Rattle.machine_base.specs.Put.{put}
-use Rattle.machine_base.proofs.Puts.{put_here, put_there}
+use Rattle.std.proofs.Common.{◌≡◌, ◌≢◌, ℕ, ◌≤◌, true, arith}
 use Rattle.device_machine.specs.Device.{Device, registering, wording, reserving, preempting, storing}
 use Rattle.device_machine.specs.Attempt.{Attempt}
 use Rattle.device_machine.proofs.Invariant.{DeviceOk}

@@ -1,6 +1,6 @@
 -- What holds in every state that is reached, in records split by what they read, so that whoever does not step keeps its own.
-use Rattle.std.proofs.Common.{◌≡◌, ◌≢◌, ℕ, ◌<◌, ◌≤◌, ◌⊎◌, Bool, true, false}
-use Rattle.device_machine.specs.Phase.{Phase, rank}
+use Rattle.std.proofs.Common.{◌≡◌, ℕ, ◌<◌, ◌≤◌, ◌⊎◌, true, false}
+use Rattle.device_machine.specs.Phase.{rank}
 use Rattle.device_machine.specs.Device.{Device}
 use Rattle.device_machine.specs.Initiator.{Past, Initiator}
 use Rattle.device_machine.specs.Attempt.{Attempt}

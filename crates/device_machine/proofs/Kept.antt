@@ -1,13 +1,13 @@
 -- Each event keeps the invariant, so it holds in every state of every run.
-use Rattle.std.proofs.Common.{◌≡◌, ◌≢◌, ℕ, ◌<◌, ◌≤◌, ◌⊎◌, inl, inr, Bool, true, false, refl, sym, ap, subst, ◌∙◌, List, [], ◌∷◌, arith}
-use Rattle.device_machine.specs.Phase.{Phase, rank, IsSeizing, IsJoining, AsksWord}
-use Rattle.device_machine.specs.Device.{Device, LetsWrite, registering, wording, reserving, preempting, storing, first_device}
+use Rattle.std.proofs.Common.{◌≡◌, ◌≢◌, ℕ, ◌≤◌, inr, Bool, true, false, refl, sym, ap, subst, List, [], ◌∷◌, arith}
+use Rattle.device_machine.specs.Phase.{Phase, rank}
+use Rattle.device_machine.specs.Device.{registering, wording, reserving, preempting, storing, first_device}
 use Rattle.device_machine.specs.Initiator.{Initiator, no_past, first_initiator}
-use Rattle.device_machine.specs.Attempt.{Attempt, no_attempt}
+use Rattle.device_machine.specs.Attempt.{no_attempt}
 use Rattle.device_machine.specs.Sharing.{Sharing, Event, MayInstall, Allowed, after, Run, first_sharing}
 use Rattle.device_machine.specs.Sharing
-use Rattle.device_machine.proofs.Invariant.{PastOk, NodeOk, OnDevice, Alone, AttemptOk, DeviceOk, Inv}
-use Rattle.device_machine.proofs.Growth.{Leaves, attempt_same, leaves_same, on_stays, alone_stays}
+use Rattle.device_machine.proofs.Invariant.{PastOk, NodeOk, OnDevice, AttemptOk, Inv}
+use Rattle.device_machine.proofs.Growth.{attempt_same, on_stays, alone_stays}
 use Rattle.device_machine.proofs.Frames.{NodeSteps, kept_at_device, kept_at_node, kept_at_attempt}
 use Rattle.device_machine.proofs.Devices
 use Rattle.device_machine.proofs.Steps
@@ -34,13 +34,13 @@ unregistered_past s i m r h = (i.past m).unregistered_ended r h
 
 write_kept : (s : Sharing) (x : ℕ) → Inv s → Inv (record s { device = storing s.device x })
 write_kept s x i = record {
-    past = i.past;
-    node = i.node;
-    on = λ n. on_stays s.attempt s.attempt (λ q. attempt_same (s.attempt q)) (λ e. refl) s.node s.device (storing s.device x) s.top n (s.node n) (Devices.storing_leaves s.device x n) i.attempt i.device (i.past n) (i.on n);
-    alone = λ n k. alone_stays s.attempt s.attempt s.device (storing s.device x) s.top n k (s.node n) (s.node k) (λ q. attempt_same (s.attempt q)) (Devices.storing_leaves s.device x k) (i.node n) (i.on n) (i.alone n k);
-    attempt = i.attempt;
-    device = Devices.storing_device s.attempt s.device s.top x i.device;
-  }
+  past = i.past;
+  node = i.node;
+  on = λ n. on_stays s.attempt s.attempt (λ q. attempt_same (s.attempt q)) (λ e. refl) s.node s.device (storing s.device x) s.top n (s.node n) (Devices.storing_leaves s.device x n) i.attempt i.device (i.past n) (i.on n);
+  alone = λ n k. alone_stays s.attempt s.attempt s.device (storing s.device x) s.top n k (s.node n) (s.node k) (λ q. attempt_same (s.attempt q)) (Devices.storing_leaves s.device x k) (i.node n) (i.on n) (i.alone n k);
+  attempt = i.attempt;
+  device = Devices.storing_device s.attempt s.device s.top x i.device;
+}
 
 -- Each event, in three families: of a node alone, of a node with a command that changes the device, of an attempt.
 module _ (s : Sharing) (n : ℕ) (i : Inv s) where
@@ -114,7 +114,7 @@ kept s (Event.Install_apart n) i g = at s n i _
     (Steps.installing_steps s.attempt s.device s.top n (s.node n) (i.past n) (i.node n) (i.on n) g.0 g.1 (collected_of s n i g) g.2 g.3)
 kept s (Event.Install_seizer n) i g = at s n i _
     (Steps.seized_steps s.attempt s.device s.top n (s.node n) (i.past n) (i.node n) (i.on n) g.0.0 g.0.1 (collected_of s n i g.0) g.0.2 g.0.3 g.1
-      (is_seized (s.node n).phase (seizer_phase s n i g.0 g.1 g.2)))
+    (is_seized (s.node n).phase (seizer_phase s n i g.0 g.1 g.2)))
 kept s (Event.Install_known n) i g = at s n i _
     (Steps.known_steps s.attempt s.device s.top n (s.node n) (i.past n) (i.node n) (i.on n) g.0.0 g.0.1 (collected_of s n i g.0) g.0.2 g.0.3 g.1 g.2)
 kept s (Event.Install_new n) i g = at s n i _
@@ -132,43 +132,93 @@ kept s (Event.Write n x) i g = write_kept s x i
 -- The first state: no history, no task, no attempt.
 first_past : (n : ℕ) → PastOk (λ _. no_attempt) n 0 no_past
 first_past n = record {
-    seized_held = λ q. grind arith; seized_asked = λ q. grind arith; seized_ended = λ q. grind arith; unregistered_ended = λ q. grind arith;
-    unregistered_unwritten = λ q. grind arith; unregistered_unseized = λ q. grind arith; ended_low = λ q. grind arith; wrote_asked = λ q. grind arith; wrote_low = λ q. grind arith;
-    seizings = λ q. grind arith; seizings_low = λ q. grind arith; joinings = λ q. grind arith; joinings_low = λ q. grind arith;
-  }
+  seized_held = λ q. grind arith;
+  seized_asked = λ q. grind arith;
+  seized_ended = λ q. grind arith;
+  unregistered_ended = λ q. grind arith;
+  unregistered_unwritten = λ q. grind arith;
+  unregistered_unseized = λ q. grind arith;
+  ended_low = λ q. grind arith;
+  wrote_asked = λ q. grind arith;
+  wrote_low = λ q. grind arith;
+  seizings = λ q. grind arith;
+  seizings_low = λ q. grind arith;
+  joinings = λ q. grind arith;
+  joinings_low = λ q. grind arith;
+}
 
 first_node : (n : ℕ) (valid : Bool) → NodeOk (λ _. no_attempt) n (first_initiator valid)
 first_node n valid = record {
-    session = grind arith; installed = grind arith; showed = grind arith; busy = grind arith; collected = grind arith; member = grind arith;
-    asked = grind arith; kind = grind arith; before = grind arith; running = grind arith; untrusted = grind arith; plain = grind arith;
-    trusted = grind arith; less = grind arith; outside = grind arith; unwritten = grind arith; distrusted = grind arith; joining = grind arith;
-    joining_counted = grind arith; joining_held = grind arith; joined = grind arith; joined_valid = grind arith; joined_installed = grind arith;
-    joined_counted = grind arith; joined_held = grind arith; seized_phase = grind arith; unregistered_over = grind arith;
-    seizings_none = grind arith; joinings_none = grind arith;
-  }
+  session = grind arith;
+  installed = grind arith;
+  showed = grind arith;
+  busy = grind arith;
+  collected = grind arith;
+  member = grind arith;
+  asked = grind arith;
+  kind = grind arith;
+  before = grind arith;
+  running = grind arith;
+  untrusted = grind arith;
+  plain = grind arith;
+  trusted = grind arith;
+  less = grind arith;
+  outside = grind arith;
+  unwritten = grind arith;
+  distrusted = grind arith;
+  joining = grind arith;
+  joining_counted = grind arith;
+  joining_held = grind arith;
+  joined = grind arith;
+  joined_valid = grind arith;
+  joined_installed = grind arith;
+  joined_counted = grind arith;
+  joined_held = grind arith;
+  seized_phase = grind arith;
+  unregistered_over = grind arith;
+  seizings_none = grind arith;
+  joinings_none = grind arith;
+}
 
 first_on : (registered : ℕ → Bool) (n : ℕ) → OnDevice (λ _. no_attempt) (first_device registered) 0 n (first_initiator (registered n))
 first_on registered n = record {
-    word = grind arith; reserved_own = grind arith; reserved = grind arith; valid_top = grind arith; seized_top = grind arith;
-    valid_held = λ e. grind arith; seized_held = λ e. grind arith; quorum_held = λ e. grind arith; seized_showed = λ q e. grind arith;
-  }
+  word = grind arith;
+  reserved_own = grind arith;
+  reserved = grind arith;
+  valid_top = grind arith;
+  seized_top = grind arith;
+  valid_held = λ e. grind arith;
+  seized_held = λ e. grind arith;
+  quorum_held = λ e. grind arith;
+  seized_showed = λ q e. grind arith;
+}
 
 first_attempt : (N : ℕ → Initiator) (q : ℕ) → AttemptOk N q no_attempt
 first_attempt N q = record {
-    positive = grind arith; promised = λ m. grind arith; collected_asking = grind arith; collected_held = grind arith; collected_counted = grind arith;
-    asking = λ m. grind arith; asked_member = λ m. grind arith; asked_seizer = grind arith; asked_last = λ m. grind arith; answered = λ m. grind arith;
-    holds_asking = grind arith; holds_held = grind arith; holds_seized = grind arith;
-  }
+  positive = grind arith;
+  promised = λ m. grind arith;
+  collected_asking = grind arith;
+  collected_held = grind arith;
+  collected_counted = grind arith;
+  asking = λ m. grind arith;
+  asked_member = λ m. grind arith;
+  asked_seizer = grind arith;
+  asked_last = λ m. grind arith;
+  answered = λ m. grind arith;
+  holds_asking = grind arith;
+  holds_held = grind arith;
+  holds_seized = grind arith;
+}
 
 pub first_ok : (registered : ℕ → Bool) → Inv (first_sharing registered)
 first_ok registered = record {
-    past = first_past;
-    node = λ n. first_node n (registered n);
-    on = first_on registered;
-    alone = λ n k. record { valid = grind arith; seized = grind arith };
-    attempt = λ q. first_attempt (λ n. first_initiator (registered n)) q;
-    device = record { held_top = λ e. grind arith; top_held = grind arith; top_word = grind arith; word = grind arith; reserved = λ e. grind arith; holder = grind arith };
-  }
+  past = first_past;
+  node = λ n. first_node n (registered n);
+  on = first_on registered;
+  alone = λ n k. record { valid = grind arith; seized = grind arith };
+  attempt = λ q. first_attempt (λ n. first_initiator (registered n)) q;
+  device = record { held_top = λ e. grind arith; top_held = grind arith; top_word = grind arith; word = grind arith; reserved = λ e. grind arith; holder = grind arith };
+}
 
 -- Every state that a run reaches.
 pub runs : (s t : Sharing) (events : List Event) → Inv s → Run s events t → Inv t

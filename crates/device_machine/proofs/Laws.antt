@@ -1,13 +1,11 @@
 -- The laws, of each state in which the invariant holds.
-use Rattle.std.proofs.Common.{◌≡◌, ◌≢◌, ℕ, zero, suc, ◌<◌, ◌≤◌, ◌⊎◌, inl, inr, Bool, true, false, refl, sym, ap, subst, ◌∙◌, arith}
-use Rattle.device_machine.specs.Phase.{Phase, rank}
-use Rattle.device_machine.specs.Device.{Device, LetsWrite}
-use Rattle.device_machine.specs.Initiator.{Initiator}
-use Rattle.device_machine.specs.Attempt.{Attempt}
-use Rattle.device_machine.specs.Sharing.{Sharing, Writes}
+use Rattle.std.proofs.Common.{◌≡◌, ◌≢◌, ℕ, zero, suc, ◌<◌, ◌≤◌, ◌⊎◌, inl, inr, Bool, true, false, refl, sym, subst, ◌∙◌, arith}
+use Rattle.device_machine.specs.Phase.{Phase, rank, IsSeizing}
+use Rattle.device_machine.specs.Device.{LetsWrite}
+use Rattle.device_machine.specs.Sharing.{Sharing, MayInstall, Writes}
 use Rattle.device_machine.specs.Laws.{Holds, MemberOrAbove, HasJoined}
 use Rattle.device_machine.proofs.Steps.{not_true}
-use Rattle.device_machine.proofs.Invariant.{PastOk, NodeOk, OnDevice, AttemptOk, DeviceOk, Inv}
+use Rattle.device_machine.proofs.Invariant.{Inv}
 
 clash : (b : Bool) → b ≡ true → b ≡ false → ⊥
 clash b h h' = let e : true ≡ false = sym h ∙ h' in apart e
@@ -36,13 +34,13 @@ module _ (s : Sharing) (i : Inv s) where
 
   pub joined : (n : ℕ) → (s.node n).joined ≡ true → HasJoined s n
   joined n j = record {
-      in_session = (i.node n).busy busy;
-      promised = (i.node n).session ((i.node n).busy busy);
-      installed = (i.node n).joined_installed j;
-      member = (i.node n).member busy;
-      holds = ((i.node n).joined_counted j, (i.node n).joined_held j);
-      valid = (i.node n).joined_valid j;
-    }
+    in_session = (i.node n).busy busy;
+    promised = (i.node n).session ((i.node n).busy busy);
+    installed = (i.node n).joined_installed j;
+    member = (i.node n).member busy;
+    holds = ((i.node n).joined_counted j, (i.node n).joined_held j);
+    valid = (i.node n).joined_valid j;
+  }
     where
       busy : 0 < rank (s.node n).phase
       busy = let r = (i.node n).joined j in omega arith
@@ -77,6 +75,7 @@ module _ (s : Sharing) (i : Inv s) where
       by : (k : ℕ) → (s.node k).past.wrote q ≡ true → ((k ≡ (s.attempt q).seizer) ⊎ ((s.node k).past.unregistered q ≡ true)) → k ≡ (s.attempt q).seizer
       by k w (inl e) = e
       by k w (inr u) = let none = (i.past k).unregistered_unwritten q u in absurd (cc)
+
       last : (k : ℕ) → (s.node k).past.wrote q ≡ true → k ≡ (s.attempt q).seizer
       last k w = by k w ((i.attempt q).asked_last k ((i.past k).wrote_asked q w))
 
@@ -93,6 +92,7 @@ module _ (s : Sharing) (i : Inv s) where
     where
       unclaimed : (s.node n).valid ≡ false
       unclaimed = not_true (s.node n).valid (λ c. clash ((s.attempt s.top).members n) ((i.on n).valid_top c key t) out)
+
       unjoined : (s.node n).joined ≡ false
       unjoined = not_true (s.node n).joined (λ j. clash (s.node n).valid ((i.node n).joined_valid j) unclaimed)
 
@@ -109,6 +109,11 @@ module _ (s : Sharing) (i : Inv s) where
   pub meets : (e q : ℕ) → Holds s e → Holds s q → (s.attempt q).quorum ≡ true → e < q
       → ((s.attempt q).members (s.attempt q).seizer ≡ true) × MemberOrAbove s (s.attempt q).seizer e ((s.node (s.attempt q).seizer).past.showed q)
   meets e q he hq kind lt = (seizer_member q hq, (i.on (s.attempt q).seizer).seized_showed q e ((i.attempt q).holds_seized hq.0 hq.1) kind (held e he) lt)
+
+  -- whoever installs was asked for nothing that it has not answered
+  pub at_install : (n : ℕ) → MayInstall s n → IsSeizing (s.node n).phase → ⊥
+  at_install n g b = let asked = (i.node n).asked b.0 (omega (arith, b.1)) in
+      clash ((s.node n).past.ended (s.node n).session) ((i.attempt (s.node n).session).answered n g.1 asked) ((i.node n).running g.0 b.1)
 
   pub over_when_joined : (n : ℕ) → (s.node n).joined ≡ true → (s.node n).phase ≡ Phase.Over
   over_when_joined n j = is_over (s.node n).phase ((i.node n).joined j)

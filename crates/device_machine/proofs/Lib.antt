@@ -1,9 +1,12 @@
 pub mod Invariant
 pub mod Growth
 pub mod Frames
-pub mod Nodes
+pub mod NodeSession
+pub mod NodeAsking
+pub mod NodeHolding
 pub mod Pasts
-pub mod On
+pub mod OnSession
+pub mod OnSeizing
 pub mod Devices
 pub mod Claims
 pub mod Steps
@@ -15,3 +18,5 @@ pub mod Later
 pub mod Laws
 pub mod Reached
 pub mod Samples
+pub mod SplitRun
+pub mod LateRun

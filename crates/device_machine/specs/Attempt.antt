@@ -22,7 +22,8 @@ pub record Attempt : Type 0 where
   pub holds : Bool
 
 abbrev pub no_attempt : Attempt
-no_attempt = record { collected = false; members = λ _. false; asking = false; quorum = false; asked = λ _. false; seizer = 0; held = false; counted = false; holds = false }
+no_attempt =
+    record { collected = false; members = λ _. false; asking = false; quorum = false; asked = λ _. false; seizer = 0; held = false; counted = false; holds = false }
 
 abbrev pub collecting : Attempt → (ℕ → Bool) → Attempt
 collecting e members = record e { collected = true; members = members }

@@ -44,15 +44,28 @@ pub record Initiator : Type 0 where
   pub past : Past
 
 abbrev pub no_past : Past
-no_past = record { showed = λ _. 0; seizings = λ _. 0; joinings = λ _. 0; seized = λ _. false; unregistered = λ _. false; ended = λ _. false; wrote = λ _. false }
+no_past =
+    record { showed = λ _. 0; seizings = λ _. 0; joinings = λ _. 0; seized = λ _. false; unregistered = λ _. false; ended = λ _. false; wrote = λ _. false }
 
 abbrev pub first_initiator : Bool → Initiator
 first_initiator registered =
-    record { promised = 0; session = 0; installed = 0; valid = registered; joined = false; phase = Phase.Idle; quorum = false; expected = 0; target = 0; past = no_past }
+    record {
+      promised = 0;
+      session = 0;
+      installed = 0;
+      valid = registered;
+      joined = false;
+      phase = Phase.Idle;
+      quorum = false;
+      expected = 0;
+      target = 0;
+      past = no_past;
+    }
 
 -- Promise: the node enters session q and shows its installed epoch. The joined mark and the task go with the session before.
 abbrev pub promising : Initiator → ℕ → Initiator
-promising v q = record v { promised = q; session = q; joined = false; phase = Phase.Idle; past = record v.past { showed = put v.past.showed q v.installed } }
+promising v q =
+    record v { promised = q; session = q; joined = false; phase = Phase.Idle; past = record v.past { showed = put v.past.showed q v.installed } }
 
 -- The node goes down, by a crash, a panic or a stop in a save: promise, installed epoch and the valid mark stay.
 abbrev pub crashing : Initiator → Initiator
@@ -64,7 +77,12 @@ to_phase v p = record v { phase = p }
 
 -- A seizing is begun.
 abbrev pub seizing : Initiator → Bool → Initiator
-seizing v quorum = record v { phase = Phase.Asked; quorum = quorum; past = record v.past { seizings = put v.past.seizings v.session (suc (v.past.seizings v.session)) } }
+seizing v quorum =
+    record v {
+      phase = Phase.Asked;
+      quorum = quorum;
+      past = record v.past { seizings = put v.past.seizings v.session (suc (v.past.seizings v.session)) };
+    }
 
 -- Seizing without votes: in the event of the first command, and before it, the record says that the key is not validated.
 abbrev pub unvalidated : Initiator → Initiator
@@ -84,11 +102,16 @@ aiming v k = record v { phase = Phase.Preempting; target = k }
 
 -- The seizing ended, and the device is held.
 abbrev pub holding : Initiator → Initiator
-holding v = record v { phase = Phase.Seized; past = record v.past { seized = put v.past.seized v.session true; ended = put v.past.ended v.session true } }
+holding v =
+    record v { phase = Phase.Seized; past = record v.past { seized = put v.past.seized v.session true; ended = put v.past.ended v.session true } }
 
 -- The seizing ended not-registered: no swap was done.
 abbrev pub rejecting : Initiator → Initiator
-rejecting v = record v { phase = Phase.Over; past = record v.past { unregistered = put v.past.unregistered v.session true; ended = put v.past.ended v.session true } }
+rejecting v =
+    record v {
+      phase = Phase.Over;
+      past = record v.past { unregistered = put v.past.unregistered v.session true; ended = put v.past.ended v.session true };
+    }
 
 -- The seizing ended in another way.
 abbrev pub ending : Initiator → Initiator
@@ -109,4 +132,10 @@ admitted v = record v { valid = true; joined = true; phase = Phase.Over }
 
 -- Install at a node whose key is not validated, or was not seen: the record says so, and a joining is begun.
 abbrev pub joining : Initiator → Initiator
-joining v = record v { installed = v.session; valid = false; phase = Phase.Joining; past = record v.past { joinings = put v.past.joinings v.session (suc (v.past.joinings v.session)) } }
+joining v =
+    record v {
+      installed = v.session;
+      valid = false;
+      phase = Phase.Joining;
+      past = record v.past { joinings = put v.past.joinings v.session (suc (v.past.joinings v.session)) };
+    }

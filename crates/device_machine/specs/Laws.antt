@@ -1,8 +1,5 @@
 -- Words of the laws.
-use Rattle.std.specs.Prelude.{ℕ, Bool, true, false, ◌≡◌, ◌<◌, ◌≤◌, ◌⊎◌}
-use Rattle.device_machine.specs.Device.{Device, LetsWrite}
-use Rattle.device_machine.specs.Initiator.{Initiator}
-use Rattle.device_machine.specs.Attempt.{Attempt}
+use Rattle.std.specs.Prelude.{ℕ, true, ◌≡◌, ◌<◌, ◌≤◌, ◌⊎◌}
 use Rattle.device_machine.specs.Sharing.{Sharing}
 
 -- attempt q counted a majority, and holds the device
@@ -26,6 +23,8 @@ pub record HasJoined (s : Sharing) (n : ℕ) : Type 0 where
 -- What no later state takes back.
 pub record Later (s t : Sharing) : Type 0 where
   pub word : s.device.word ≤ t.device.word
+  -- the device is never held for an attempt after it was held for a greater one
+  pub top : s.top ≤ t.top
   pub reserved : s.device.reserved ≡ true → t.device.reserved ≡ true
   pub promised : (n : ℕ) → (s.node n).promised ≤ (t.node n).promised
   pub collected : (q : ℕ) → (s.attempt q).collected ≡ true → (t.attempt q).collected ≡ true

@@ -2,7 +2,7 @@
 -- Asked, Keyed, Swapping, Marked, Reserved (and Preempting, as often as a key has to go), Cleared, Seized;
 -- that of a device without votes Asked, Untrusted, Keyed and on as before. A joining goes Joining, Entered, Over.
 -- A task that fails ends in Over from wherever it stands.
-use Rattle.std.specs.Prelude.{ℕ, ◌≤◌, ◌<◌, ◌≡◌}
+use Rattle.std.specs.Prelude.{ℕ, ◌≤◌}
 
 pub data Phase : Type 0 where
   -- nothing was begun in this session

@@ -1,7 +1,6 @@
 -- Two runs, which show that each kind of event can come, and what the laws are about.
-use Rattle.std.specs.Prelude.{ℕ, Bool, true, false, ◌||◌, nat_eq, List, [], ◌∷◌, ◌++◌}
+use Rattle.std.specs.Prelude.{ℕ, Bool, true, false, ◌||◌, nat_eq, List, [], ◌∷◌}
 use Rattle.device_machine.specs.Sharing.{Sharing, Event, after, first_sharing}
-
 
 -- the state that these events lead to
 abbrev pub all_of : Sharing → List Event → Sharing

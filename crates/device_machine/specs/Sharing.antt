@@ -4,9 +4,9 @@
 -- A command is done and answered, or refused (then the task goes on or ends as its rule says), or it fails: not done, which is Fail or Late,
 -- or done while its answer is lost, which is the event's twin in `_lost`. A node that goes down inside a save is the event followed by Crash,
 -- where the new text is durable, or Crash alone, where it is not.
-use Rattle.std.specs.Prelude.{ℕ, Bool, true, false, ◌≡◌, ◌≢◌, ◌<◌, ◌≤◌, ◌⊎◌, List, [], ◌∷◌, if◌then◌else◌, nat_eq}
+use Rattle.std.specs.Prelude.{ℕ, Bool, true, false, ◌≡◌, ◌<◌, ◌≤◌, ◌⊎◌, List, [], ◌∷◌}
 use Rattle.machine_base.specs.Put.{put}
-use Rattle.device_machine.specs.Phase.{Phase, rank, IsSeizing, IsJoining, AsksWord}
+use Rattle.device_machine.specs.Phase.{Phase, IsSeizing, IsJoining, AsksWord}
 use Rattle.device_machine.specs.Device.{Device, LetsWrite, registering, wording, reserving, preempting, storing, first_device}
 use Rattle.device_machine.specs.Initiator.{Initiator, first_initiator, promising, crashing, to_phase, seizing, unvalidated, expecting, marking, marking_lost, aiming, holding, rejecting, ending, installing, admitted, joining}
 use Rattle.device_machine.specs.Attempt.{Attempt, no_attempt, collecting, asking_node, holding_for, counting}
@@ -63,7 +63,7 @@ pub data Event : Type 0 where
   Confirm : (n : ℕ) → Event
   -- its seizing ends: greater word, expelled, contended, or a fault
   Fail : (n : ℕ) → Event
-  -- attempt q counts a majority, and holds the device, or does without it
+  -- attempt q counts a majority, and holds the device, or does without it (what a majority is, is no concern of one device)
   Count_with : (q : ℕ) → Event
   Count_without : (q : ℕ) → Event
   -- node n installs, and joins nothing
@@ -132,19 +132,22 @@ Allowed s (Look n k) =
     ((s.node n).phase ≡ Phase.Reserved) × (s.device.keys n ≡ true) × (s.device.keys k ≡ true) × ((s.attempt (s.node n).session).members k ≡ false)
 Allowed s (Preempt n) = (s.node n).phase ≡ Phase.Preempting
 Allowed s (Preempt_lost n) = (s.node n).phase ≡ Phase.Preempting
--- the last reading shows members' keys alone
+-- the last reading of the keys shows members' alone ..
 Allowed s (Clear n) =
     ((s.node n).phase ≡ Phase.Reserved) × (s.device.keys n ≡ true)
     × ((k : ℕ) → s.device.keys k ≡ true → (s.attempt (s.node n).session).members k ≡ true)
--- and the word read after it is equal
+-- .. and the word read after it is equal
 Allowed s (Confirm n) = ((s.node n).phase ≡ Phase.Cleared) × (s.device.word ≡ (s.node n).session)
 Allowed s (Fail n) = IsSeizing (s.node n).phase
 Allowed s (Count_with q) =
-    ((s.attempt q).collected ≡ true) × ((s.attempt q).counted ≡ false) × ((s.attempt q).asking ≡ true) × ((s.node (s.attempt q).seizer).past.seized q ≡ true)
+    ((s.attempt q).collected ≡ true) × ((s.attempt q).counted ≡ false) × ((s.attempt q).asking ≡ true)
+    × ((s.node (s.attempt q).seizer).past.seized q ≡ true)
+-- whoever was asked has answered, so no seizing for the attempt goes on after its votes are counted
 Allowed s (Count_without q) = ((s.attempt q).collected ≡ true) × ((s.attempt q).counted ≡ false) × AllAnswered s q
 Allowed s (Install_apart n) = MayInstall s n
 Allowed s (Install_seizer n) =
     MayInstall s n × ((s.attempt (s.node n).session).holds ≡ true) × ((s.attempt (s.node n).session).seizer ≡ n)
+-- that its key was seen in the last reading is a rule too, which the laws do without
 Allowed s (Install_known n) = MayInstall s n × ((s.attempt (s.node n).session).holds ≡ true) × ((s.node n).valid ≡ true)
 Allowed s (Install_new n) = MayInstall s n × ((s.attempt (s.node n).session).holds ≡ true)
 Allowed s (Enter n) = (s.node n).phase ≡ Phase.Joining
@@ -165,7 +168,11 @@ at_attempt s q e = record s { attempt = put s.attempt q e }
 -- node n holds the device for the attempt of its session
 abbrev pub at_held : Sharing → ℕ → Sharing
 at_held s n =
-    record s { node = put s.node n (holding (s.node n)); attempt = put s.attempt (s.node n).session (holding_for (s.attempt (s.node n).session)); top = (s.node n).session }
+    record s {
+      node = put s.node n (holding (s.node n));
+      attempt = put s.attempt (s.node n).session (holding_for (s.attempt (s.node n).session));
+      top = (s.node n).session;
+    }
 
 abbrev pub after : Sharing → Event → Sharing
 after s (Promise n q) = at_node s n (promising (s.node n) q)
