@@ -1,7 +1,9 @@
 -- The sample run, step by step.
-use Rattle.std.proofs.Common.{◌≡◌, ◌≢◌, ◌≤◌, ◌<◌, ℕ, zero, suc, ◌⊎◌, inl, inr, true, false, refl, sym, subst, Bool, List, [], ◌∷◌, ◌++◌, length, arith}
+use Rattle.std.proofs.Common.{◌≡◌, ◌≢◌, ◌≤◌, ◌<◌, ℕ, ◌⊎◌, inl, inr, true, false, refl, sym, subst, Bool, List, [], ◌∷◌, ◌++◌, length, arith}
 use Rattle.machine_base.specs.Put.{put}
 use Rattle.machine_base.specs.Epochs.{coordinator}
+use Rattle.machine_base.proofs.Puts.{true_or_false}
+use Rattle.std.specs.Prelude.{nat_eq}
 use Rattle.membership_machine.specs.Votes.{Setting, IsMajority}
 use Rattle.membership_machine.specs.Sample.{both, only, create_group}
 use Rattle.membership_machine.proofs.SampleRun.{for_only, for_both}
@@ -16,10 +18,14 @@ run_on S w v u [] fs r x = subst (λ y. Run S y fs u) r x
 run_on S w v u (e ∷ es) fs r x = (r.0, run_on S (after w e) v u es fs r.1 x)
 
 -- what holds of device 1, and of each other
-by_device : (P : ℕ → Type 0) → P 1 → P 0 → ((d : ℕ) → P (suc (suc d))) → (d : ℕ) → P d
-by_device P one none more zero = none
-by_device P one none more (suc zero) = one
-by_device P one none more (suc (suc d)) = more d
+by_device : (P : ℕ → Type 0) → P 1 → ((d : ℕ) → nat_eq d 1 ≡ false → P d) → (d : ℕ) → P d
+by_device P one more d = go (true_or_false (nat_eq d 1))
+  where
+    is_one : nat_eq d 1 ≡ true → d ≡ 1
+    is_one h = grind arith
+    go : (nat_eq d 1 ≡ true) ⊎ (nat_eq d 1 ≡ false) → P d
+    go (inl h) = subst P (sym (is_one h)) one
+    go (inr h) = more d h
 
 -- all three votes, and two of them
 all_votes : IsMajority sample_setting three_votes both (only 1)
@@ -53,11 +59,11 @@ unfolding coordinator
 forming_run =
     (((refl, refl, record { all_answered = for_both _ refl refl; of_member = refl; none_newer = for_both _ (inr (refl, inr (refl, omega arith))) (inr (refl, inr (refl, omega arith))) },
         record { under_committed = all_votes; under_pending = all_votes }),
-        by_device _ ((refl, refl, refl, refl), (((omega arith, refl, refl, omega arith), refl, refl), tt)) ((refl, refl, inl refl), ((omega arith, refl, refl, omega arith), tt))
-            (λ d. ((refl, refl, inl refl), ((omega arith, refl, refl, omega arith), tt))),
+        by_device _ ((refl, refl, refl, refl), (((omega arith, refl, refl, omega arith), refl, refl), tt))
+            (λ d h. rw h ((refl, refl, inl refl), ((omega arith, refl, refl, omega arith), tt))),
         for_only _ 1 (λ v. refl)),
     (((refl, refl, refl, omega arith),
-        by_device _ (((omega arith, refl, refl, omega arith), refl, refl), tt) ((omega arith, refl, refl, omega arith), tt) (λ d. ((omega arith, refl, refl, omega arith), tt)), tt),
+        by_device _ (((omega arith, refl, refl, omega arith), refl, refl), tt) (λ d h. rw h ((omega arith, refl, refl, omega arith), tt)), tt),
     (((refl, refl, refl, for_both _ refl refl), (λ d. tt), tt),
     (((refl, refl, refl, refl), (λ d. tt), tt),
     ((refl, (refl, inr refl), refl),
@@ -76,8 +82,8 @@ updating_run =
 pub fencing_run : Run sample_setting updated fencing fenced
 unfolding coordinator
 fencing_run =
-    (((omega arith, refl), by_device _ (omega arith, tt) (omega arith, tt) (λ d. (omega arith, tt)), tt),
-    ((refl, for_only _ 1 refl, by_device _ (omega arith, refl, for_only _ 1 (omega arith)) (omega arith, refl, for_only _ 1 (omega arith)) (λ d. (omega arith, refl, for_only _ 1 (omega arith)))),
+    (((omega arith, refl), by_device _ (omega arith, tt) (λ d h. rw h (omega arith, tt)), tt),
+    ((refl, for_only _ 1 refl, by_device _ (omega arith, refl, for_only _ 1 (omega arith)) (λ d h. rw h (omega arith, refl, for_only _ 1 (omega arith)))),
     ((refl, (refl, refl, refl, refl, inl refl), tt),
     ((refl, ((omega arith, refl, refl), refl, omega arith, refl), tt),
     ((refl, (refl, refl, refl, refl), tt),
@@ -95,8 +101,8 @@ unfolding coordinator
 splitting_run =
     (((refl, refl, record { all_answered = for_only _ 1 refl; of_member = refl; none_newer = for_only _ 1 (inr (refl, inr (refl, omega arith))) },
         record { under_committed = two_votes; under_pending = two_votes }),
-        by_device _ ((refl, refl, refl, refl), (((omega arith, refl, refl, omega arith), refl, refl), tt)) ((refl, refl, inl refl), ((omega arith, refl, refl, omega arith), tt))
-            (λ d. ((refl, refl, inl refl), ((omega arith, refl, refl, omega arith), tt))),
+        by_device _ ((refl, refl, refl, refl), (((omega arith, refl, refl, omega arith), refl, refl), tt))
+            (λ d h. rw h ((refl, refl, inl refl), ((omega arith, refl, refl, omega arith), tt))),
         for_only _ 1 (λ v. refl)),
     (((refl, refl, refl, for_only _ 1 refl), (λ d. tt), tt),
     ((refl, (refl, inr refl), refl),

@@ -1,5 +1,5 @@
 -- The sample run, step by step.
-use Rattle.std.proofs.Common.{◌≡◌, ◌≢◌, ◌≤◌, ℕ, ◌⊎◌, inl, inr, true, false, refl, sym, subst, Bool, List, [], ◌∷◌, ◌++◌, length, arith}
+use Rattle.std.proofs.Common.{◌≡◌, ℕ, ◌⊎◌, inl, inr, true, refl, sym, subst, List, [], ◌∷◌, ◌++◌, arith}
 use Rattle.machine_base.specs.Epochs.{coordinator}
 use Rattle.membership_machine.specs.Votes.{Setting, IsMajority}
 use Rattle.membership_machine.specs.State.{Memberships, first_memberships}
@@ -37,53 +37,104 @@ one_and_device us = record { more_than_half = omega arith }
 
 pub forming_run : Run sample_setting first_memberships forming formed
 unfolding coordinator
-forming_run =
-    ((omega arith, refl),
-    ((refl, omega arith),
-    ((refl, refl, record { all_answered = for_both _ refl refl; of_member = refl; none_newer = for_both _ (inr (refl, inr (refl, omega arith))) (inr (refl, inr (refl, omega arith))) },
-        record { under_committed = two_of_two; under_pending = two_of_two }),
-    ((refl, refl, refl, omega arith),
-    ((refl, refl, refl, for_both _ refl refl),
-    ((refl, refl, refl, refl),
-    refl))))))
+forming_run = (
+  (omega arith, refl),
+  (
+    (refl, omega arith),
+    (
+      (
+        refl,
+        refl,
+        record { all_answered = for_both _ refl refl; of_member = refl; none_newer = for_both _ (inr (refl, inr (refl, omega arith))) (inr (refl, inr (refl, omega arith))) },
+        record { under_committed = two_of_two; under_pending = two_of_two },
+      ),
+      (
+        (refl, refl, refl, omega arith),
+        (
+          (refl, refl, refl, for_both _ refl refl),
+          (
+            (refl, refl, refl, refl),
+            refl,
+          ),
+        ),
+      ),
+    ),
+  ),
+)
 
 pub changing_run : Run sample_setting formed changing changed
 unfolding coordinator
-changing_run =
-    (((refl, refl), refl),
-    (((refl, refl), (λ e. omega arith), refl),
-    (tt,
-    refl)))
+changing_run = (
+  ((refl, refl), refl),
+  (
+    ((refl, refl), (λ e. omega arith), refl),
+    (
+      tt,
+      refl,
+    ),
+  ),
+)
 
 pub reforming_run : Run sample_setting changed reforming reformed
 unfolding coordinator
-reforming_run =
-    ((omega arith, refl),
-    ((refl, omega arith),
-    ((refl, refl, record { all_answered = for_both _ refl refl; of_member = refl; none_newer = for_both _ (inr (refl, inr (refl, omega arith))) (inr (refl, inr (refl, omega arith))) },
-        record { under_committed = two_of_two; under_pending = two_of_three }),
-    ((refl, refl, refl, omega arith),
-    ((refl, refl, refl, for_both _ refl refl),
-    ((refl, refl, refl, refl),
-    refl))))))
+reforming_run = (
+  (omega arith, refl),
+  (
+    (refl, omega arith),
+    (
+      (
+        refl,
+        refl,
+        record { all_answered = for_both _ refl refl; of_member = refl; none_newer = for_both _ (inr (refl, inr (refl, omega arith))) (inr (refl, inr (refl, omega arith))) },
+        record { under_committed = two_of_two; under_pending = two_of_three },
+      ),
+      (
+        (refl, refl, refl, omega arith),
+        (
+          (refl, refl, refl, for_both _ refl refl),
+          (
+            (refl, refl, refl, refl),
+            refl,
+          ),
+        ),
+      ),
+    ),
+  ),
+)
 
 pub updating_run : Run sample_setting reformed updating updated
 unfolding coordinator
-updating_run =
-    (((refl, refl), refl),
-    (((refl, refl), (λ e. omega arith), refl),
-    (((refl, refl), for_both _ (omega arith) (omega arith)),
-    (((refl, refl), (λ e. omega arith), omega arith),
-    refl))))
+updating_run = (
+  ((refl, refl), refl),
+  (
+    ((refl, refl), (λ e. omega arith), refl),
+    (
+      ((refl, refl), for_both _ (omega arith) (omega arith)),
+      (
+        ((refl, refl), (λ e. omega arith), omega arith),
+        refl,
+      ),
+    ),
+  ),
+)
 
 pub splitting_run : Run sample_setting updated splitting split
 unfolding coordinator
-splitting_run =
-    ((omega arith, refl),
-    ((refl, refl, record { all_answered = for_only _ 2 refl; of_member = refl; none_newer = for_only _ 2 (inr (refl, inr (refl, omega arith))) },
-        record { under_committed = one_and_device (create_group ∷ []); under_pending = one_and_device (create_group ∷ []) }),
-    ((refl, refl, refl, for_only _ 2 refl),
-    refl)))
+splitting_run = (
+  (omega arith, refl),
+  (
+    (
+      refl,
+      refl,
+      record { all_answered = for_only _ 2 refl; of_member = refl; none_newer = for_only _ 2 (inr (refl, inr (refl, omega arith))) },
+      record { under_committed = one_and_device (create_group ∷ []); under_pending = one_and_device (create_group ∷ []) },
+    ),
+    (
+      (refl, refl, refl, for_only _ 2 refl),
+      refl,
+    ),
+  ),
+)
 
 -- what it came to
 

@@ -1,5 +1,5 @@
 -- A run of two nodes and one quorum device, which shows that the events can come, and what the laws are about.
-use Rattle.std.specs.Prelude.{ℕ, Bool, true, false, ◌||◌, nat_eq, if◌then◌else◌, List, [], ◌∷◌, codes}
+use Rattle.std.specs.Prelude.{ℕ, Bool, false, ◌||◌, nat_eq, if◌then◌else◌, List, [], ◌∷◌, codes}
 use Rattle.membership_machine.specs.Records.{Update}
 use Rattle.membership_machine.specs.Votes.{Votes, Setting}
 use Rattle.membership_machine.specs.State.{Memberships, first_memberships}

@@ -72,5 +72,4 @@ pub fn sample_of_a_split()
     ensures formed { ((formed.node 1).member ≡ true) × ((formed.node 2).member ≡ true) }
     ensures started { ((split.epoch 194).started ≡ true) × ((split.node 2).member ≡ true) }
     ensures base { (split.epoch 194).base ≡ add_device ∷ create_group ∷ [] }
-{
-}
+{}
