@@ -1,23 +1,21 @@
 -- Both machines go on in agreement.
-use Rattle.std.proofs.Common.{ℕ, ◌≡◌, ◌≢◌, ◌<◌, ◌≤◌, ◌⊎◌, inl, inr, refl, sym, ◌∙◌, ap, subst, Bool, true, false, List, [], ◌∷◌, length, take, arith}
+use Rattle.std.proofs.Common.{ℕ, ◌≡◌, refl, sym, ◌∙◌, ap, subst, Bool, true, false, List, [], ◌∷◌, arith}
 use Rattle.machine_base.specs.Put.{put}
 use Rattle.machine_base.specs.Epochs.{coordinator}
-use Rattle.machine_base.proofs.Puts.{put_cases, put_here, put_there, same_or_not}
+use Rattle.machine_base.proofs.Puts.{put_cases, put_here, put_there}
 use Rattle.membership_machine.specs.Records.{Update, Saved}
 use Rattle.membership_machine.specs.Votes.{Setting}
 use Rattle.membership_machine.specs.State.{Node, Epoch, Memberships}
 use Rattle.membership_machine.specs.Steps as step
 use Rattle.membership_machine.specs.Events as membership
-use Rattle.membership_machine.specs.Starts.{HasVotes}
 use Rattle.membership_machine.specs.Invariant as inside
-use Rattle.membership_machine.proofs.Preserved.{not_marked}
 use Rattle.device_machine.specs.Initiator as initiator
 use Rattle.device_machine.specs.Initiator.{Initiator}
 use Rattle.device_machine.specs.Attempt as attempt
 use Rattle.device_machine.specs.Attempt.{Attempt}
 use Rattle.device_machine.specs.Sharing as sharing
 use Rattle.device_machine.specs.Sharing.{Sharing}
-use Rattle.cluster_machine.specs.Cluster.{Joining, Apart, Seizer, Known, New, install_at, count_at, part, all_after, MayCome, VotesUnder, is_command}
+use Rattle.cluster_machine.specs.Cluster.{Joining, Apart, Seizer, Known, New, install_at, count_at, part, all_after, VotesUnder, is_command}
 use Rattle.cluster_machine.specs.Agreement.{SameNode, SameAttempt, Agrees}
 use Rattle.cluster_machine.proofs.Commands.{Unmoved, Unchanged, Still, command_still}
 
@@ -45,7 +43,8 @@ promise_same n v q b s = record {
   session = refl;
   installed = s.installed;
   showed = λ k. put_cases (λ j x. x ≡ (put n.showed q n.saved j).installed) v.past.showed q v.installed (s.installed ∙ ap (λ (r : Saved). r.installed) (sym (put_here n.showed q n.saved)))
-    (λ j ne. s.showed j ∙ ap (λ (r : Saved). r.installed) (sym (put_there n.showed q n.saved j ne))) k }
+      (λ j ne. s.showed j ∙ ap (λ (r : Saved). r.installed) (sym (put_there n.showed q n.saved j ne))) k;
+}
 
 crash_same : (n : Node) (v : Initiator) → SameNode n v → SameNode (step.crashing n) (initiator.crashing v)
 crash_same n v s = record { promised = s.promised; session = refl; installed = s.installed; showed = s.showed }
@@ -105,44 +104,60 @@ pub step_agrees : (S : Setting) (d : ℕ) (w : Memberships) (s : Sharing) (e : m
     → Agrees S d w s → Agrees S d (membership.after w e) (all_after s (part e joining d))
 step_agrees S d w s (membership.Begin q members) joining i a c g = record {
   node = nodes_both w.node s.node (coordinator q) _ _ g.node (promise_same (w.node (coordinator q)) (s.node (coordinator q)) q true (g.node (coordinator q)));
-  attempt = attempts_one S d w.epoch s.attempt q _ g.attempt (begin_same S d (w.epoch q) (s.attempt q) members (λ t. omega (arith, (i.epoch q).tried_promised t, a.0)) (g.attempt q)) }
+  attempt = attempts_one S d w.epoch s.attempt q _ g.attempt (begin_same S d (w.epoch q) (s.attempt q) members (λ t. omega (arith, (i.epoch q).tried_promised t, a.0)) (g.attempt q));
+}
 step_agrees S d w s (membership.Promise m q) joining i a c g = record {
   node = nodes_both w.node s.node m _ _ g.node (promise_same (w.node m) (s.node m) q false (g.node m));
-  attempt = g.attempt }
+  attempt = g.attempt;
+}
 step_agrees S d w s (membership.Count q n devices) joining i a c g =
-  subst (λ t. Agrees S d (membership.after w (membership.Count q n devices)) t) (sym (install_is (joining d) (sharing.after s (count_at (devices d) q)) (coordinator q)))
-  (subst (λ t. Agrees S d (membership.after w (membership.Count q n devices)) (sharing.at_node t (coordinator q) (installed_by (joining d) (t.node (coordinator q))))) (sym (count_is (devices d) s q))
+    subst (λ t. Agrees S d (membership.after w (membership.Count q n devices)) t) (sym (install_is (joining d) (sharing.after s (count_at (devices d) q)) (coordinator q)))
+    (subst (λ t. Agrees S d (membership.after w (membership.Count q n devices)) (sharing.at_node t (coordinator q) (installed_by (joining d) (t.node (coordinator q))))) (sym (count_is (devices d) s q))
     (record {
       node = nodes_both w.node s.node (coordinator q) _ _ g.node (install_same (joining d) (w.node (coordinator q)) (s.node (coordinator q)) q _ _ (g.node (coordinator q)) a.0);
-      attempt = attempts_both S d w.epoch s.attempt q _ _ g.attempt (count_same S d q n (w.epoch q) (s.attempt q) devices ((w.node n).showed q) (c q n devices refl) (g.attempt q)) }))
+      attempt = attempts_both S d w.epoch s.attempt q _ _ g.attempt (count_same S d q n (w.epoch q) (s.attempt q) devices ((w.node n).showed q) (c q n devices refl) (g.attempt q));
+    }))
 step_agrees S d w s (membership.Install m q) joining i a c g =
-  subst (λ t. Agrees S d (membership.after w (membership.Install m q)) t) (sym (install_is (joining d) s m))
+    subst (λ t. Agrees S d (membership.after w (membership.Install m q)) t) (sym (install_is (joining d) s m))
     (record { node = nodes_both w.node s.node m _ _ g.node (install_same (joining d) (w.node m) (s.node m) q _ _ (g.node m) a.2); attempt = g.attempt })
 step_agrees S d w s (membership.Start q) joining i a c g = record {
   node = nodes_one w.node s.node (coordinator q) _ g.node (quiet_same (w.node (coordinator q)) _ (s.node (coordinator q)) refl refl refl (λ k. refl) (g.node (coordinator q)));
-  attempt = attempts_one S d w.epoch s.attempt q _ g.attempt (start_same S d (w.epoch q) (s.attempt q) (g.attempt q)) }
+  attempt = attempts_one S d w.epoch s.attempt q _ g.attempt (start_same S d (w.epoch q) (s.attempt q) (g.attempt q));
+}
 step_agrees S d w s (membership.Join m q) joining i a c g = record {
-  node = nodes_one w.node s.node m _ g.node (quiet_same (w.node m) _ (s.node m) refl refl refl (λ k. refl) (g.node m)); attempt = g.attempt }
+  node = nodes_one w.node s.node m _ g.node (quiet_same (w.node m) _ (s.node m) refl refl refl (λ k. refl) (g.node m));
+  attempt = g.attempt;
+}
 step_agrees S d w s (membership.Propose q u) joining i a c g = record {
   node = nodes_one w.node s.node (coordinator q) _ g.node (quiet_same (w.node (coordinator q)) _ (s.node (coordinator q)) refl refl refl (λ k. refl) (g.node (coordinator q)));
-  attempt = attempts_one S d w.epoch s.attempt q _ g.attempt (propose_same S d (w.epoch q) (s.attempt q) u (g.attempt q)) }
+  attempt = attempts_one S d w.epoch s.attempt q _ g.attempt (propose_same S d (w.epoch q) (s.attempt q) u (g.attempt q));
+}
 step_agrees S d w s (membership.Propose_lost q u) joining i a c g = record {
   node = nodes_both w.node s.node (coordinator q) _ _ g.node (crash_same (w.node (coordinator q)) (s.node (coordinator q)) (g.node (coordinator q)));
-  attempt = attempts_one S d w.epoch s.attempt q _ g.attempt (propose_same S d (w.epoch q) (s.attempt q) u (g.attempt q)) }
+  attempt = attempts_one S d w.epoch s.attempt q _ g.attempt (propose_same S d (w.epoch q) (s.attempt q) u (g.attempt q));
+}
 step_agrees S d w s (membership.Prepare m q u) joining i a c g = record {
-  node = nodes_one w.node s.node m _ g.node (quiet_same (w.node m) _ (s.node m) refl refl refl (λ k. refl) (g.node m)); attempt = g.attempt }
+  node = nodes_one w.node s.node m _ g.node (quiet_same (w.node m) _ (s.node m) refl refl refl (λ k. refl) (g.node m));
+  attempt = g.attempt;
+}
 step_agrees S d w s (membership.Acknowledge q) joining i a c g = record {
   node = nodes_one w.node s.node (coordinator q) _ g.node (quiet_same (w.node (coordinator q)) _ (s.node (coordinator q)) refl refl refl (λ k. refl) (g.node (coordinator q)));
-  attempt = attempts_one S d w.epoch s.attempt q _ g.attempt (acknowledge_same S d (w.epoch q) (s.attempt q) (g.attempt q)) }
+  attempt = attempts_one S d w.epoch s.attempt q _ g.attempt (acknowledge_same S d (w.epoch q) (s.attempt q) (g.attempt q));
+}
 step_agrees S d w s (membership.Commit m q) joining i a c g = record {
-  node = nodes_one w.node s.node m _ g.node (quiet_same (w.node m) _ (s.node m) refl refl refl (λ k. refl) (g.node m)); attempt = g.attempt }
+  node = nodes_one w.node s.node m _ g.node (quiet_same (w.node m) _ (s.node m) refl refl refl (λ k. refl) (g.node m));
+  attempt = g.attempt;
+}
 step_agrees S d w s (membership.Crash m) joining i a c g = record {
-  node = nodes_both w.node s.node m _ _ g.node (crash_same (w.node m) (s.node m) (g.node m)); attempt = g.attempt }
+  node = nodes_both w.node s.node m _ _ g.node (crash_same (w.node m) (s.node m) (g.node m));
+  attempt = g.attempt;
+}
 
 pub collected_agrees : (S : Setting) (d : ℕ) (w : Memberships) (s : Sharing) (q : ℕ) → (w.epoch q).tried ≡ true → Agrees S d w s → Agrees S d w (sharing.after s (sharing.Collected q (w.epoch q).members))
 collected_agrees S d w s q t g = record {
   node = g.node;
-  attempt = put_cases (λ j x. SameAttempt S d (w.epoch j) x) s.attempt q _ (collect_same S d (w.epoch q) (s.attempt q) t (g.attempt q)) (λ j ne. g.attempt j) }
+  attempt = put_cases (λ j x. SameAttempt S d (w.epoch j) x) s.attempt q _ (collect_same S d (w.epoch q) (s.attempt q) t (g.attempt q)) (λ j ne. g.attempt j);
+}
 
 still_node : (n : Node) (v v' : Initiator) → Unmoved v v' → SameNode n v → SameNode n v'
 still_node n v v' u s = record { promised = u.promised ∙ s.promised; session = u.session ∙ s.session; installed = u.installed ∙ s.installed; showed = λ q. u.showed q ∙ s.showed q }
@@ -153,7 +168,8 @@ still_attempt S d e a a' u s = record {
   members = λ c m. u.members m ∙ s.members (sym u.collected ∙ c) m;
   counted = u.counted ∙ s.counted;
   holds = λ c. u.holds ∙ s.holds c;
-  quorum = λ c h v. u.quorum (s.counted ∙ c) ∙ s.quorum c h v }
+  quorum = λ c h v. u.quorum (s.counted ∙ c) ∙ s.quorum c h v;
+}
 
 pub command_agrees : (S : Setting) (d : ℕ) (w : Memberships) (s : Sharing) (e : sharing.Event) → is_command e ≡ true → sharing.Allowed s e → Agrees S d w s → Agrees S d w (sharing.after s e)
 command_agrees S d w s e c a g = go (command_still s e c a)

@@ -1,5 +1,5 @@
 -- A command at a device changes nothing of what stands in both machines.
-use Rattle.std.proofs.Common.{ℕ, ◌≡◌, ◌≢◌, refl, sym, ◌∙◌, ap, Bool, true, false, arith}
+use Rattle.std.proofs.Common.{ℕ, ◌≡◌, refl, true, false}
 use Rattle.machine_base.specs.Put.{put}
 use Rattle.machine_base.proofs.Puts.{put_cases}
 use Rattle.device_machine.specs.Initiator.{Initiator}
@@ -35,7 +35,8 @@ pub record Still (s t : Sharing) : Type 0 where
 at_node : (s t : Sharing) (n : ℕ) (v : Initiator) → Unmoved (s.node n) v → ((k : ℕ) → t.node k ≡ put s.node n v k) → ((q : ℕ) → t.attempt q ≡ s.attempt q) → Still s t
 at_node s t n v u e f = record {
   node = λ k. rw (e k) (put_cases (λ j x. Unmoved (s.node j) x) s.node n v u (λ j ne. unmoved (s.node j)) k);
-  attempt = λ q. rw (f q) (unchanged (s.attempt q)) }
+  attempt = λ q. rw (f q) (unchanged (s.attempt q));
+}
 
 pub command_still : (s : Sharing) (e : sharing.Event) → is_command e ≡ true → sharing.Allowed s e → Still s (sharing.after s e)
 command_still s (sharing.Promise n q) c a = absurd (cc)
@@ -43,7 +44,8 @@ command_still s (sharing.Crash n) c a = absurd (cc)
 command_still s (sharing.Collected q members) c a = absurd (cc)
 command_still s (sharing.Ask q n quorum) c a = record {
   node = λ k. unmoved (s.node k);
-  attempt = put_cases (λ j x. Unchanged (s.attempt j) x) s.attempt q _ (record { collected = refl; members = λ m. refl; counted = refl; holds = refl; quorum = λ k. let f : (s.attempt q).counted ≡ false = a.1 in absurd (cc) }) (λ j ne. unchanged (s.attempt j)) }
+  attempt = put_cases (λ j x. Unchanged (s.attempt j) x) s.attempt q _ (record { collected = refl; members = λ m. refl; counted = refl; holds = refl; quorum = λ k. let f : (s.attempt q).counted ≡ false = a.1 in absurd (cc) }) (λ j ne. unchanged (s.attempt j));
+}
 command_still s (sharing.Seize n) c a = at_node s _ n _ (record { promised = refl; session = refl; installed = refl; showed = λ q. refl }) (λ k. refl) (λ q. refl)
 command_still s (sharing.Check n) c a = at_node s _ n _ (record { promised = refl; session = refl; installed = refl; showed = λ q. refl }) (λ k. refl) (λ q. refl)
 command_still s (sharing.Reject n) c a = at_node s _ n _ (record { promised = refl; session = refl; installed = refl; showed = λ q. refl }) (λ k. refl) (λ q. refl)
@@ -62,7 +64,8 @@ command_still s (sharing.Preempt_lost n) c a = at_node s _ n _ (record { promise
 command_still s (sharing.Clear n) c a = at_node s _ n _ (record { promised = refl; session = refl; installed = refl; showed = λ q. refl }) (λ k. refl) (λ q. refl)
 command_still s (sharing.Confirm n) c a = record {
   node = put_cases (λ j x. Unmoved (s.node j) x) s.node n _ (record { promised = refl; session = refl; installed = refl; showed = λ q. refl }) (λ j ne. unmoved (s.node j));
-  attempt = put_cases (λ j x. Unchanged (s.attempt j) x) s.attempt (s.node n).session _ (record { collected = refl; members = λ m. refl; counted = refl; holds = refl; quorum = λ k. refl }) (λ j ne. unchanged (s.attempt j)) }
+  attempt = put_cases (λ j x. Unchanged (s.attempt j) x) s.attempt (s.node n).session _ (record { collected = refl; members = λ m. refl; counted = refl; holds = refl; quorum = λ k. refl }) (λ j ne. unchanged (s.attempt j));
+}
 command_still s (sharing.Fail n) c a = at_node s _ n _ (record { promised = refl; session = refl; installed = refl; showed = λ q. refl }) (λ k. refl) (λ q. refl)
 command_still s (sharing.Count_with q) c a = absurd (cc)
 command_still s (sharing.Count_without q) c a = absurd (cc)

@@ -1,24 +1,19 @@
 -- The laws of the whole, of each state in which both machines are in order and agree.
-use Rattle.std.proofs.Common.{ℕ, zero, suc, ◌≡◌, ◌≢◌, ◌<◌, ◌≤◌, ◌⊎◌, inl, inr, refl, sym, ◌∙◌, ap, subst, Bool, true, false, List, [], ◌∷◌, length, take, arith}
-use Rattle.machine_base.specs.Epochs.{coordinator}
+use Rattle.std.proofs.Common.{ℕ, ◌≡◌, ◌<◌, ◌≤◌, ◌⊎◌, inl, inr, sym, ◌∙◌, ap, subst, true, false, [], arith}
 use Rattle.membership_machine.specs.Votes.{Votes, Setting, IsMajority}
-use Rattle.membership_machine.specs.State.{Node, Epoch, Memberships}
-use Rattle.membership_machine.specs.Events as membership
-use Rattle.membership_machine.specs.Starts.{last_start, Follows, Alike, HasVotes, Meeting, DevicesMeet}
+use Rattle.membership_machine.specs.Starts.{last_start, Follows, Alike, HasVotes, DevicesMeet}
 use Rattle.membership_machine.specs.Parts as inner
 use Rattle.membership_machine.specs.Parts.{ShareMember, ShareDevice}
-use Rattle.membership_machine.specs.Invariant as inside
 use Rattle.membership_machine.proofs.Lineages as lineages
-use Rattle.device_machine.specs.Phase.{Phase, rank}
+use Rattle.device_machine.specs.Phase.{rank}
 use Rattle.device_machine.specs.Sharing as sharing
 use Rattle.device_machine.specs.Sharing.{Sharing}
 use Rattle.device_machine.specs.Laws.{Holds, MemberOrAbove, HasJoined}
 use Rattle.device_machine.proofs.Invariant as seizing
 use Rattle.device_machine.proofs.Laws as laws
-use Rattle.cluster_machine.specs.Cluster.{Cluster, Event, Membership, Command, Allowed, after}
-use Rattle.cluster_machine.specs.Agreement.{SameNode, SameAttempt, Agrees}
+use Rattle.cluster_machine.specs.Cluster.{Cluster, Command, Allowed}
 use Rattle.cluster_machine.specs.Parts.{PromisesHold, AttemptsDiffer, WordsHold, ReservationsHold, TasksHold, IsGreatestHeld, OutsidersHold, ValidNodesHold, CountedUnder, MeetAtDevice, AttemptsMeet, RecordsAgree, WriteIsSafe}
-use Rattle.cluster_machine.proofs.Whole.{InOrder, Goes, event_goes}
+use Rattle.cluster_machine.proofs.Whole.{InOrder, event_goes}
 
 module _ (S : Setting) (w : Cluster) (i : InOrder S w) where
   -- an attempt that counted with device d held is so at the device too
@@ -43,9 +38,12 @@ module _ (S : Setting) (w : Cluster) (i : InOrder S w) where
       let at_e : Holds (w.device d) e = holds_at d e ce he in
       let at_q : Holds (w.device d) q = holds_at d q cq hq in
       let n : ℕ = ((w.device d).attempt q).seizer in
-      let both = laws.meets (w.device d) (i.device d) e q at_e at_q (((i.agrees d).attempt q).quorum cq hq v) lt in
-      (n, ((i.device d).attempt q).holds_seized at_q.0 at_q.1, member_of d q n (collected_at d q at_q) both.0,
-        subst (λ k. ((w.memberships.epoch e).members n ≡ true) ⊎ (e < k)) (((i.agrees d).node n).showed q) (knows_of d e n (((w.device d).node n).past.showed q) (collected_at d e at_e) both.1))
+      let both = laws.meets (w.device d) (i.device d) e q at_e at_q (((i.agrees d).attempt q).quorum cq hq v) lt in (
+        n,
+        ((i.device d).attempt q).holds_seized at_q.0 at_q.1,
+        member_of d q n (collected_at d q at_q) both.0,
+        subst (λ k. ((w.memberships.epoch e).members n ≡ true) ⊎ (e < k)) (((i.agrees d).node n).showed q) (knows_of d e n (((w.device d).node n).past.showed q) (collected_at d e at_e) both.1),
+      )
 
   pub devices_meet : DevicesMeet S w.memberships
   devices_meet e q d lt ce cq he hq v = let m = meet_at e q d lt ce cq he hq v in record { node = m.0; later_member = m.2; knows = m.3 }
@@ -76,10 +74,12 @@ module _ (S : Setting) (w : Cluster) (i : InOrder S w) where
     one_joining = λ d n q. ((i.device d).past n).joinings q;
     no_second_seizing = λ d n h a. again_seizing (w.device d) n ((i.device d).node n) h a;
     no_second_joining = λ d n h a. again_joining (w.device d) n ((i.device d).node n) h a;
-    none_queued = λ d n. laws.over_when_joined (w.device d) (i.device d) n }
+    none_queued = λ d n. laws.over_when_joined (w.device d) (i.device d) n;
+  }
     where
       again_seizing : (s : Sharing) (n : ℕ) → seizing.NodeOk s.attempt n (s.node n) → 0 < (s.node n).past.seizings (s.node n).session → sharing.Allowed s (sharing.Seize n) → ⊥
       again_seizing s n o h a = omega (arith, o.seizings_none a.0.0 (ap rank a.3))
+
       again_joining : (s : Sharing) (n : ℕ) → seizing.NodeOk s.attempt n (s.node n) → 0 < (s.node n).past.joinings (s.node n).session → sharing.Allowed s (sharing.Install_new n) → ⊥
       again_joining s n o h a = omega (arith, o.joinings_none a.0.0 a.0.3)
 
@@ -104,14 +104,16 @@ module _ (S : Setting) (w : Cluster) (i : InOrder S w) where
   pub outsiders : OutsidersHold w
   outsiders = record {
     not_valid = λ d p n g out key. (laws.outsider (w.device d) (i.device d) n (above_zero d p g) (outside d p n g out) key).0;
-    not_joined = λ d p n g out key. (laws.outsider (w.device d) (i.device d) n (above_zero d p g) (outside d p n g out) key).1 }
+    not_joined = λ d p n g out key. (laws.outsider (w.device d) (i.device d) n (above_zero d p g) (outside d p n g out) key).1;
+  }
 
   pub valid_nodes : ValidNodesHold w
   valid_nodes = record {
     member = λ d p n g v key. member_of d p n (collected_held d p g.held) (subst (λ k. ((w.device d).attempt k).members n ≡ true) (sym (greatest d p g)) (laws.valid_member (w.device d) (i.device d) n v key (above_zero d p g)).0);
     promised = λ d p n g v key. subst (λ k. p ≤ k) (((i.agrees d).node n).promised) (subst (λ k. k ≤ ((w.device d).node n).promised) (sym (greatest d p g)) (laws.valid_member (w.device d) (i.device d) n v key (above_zero d p g)).1);
     above = λ d e n h v key. subst (λ k. ((w.memberships.epoch e).members n ≡ true) ⊎ (e < k)) (((i.agrees d).node n).installed)
-      (knows_of d e n ((w.device d).node n).installed (collected_held d e h) (laws.valid_above (w.device d) (i.device d) n e v key h)) }
+        (knows_of d e n ((w.device d).node n).installed (collected_held d e h) (laws.valid_above (w.device d) (i.device d) n e v key h));
+  }
 
   -- 8 and 9
 
@@ -131,7 +133,7 @@ module _ (S : Setting) (w : Cluster) (i : InOrder S w) where
           → ShareMember (w.memberships.epoch p).members (w.memberships.epoch q).members ⊎ MeetAtDevice w v p q
       both p q v lt cp cq uq (inl m) = inl m
       both p q v lt cp cq uq (inr s) = let m = meet_at p q s.device lt cp cq s.first s.second (has_votes q s.device v uq s.has_votes) in
-        inr (record { device = s.device; has_votes = s.has_votes; first = s.first; second = s.second; seizer = m.0; seized = m.1; member = m.2; knows = m.3 })
+          inr (record { device = s.device; has_votes = s.has_votes; first = s.first; second = s.second; seizer = m.0; seized = m.1; member = m.2; knows = m.3 })
 
   pub records : RecordsAgree w
   records = lineages.records S w.memberships i.memberships devices_meet
@@ -147,17 +149,23 @@ module _ (S : Setting) (w : Cluster) (i : InOrder S w) where
   pub acknowledged_kept : (e q : ℕ) → (w.memberships.epoch e).started ≡ true → e < q → (w.memberships.epoch q).counted ≡ true → Alike (w.memberships.epoch e).acked (w.memberships.epoch e).log (w.memberships.epoch q).base
   acknowledged_kept e q s l c = lineages.acknowledged_kept S w.memberships i.memberships devices_meet e q s l c
 
+  pub joined_session : (d n f : ℕ) → sharing.Writes (w.device d) n → (w.memberships.epoch f).counted ≡ true → (w.memberships.epoch f).holds d ≡ true → f ≤ (w.memberships.node n).session
+  joined_session d n f a c h = subst (λ q. f ≤ q) (((i.agrees d).node n).session) (laws.disk_rule (w.device d) (i.device d) n f a (holds_at d f c h))
+
   pub write_is_safe : (d n x : ℕ) → Allowed S w (Command d (sharing.Write n x)) → WriteIsSafe w d n
   write_is_safe d n x a = record {
     started = (i.memberships.node n).member_started a.2;
     member = subst (λ q. (w.memberships.epoch q).members n ≡ true) same (member_of d session n (collected_at d session here.holds) here.member);
     holds = subst (λ q. (w.memberships.epoch q).holds d ≡ true) same (sym (((i.agrees d).attempt session).holds (sym (((i.agrees d).attempt session).counted) ∙ here.holds.0)) ∙ here.holds.1);
-    none_greater = λ f c h. subst (λ q. f ≤ q) same (laws.disk_rule (w.device d) (i.device d) n f a.1 (holds_at d f c h));
-    left_out_by_none = λ f c h out. subst (λ q. f < q) same (laws.left_out (w.device d) (i.device d) n f a.1 (holds_at d f c h) (((i.agrees d).attempt f).members (collected_at d f (holds_at d f c h)) n ∙ out)) }
+    none_greater = λ f c h. joined_session d n f a.1 c h;
+    left_out_by_none = λ f c h out. subst (λ q. f < q) same (laws.left_out (w.device d) (i.device d) n f a.1 (holds_at d f c h) (((i.agrees d).attempt f).members (collected_at d f (holds_at d f c h)) n ∙ out));
+  }
     where
       session : ℕ
       session = ((w.device d).node n).session
+
       same : session ≡ (w.memberships.node n).session
       same = ((i.agrees d).node n).session
+
       here : HasJoined (w.device d) n
       here = laws.joined (w.device d) (i.device d) n a.1.0

@@ -1,9 +1,7 @@
 -- Every event keeps both machines in order and in agreement, and takes back nothing that was told.
-use Rattle.std.proofs.Common.{ℕ, ◌≡◌, ◌≢◌, ◌<◌, ◌≤◌, ◌⊎◌, inl, inr, refl, sym, ◌∙◌, ap, subst, Bool, true, false, List, [], ◌∷◌, take, arith}
-use Rattle.machine_base.specs.Put.{put}
+use Rattle.std.proofs.Common.{ℕ, ◌≡◌, refl, sym, subst, Bool, true, List, [], ◌∷◌}
 use Rattle.machine_base.proofs.Puts.{put_cases}
 use Rattle.membership_machine.specs.Votes.{Setting}
-use Rattle.membership_machine.specs.State.{Node, Epoch, Memberships, first_memberships}
 use Rattle.membership_machine.specs.Events as membership
 use Rattle.membership_machine.specs.Growth.{Grows}
 use Rattle.membership_machine.specs.Invariant as inside
@@ -16,7 +14,7 @@ use Rattle.device_machine.proofs.Invariant as seizing
 use Rattle.device_machine.proofs.Kept as keeping
 use Rattle.device_machine.proofs.Later as later
 use Rattle.cluster_machine.specs.Cluster.{Cluster, first_cluster, Event, Membership, Collected, Command, Joining, part, MayCome, all_after, VotesUnder, CountsQuorum, Allowed, after, Run}
-use Rattle.cluster_machine.specs.Agreement.{SameNode, SameAttempt, Agrees}
+use Rattle.cluster_machine.specs.Agreement.{Agrees}
 use Rattle.cluster_machine.proofs.Agreements.{step_agrees, collected_agrees, command_agrees}
 
 pub record InOrder (S : Setting) (w : Cluster) : Type 0 where
@@ -54,27 +52,33 @@ membership_goes S w e joining i a = on (preserved.event_keeps S w.memberships e 
       in_order = record {
         memberships = g.holds;
         device = λ d. (goes_device (w.device d) (part e joining d) (i.device d) (a.1 d)).0;
-        agrees = λ d. step_agrees S d w.memberships (w.device d) e joining i.memberships a.0 (quorum_of S w e d a.2) (i.agrees d) };
+        agrees = λ d. step_agrees S d w.memberships (w.device d) e joining i.memberships a.0 (quorum_of S w e d a.2) (i.agrees d);
+      };
       memberships = g.grows;
-      device = λ d. (goes_device (w.device d) (part e joining d) (i.device d) (a.1 d)).1 }
+      device = λ d. (goes_device (w.device d) (part e joining d) (i.device d) (a.1 d)).1;
+    }
 
 collected_goes : (S : Setting) (w : Cluster) (q : ℕ) → InOrder S w → Allowed S w (Collected q) → Goes S w (after w (Collected q))
 collected_goes S w q i a = record {
   in_order = record {
     memberships = i.memberships;
     device = λ d. (goes_device (w.device d) (sharing.Collected q (w.memberships.epoch q).members ∷ []) (i.device d) (a.2 d, tt)).0;
-    agrees = λ d. collected_agrees S d w.memberships (w.device d) q a.0 (i.agrees d) };
+    agrees = λ d. collected_agrees S d w.memberships (w.device d) q a.0 (i.agrees d);
+  };
   memberships = growth.grows_same S w.memberships i.memberships;
-  device = λ d. (goes_device (w.device d) (sharing.Collected q (w.memberships.epoch q).members ∷ []) (i.device d) (a.2 d, tt)).1 }
+  device = λ d. (goes_device (w.device d) (sharing.Collected q (w.memberships.epoch q).members ∷ []) (i.device d) (a.2 d, tt)).1;
+}
 
 command_goes : (S : Setting) (w : Cluster) (d : ℕ) (e : sharing.Event) → InOrder S w → Allowed S w (Command d e) → Goes S w (after w (Command d e))
 command_goes S w d e i a = record {
   in_order = record {
     memberships = i.memberships;
     device = put_cases (λ k s. seizing.Inv s) w.device d (sharing.after (w.device d) e) (goes_device (w.device d) (e ∷ []) (i.device d) (a.1, tt)).0 (λ k ne. i.device k);
-    agrees = put_cases (λ k s. Agrees S k w.memberships s) w.device d (sharing.after (w.device d) e) (command_agrees S d w.memberships (w.device d) e a.0 a.1 (i.agrees d)) (λ k ne. i.agrees k) };
+    agrees = put_cases (λ k s. Agrees S k w.memberships s) w.device d (sharing.after (w.device d) e) (command_agrees S d w.memberships (w.device d) e a.0 a.1 (i.agrees d)) (λ k ne. i.agrees k);
+  };
   memberships = growth.grows_same S w.memberships i.memberships;
-  device = put_cases (λ k s. Later (w.device k) s) w.device d (sharing.after (w.device d) e) (goes_device (w.device d) (e ∷ []) (i.device d) (a.1, tt)).1 (λ k ne. later.later_same (w.device k)) }
+  device = put_cases (λ k s. Later (w.device k) s) w.device d (sharing.after (w.device d) e) (goes_device (w.device d) (e ∷ []) (i.device d) (a.1, tt)).1 (λ k ne. later.later_same (w.device k));
+}
 
 pub event_goes : (S : Setting) (w : Cluster) (e : Event) → InOrder S w → Allowed S w e → Goes S w (after w e)
 event_goes S w (Membership e joining) i a = membership_goes S w e joining i a
@@ -89,7 +93,8 @@ run_goes S w (e ∷ es) v i r = on (event_goes S w e i r.0) (λ h. run_goes S (a
     on g f = record {
       in_order = (f g.in_order).in_order;
       memberships = growth.grows_over w.memberships (after w e).memberships v.memberships g.memberships (f g.in_order).memberships;
-      device = λ d. later.later_trans (w.device d) ((after w e).device d) (v.device d) (g.device d) ((f g.in_order).device d) }
+      device = λ d. later.later_trans (w.device d) ((after w e).device d) (v.device d) (g.device d) ((f g.in_order).device d);
+    }
 
 pub first_in_order : (S : Setting) (registered : ℕ → ℕ → Bool) → InOrder S (first_cluster registered)
 first_in_order S registered = record {
@@ -97,7 +102,9 @@ first_in_order S registered = record {
   device = λ d. keeping.first_ok (registered d);
   agrees = λ d. record {
     node = λ n. record { promised = refl; session = refl; installed = refl; showed = λ q. refl };
-    attempt = λ q. record { tried = λ c. c; members = λ c m. refl; counted = refl; holds = λ c. refl; quorum = λ c. absurd (cc) } } }
+    attempt = λ q. record { tried = λ c. c; members = λ c m. refl; counted = refl; holds = λ c. refl; quorum = λ c. absurd (cc) };
+  };
+}
 
 pub in_order : (S : Setting) (registered : ℕ → ℕ → Bool) (es : List Event) (w : Cluster) → Run S (first_cluster registered) es w → InOrder S w
 in_order S registered es w r = (run_goes S (first_cluster registered) es w (first_in_order S registered) r).in_order

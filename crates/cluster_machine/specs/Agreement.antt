@@ -1,5 +1,5 @@
 -- What stands in both machines is the same.
-use Rattle.std.specs.Prelude.{ℕ, ◌≡◌, Bool, true}
+use Rattle.std.specs.Prelude.{ℕ, ◌≡◌, true}
 use Rattle.membership_machine.specs.Votes.{Setting}
 use Rattle.membership_machine.specs.State.{Node, Epoch, Memberships}
 use Rattle.membership_machine.specs.Starts.{HasVotes}

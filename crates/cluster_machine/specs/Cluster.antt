@@ -1,7 +1,7 @@
 -- The whole: one machine of memberships, and the machine of one device for each shared device. A node's promise, session and
 -- installed epoch stand in both. So a step that changes one of these is a step of memberships that every device takes part in;
 -- all else is a step of memberships alone, or a command at one device.
-use Rattle.std.specs.Prelude.{ℕ, ◌≡◌, ◌<◌, ◌⊎◌, Bool, true, false, List, [], ◌∷◌, take, if◌then◌else◌}
+use Rattle.std.specs.Prelude.{ℕ, ◌≡◌, ◌<◌, ◌⊎◌, Bool, true, false, List, [], ◌∷◌, take}
 use Rattle.machine_base.specs.Put.{put}
 use Rattle.machine_base.specs.Epochs.{coordinator}
 use Rattle.membership_machine.specs.Records.{Saved}

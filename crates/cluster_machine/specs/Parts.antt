@@ -1,15 +1,15 @@
 -- What holds of the whole after every list of events, in nine parts.
-use Rattle.std.specs.Prelude.{ℕ, ◌+◌, ◌≡◌, ◌<◌, ◌≤◌, ◌⊎◌, Bool, true, false, List, length, take}
+use Rattle.std.specs.Prelude.{ℕ, ◌≡◌, ◌<◌, ◌≤◌, ◌⊎◌, Bool, true, false, take}
 use Rattle.machine_base.specs.Epochs.{coordinator}
-use Rattle.membership_machine.specs.Votes.{Votes, Setting, IsMajority}
-use Rattle.membership_machine.specs.State.{Epoch, Memberships}
+use Rattle.membership_machine.specs.Votes.{Votes, Setting}
+use Rattle.membership_machine.specs.State.{Epoch}
 use Rattle.membership_machine.specs.Events as membership
 use Rattle.membership_machine.specs.Parts as inside
 use Rattle.membership_machine.specs.Parts.{ShareMember}
 use Rattle.device_machine.specs.Phase.{Phase}
 use Rattle.device_machine.specs.Sharing as sharing
 use Rattle.device_machine.specs.Sharing.{Sharing}
-use Rattle.cluster_machine.specs.Cluster.{Cluster, Event, Membership, Allowed, after}
+use Rattle.cluster_machine.specs.Cluster.{Cluster, Event, Allowed, after}
 
 -- 1. A durable promise never falls. The installed epoch is at most the promise. The session is 0 or the promise.
 -- A member's session and installed epoch are its promise, and that number started.
@@ -60,7 +60,7 @@ pub record ValidNodesHold (w : Cluster) : Type 0 where
   pub member : (d p n : ℕ) → IsGreatestHeld (w.device d) p → ((w.device d).node n).valid ≡ true → (w.device d).device.keys n ≡ true → (w.memberships.epoch p).members n ≡ true
   pub promised : (d p n : ℕ) → IsGreatestHeld (w.device d) p → ((w.device d).node n).valid ≡ true → (w.device d).device.keys n ≡ true → p ≤ (w.memberships.node n).promised
   pub above : (d e n : ℕ) → ((w.device d).attempt e).held ≡ true → ((w.device d).node n).valid ≡ true → (w.device d).device.keys n ≡ true
-    → ((w.memberships.epoch e).members n ≡ true) ⊎ (e < (w.memberships.node n).saved.installed)
+      → ((w.memberships.epoch e).members n ≡ true) ⊎ (e < (w.memberships.node n).saved.installed)
 
 -- the votes under which an attempt counted: those of the committed updates of its base, and those with the pending one
 abbrev pub CountedUnder : Setting → Epoch → Votes → Type 0
@@ -81,8 +81,8 @@ pub record MeetAtDevice (w : Cluster) (v : Votes) (p q : ℕ) : Type 0 where
 -- enabled in these votes, and q's seizer of it is a member of p or had an installed epoch above p when it promised q.
 pub record AttemptsMeet (S : Setting) (w : Cluster) : Type 0 where
   pub meet : (p q : ℕ) (v : Votes) → p < q → (w.memberships.epoch p).counted ≡ true → (w.memberships.epoch q).counted ≡ true
-    → CountedUnder S (w.memberships.epoch p) v → CountedUnder S (w.memberships.epoch q) v
-    → ShareMember (w.memberships.epoch p).members (w.memberships.epoch q).members ⊎ MeetAtDevice w v p q
+      → CountedUnder S (w.memberships.epoch p) v → CountedUnder S (w.memberships.epoch q) v
+      → ShareMember (w.memberships.epoch p).members (w.memberships.epoch q).members ⊎ MeetAtDevice w v p q
 
 -- 9. Records with the same installed epoch agree place by place. The committed entries of each are a prefix of its entries. An entry that
 -- every member of a started membership has saved in that membership is in the newest record of each later attempt that counted a majority.
