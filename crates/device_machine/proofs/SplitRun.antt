@@ -2,7 +2,7 @@
 use Rattle.std.proofs.Common.{◌≡◌, ℕ, ◌≤◌, inl, inr, true, false, refl, [], ◌∷◌, arith}
 use Rattle.machine_base.specs.Put.{put}
 use Rattle.device_machine.specs.Sharing.{Event, Run, first_sharing}
-use Rattle.device_machine.specs.Sample.{all_of, just, pair, forming, formed, splitting, split, returning, returned, reforming, reformed}
+use Rattle.device_machine.specs.Sample.{all_of, just, pair, forming, formed, faulting, faulted, splitting, split, returning, returned, reforming, reformed}
 use Rattle.device_machine.proofs.Samples.{for_just, for_pair}
 
 -- the last readings of the keys: members' alone
@@ -63,11 +63,29 @@ forming_run = (
   ),
 )
 
-pub splitting_run : Run formed splitting split
-splitting_run = (
+pub faulting_run : Run formed faulting faulted
+faulting_run = (
   omega arith,
   (
     (omega arith, refl, λ m h. for_just (λ j. 129 ≤ ((all_of formed (Event.Promise 1 129 ∷ [])).node j).promised) 1 m (omega arith) h),
+    (
+      (refl, refl, refl, refl, inl refl),
+      (
+        ((omega arith, refl, refl), refl, omega arith, refl),
+        (
+          (refl, refl, refl, refl),
+          (((omega arith, omega arith), omega arith), ((refl, refl, inr refl), (refl, ((refl, refl, refl, refl), (refl, refl))))),
+        ),
+      ),
+    ),
+  ),
+)
+
+pub splitting_run : Run faulted splitting split
+splitting_run = (
+  omega arith,
+  (
+    (omega arith, refl, λ m h. for_just (λ j. 193 ≤ ((all_of faulted (Event.Promise 1 193 ∷ [])).node j).promised) 1 m (omega arith) h),
     (
       (refl, refl, refl, refl, inl refl),
       (
@@ -81,12 +99,12 @@ splitting_run = (
               (
                 refl,
                 (
-                  (refl, refl, refl, refl),
+                  (refl, refl, split_keys),
                   (
-                    refl,
+                    (refl, refl),
                     (
-                      (refl, refl, split_keys),
-                      ((refl, refl), ((refl, refl, refl, refl), (((omega arith, refl, refl, omega arith), refl, refl), ((refl, inr refl), refl)))),
+                      (refl, refl, refl, refl),
+                      (((omega arith, refl, refl, omega arith), refl, refl), ((refl, inr refl), refl)),
                     ),
                   ),
                 ),
@@ -117,7 +135,7 @@ reforming_run = (
   (
     omega arith,
     (
-      (omega arith, refl, λ m h. for_pair (λ j. 193 ≤ ((all_of returned (Event.Promise 1 193 ∷ Event.Promise 2 193 ∷ [])).node j).promised) 1 2 m (omega arith) (omega arith) h),
+      (omega arith, refl, λ m h. for_pair (λ j. 257 ≤ ((all_of returned (Event.Promise 1 257 ∷ Event.Promise 2 257 ∷ [])).node j).promised) 1 2 m (omega arith) (omega arith) h),
       (
         (refl, refl, refl, refl, inl refl),
         (

@@ -30,15 +30,23 @@ forming =
 abbrev pub formed : Sharing
 formed = all_of (first_sharing (pair 1 2)) forming
 
--- Node 1 hears node 2 no more and forms membership 129 alone: it preempts node 2's key. Node 2 still believes itself a member of 65.
+-- Node 1 hears node 2 no more and tries to form membership 129 alone. Its preempt of node 2's key is done, and fails: the answer is lost, and the seizing ends.
+abbrev pub faulting : List Event
+faulting =
+    Event.Promise 1 129 ∷ Event.Collected 129 (just 1) ∷ Event.Ask 129 1 true ∷ Event.Seize 1 ∷ Event.Check 1 ∷ Event.Word_less 1 ∷ Event.Swap 1
+    ∷ Event.Reserve 1 ∷ Event.Look 1 2 ∷ Event.Preempt_lost 1 ∷ []
+
+abbrev pub faulted : Sharing
+faulted = all_of formed faulting
+
+-- Node 1 forms membership 193 alone, and writes. Node 2 still believes itself a member of 65.
 abbrev pub splitting : List Event
 splitting =
-    Event.Promise 1 129 ∷ Event.Collected 129 (just 1) ∷ Event.Ask 129 1 true ∷ Event.Seize 1 ∷ Event.Check 1 ∷ Event.Word_less 1 ∷ Event.Swap 1
-    ∷ Event.Reserve 1 ∷ Event.Look 1 2 ∷ Event.Preempt 1 ∷ Event.Clear 1 ∷ Event.Confirm 1 ∷ Event.Count_with 129 ∷ Event.Install_seizer 1
-    ∷ Event.Write 1 9 ∷ []
+    Event.Promise 1 193 ∷ Event.Collected 193 (just 1) ∷ Event.Ask 193 1 true ∷ Event.Seize 1 ∷ Event.Check 1 ∷ Event.Word_less 1 ∷ Event.Swap 1
+    ∷ Event.Reserve 1 ∷ Event.Clear 1 ∷ Event.Confirm 1 ∷ Event.Count_with 193 ∷ Event.Install_seizer 1 ∷ Event.Write 1 9 ∷ []
 
 abbrev pub split : Sharing
-split = all_of formed splitting
+split = all_of faulted splitting
 
 -- Node 2 goes down, comes up, and tries to form membership 130 alone: its key is absent.
 abbrev pub returning : List Event
@@ -48,11 +56,11 @@ returning =
 abbrev pub returned : Sharing
 returned = all_of split returning
 
--- Both form membership 193. Node 2 registers, reads that the word is still 193, is admitted, and writes.
+-- Both form membership 257. Node 2 registers, reads that the word is still 257, is admitted, and writes.
 abbrev pub reforming : List Event
 reforming =
-    Event.Promise 1 193 ∷ Event.Promise 2 193 ∷ Event.Collected 193 (pair 1 2) ∷ Event.Ask 193 1 true ∷ Event.Seize 1 ∷ Event.Check 1
-    ∷ Event.Word_less 1 ∷ Event.Swap 1 ∷ Event.Reserve 1 ∷ Event.Clear 1 ∷ Event.Confirm 1 ∷ Event.Count_with 193 ∷ Event.Install_seizer 1
+    Event.Promise 1 257 ∷ Event.Promise 2 257 ∷ Event.Collected 257 (pair 1 2) ∷ Event.Ask 257 1 true ∷ Event.Seize 1 ∷ Event.Check 1
+    ∷ Event.Word_less 1 ∷ Event.Swap 1 ∷ Event.Reserve 1 ∷ Event.Clear 1 ∷ Event.Confirm 1 ∷ Event.Count_with 257 ∷ Event.Install_seizer 1
     ∷ Event.Install_new 2 ∷ Event.Enter 2 ∷ Event.Admit 2 ∷ Event.Write 2 5 ∷ []
 
 abbrev pub reformed : Sharing

@@ -10,7 +10,7 @@ ghost use Rattle.device_machine.specs.Phase.{Phase, IsSeizing};
 ghost use Rattle.device_machine.specs.Sharing.{Sharing, Event, Run, MayInstall, Writes, first_sharing};
 ghost use Rattle.device_machine.specs.Laws.{Holds, MemberOrAbove, HasJoined, Later};
 ghost use Rattle.device_machine.specs.Device.{LetsWrite};
-ghost use Rattle.device_machine.specs.Sample.{pair, no_node, forming, formed, splitting, split, returning, returned, reforming, reformed, sharing, shared, leaving_out, left_out, registering_late, late, seizing_again, cleaned};
+ghost use Rattle.device_machine.specs.Sample.{pair, no_node, forming, formed, faulting, faulted, splitting, split, returning, returned, reforming, reformed, sharing, shared, leaving_out, left_out, registering_late, late, seizing_again, cleaned};
 
 /// Once an attempt has counted a majority and holds the device, every node that joined the device and that the device
 /// lets write is in no smaller session. So a node that such an attempt left out writes as a member of a greater one
@@ -148,16 +148,16 @@ pub fn quorum_device_meets()
 {}
 
 /// A run on a quorum device of nodes 1 and 2, which shows that the events can come and that the laws speak of something.
-/// They form membership 65 and both write. Node 1 forms 129 alone and preempts node 2's key: node 2 still believes itself
-/// a member of 65, and the device refuses its writes. Node 2 cannot form 130, since its key is absent. They form 193
-/// together, and node 2 is admitted and writes.
+/// They form membership 65 and both write. Node 1 seizes for 129 alone, and the answer of its preempt of node 2's key is
+/// lost. It forms 193 alone: node 2 still believes itself a member of 65, and the device refuses its writes. Node 2
+/// cannot form 130, since its key is absent. They form 257 together, and node 2 is admitted and writes.
 pub fn sample_of_a_split()
-    ensures run { Run (first_sharing (pair 1 2)) (forming ++ splitting ++ returning ++ reforming) reformed }
+    ensures run { Run (first_sharing (pair 1 2)) (forming ++ faulting ++ splitting ++ returning ++ reforming) reformed }
     ensures both { Writes formed 1 × Writes formed 2 }
-    ensures held { Holds split 129 × Writes split 1 }
+    ensures held { Holds split 193 × Writes split 1 }
     ensures fenced { ((split.node 2).joined ≡ true) × (LetsWrite split.device 2 → ⊥) }
     ensures rejected { (returned.node 2).past.unregistered 130 ≡ true }
-    ensures again { Holds reformed 193 × Writes reformed 2 × (reformed.device.content ≡ 5) }
+    ensures again { Holds reformed 257 × Writes reformed 2 × (reformed.device.content ≡ 5) }
 {}
 
 /// A run on a device without votes. Nodes 1, 2 and 3 form membership 65, then 1 and 2 form 129 before node 3 has

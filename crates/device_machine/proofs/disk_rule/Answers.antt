@@ -1,5 +1,4 @@
-use Rattle.std.proofs.Common.{◌≡◌, ℕ, ◌<◌, ◌≤◌, ◌⊎◌, Bool, true, false, List, sym, ◌∙◌}
-use Rattle.device_machine.specs.Sharing.{Sharing, Event, Run, Writes, first_sharing}
+use Rattle.std.proofs.Common.{◌∙◌}
 use Rattle.device_machine.proofs.Reached.{reached, reached_later, never_back}
 use Rattle.device_machine.proofs.Laws
 use Rattle.device_machine.proofs.disk_rule.Goals as goal

@@ -1,6 +1,6 @@
-use Rattle.std.proofs.Common.{◌≡◌, ℕ, inl, inr, refl, ◌++◌}
+use Rattle.std.proofs.Common.{inr, refl, ◌++◌}
 use Rattle.device_machine.specs.Sharing.{first_sharing}
-use Rattle.device_machine.specs.Sample.{pair, no_node, forming, formed, splitting, split, returning, returned, reforming, reformed, sharing, shared, leaving_out, left_out, registering_late, late, seizing_again, cleaned}
+use Rattle.device_machine.specs.Sample.{no_node, sharing, shared, leaving_out, left_out, registering_late, late, seizing_again, cleaned}
 use Rattle.device_machine.proofs.Samples.{run_on, refused}
 use Rattle.device_machine.proofs.LateRun.{sharing_run, leaving_out_run, registering_late_run, seizing_again_run}
 use Rattle.device_machine.proofs.sample_of_a_late_registration.Goals as goal
