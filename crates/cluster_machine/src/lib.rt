@@ -14,6 +14,7 @@ ghost use Rattle.membership_machine.specs.Votes.{Setting};
 ghost use Rattle.membership_machine.specs.Starts.{last_start, Follows, Alike};
 ghost use Rattle.membership_machine.specs.Growth.{Grows};
 ghost use Rattle.membership_machine.specs.Sample.{create_group};
+ghost use Rattle.membership_machine.specs.Parts.{StartsAreCounted};
 ghost use Rattle.device_machine.specs.Device.{LetsWrite};
 ghost use Rattle.device_machine.specs.Sharing.{Write, Writes};
 ghost use Rattle.device_machine.specs.Laws.{Later};
@@ -59,6 +60,11 @@ pub fn told_facts_stay()
         → Run S w later v → Grows w.memberships v.memberships }
     ensures devices { (S : Setting) (registered : ℕ → ℕ → Bool) (events later : List Event) (w v : Cluster) (d : ℕ) → Run S (first_cluster registered) events w
         → Run S w later v → Later (w.device d) (v.device d) }
+{}
+
+/// Every start was counted, with a majority under the committed and under the pending votes, and every member had installed it.
+pub fn starts_are_counted()
+    ensures { (S : Setting) (registered : ℕ → ℕ → Bool) (events : List Event) (w : Cluster) → Run S (first_cluster registered) events w → StartsAreCounted S w.memberships }
 {}
 
 /// Part 1: promises never fall; sessions, installed epochs and members.

@@ -5,7 +5,7 @@ use Rattle.membership_machine.specs.Votes.{Votes, Setting, IsMajority}
 use Rattle.membership_machine.specs.State.{Epoch, Memberships}
 use Rattle.membership_machine.specs.Starts.{last_start, Follows, Alike, DevicesMeet}
 use Rattle.membership_machine.specs.Invariant.{Fits, Holds}
-use Rattle.membership_machine.specs.Parts.{PromisesHold, AttemptsDiffer, AllSaved, RecordsAgree, ShareMember, ShareDevice}
+use Rattle.membership_machine.specs.Parts.{PromisesHold, AttemptsDiffer, StartsAreCounted, AllSaved, RecordsAgree, ShareMember, ShareDevice}
 use Rattle.membership_machine.proofs.Majorities.{Common, majorities_share}
 use Rattle.membership_machine.proofs.Prefixes.{first_of_part, alike_from_part, alike_back, alike_over}
 use Rattle.membership_machine.proofs.Before.{last_started, last_greatest, last_below}
@@ -83,6 +83,16 @@ pub attempts : (S : Setting) (w : Memberships) → Holds S w → AttemptsDiffer 
 attempts S w i = record {
   promised = λ q h. (i.epoch q).tried_promised h;
   once = λ q members h a. omega (arith, (i.epoch q).tried_promised h, a.0);
+}
+
+pub starts : (S : Setting) (w : Memberships) → Holds S w → StartsAreCounted S w
+starts S w i = record {
+  counted = λ q s. (i.epoch q).started_counted s;
+  answered = λ q m c h. (i.epoch q).counted_answered c m h;
+  under_committed = λ q c. (i.epoch q).majority_settled c;
+  under_pending = λ q c. (i.epoch q).majority_base c;
+  ready = λ q m s h. (i.epoch q).started_ready s m h;
+  base = λ q s. (i.epoch q).base_acked s;
 }
 
 records_alike : (E : ℕ → Epoch) (r s : Saved) (v : ℕ) → Fits r (E r.installed) → Fits s (E s.installed) → r.installed ≡ s.installed → v ≤ length r.entries → v ≤ length s.entries → Alike v r.entries s.entries

@@ -1,7 +1,7 @@
 -- What holds of the state after every list of events: of promises and sessions, of numbers of attempts, and of records.
-use Rattle.std.specs.Prelude.{ℕ, ◌+◌, ◌≡◌, ◌<◌, ◌≤◌, ◌⊎◌, Bool, true, length}
+use Rattle.std.specs.Prelude.{ℕ, ◌+◌, ◌≡◌, ◌<◌, ◌≤◌, ◌⊎◌, Bool, true, length, take}
 use Rattle.machine_base.specs.Epochs.{coordinator}
-use Rattle.membership_machine.specs.Votes.{Votes, Setting}
+use Rattle.membership_machine.specs.Votes.{Votes, Setting, IsMajority}
 use Rattle.membership_machine.specs.State.{Memberships}
 use Rattle.membership_machine.specs.Events.{Event, Begin, Allowed, after}
 use Rattle.membership_machine.specs.Starts.{Alike}
@@ -20,6 +20,16 @@ pub record PromisesHold (S : Setting) (w : Memberships) : Type 0 where
 pub record AttemptsDiffer (S : Setting) (w : Memberships) : Type 0 where
   pub promised : (q : ℕ) → (w.epoch q).tried ≡ true → q ≤ (w.node (coordinator q)).promised
   pub once : (q : ℕ) (members : ℕ → Bool) → (w.epoch q).tried ≡ true → Allowed S w (Begin q members) → ⊥
+
+-- A start was counted. An attempt that counted was answered by every member, and its members with the devices that it held are a majority
+-- under the committed entries of its base and under all of it. A start was installed by every member, and its base is acknowledged.
+pub record StartsAreCounted (S : Setting) (w : Memberships) : Type 0 where
+  pub counted : (q : ℕ) → (w.epoch q).started ≡ true → (w.epoch q).counted ≡ true
+  pub answered : (q m : ℕ) → (w.epoch q).counted ≡ true → (w.epoch q).members m ≡ true → (w.node m).answered q ≡ true
+  pub under_committed : (q : ℕ) → (w.epoch q).counted ≡ true → IsMajority S (S.config (take (w.epoch q).settled (w.epoch q).base)) (w.epoch q).members (w.epoch q).holds
+  pub under_pending : (q : ℕ) → (w.epoch q).counted ≡ true → IsMajority S (S.config (w.epoch q).base) (w.epoch q).members (w.epoch q).holds
+  pub ready : (q m : ℕ) → (w.epoch q).started ≡ true → (w.epoch q).members m ≡ true → (w.node m).ready q ≡ true
+  pub base : (q : ℕ) → (w.epoch q).started ≡ true → length (w.epoch q).base ≤ (w.epoch q).acked
 
 -- every member of q has saved the first v entries in it, from its Install, a Prepare of it, or by proposing there
 abbrev pub AllSaved : Memberships → ℕ → ℕ → Type 0

@@ -17,7 +17,7 @@ ghost use Rattle.membership_machine.specs.Events.{Event, Run};
 ghost use Rattle.membership_machine.specs.Starts.{last_start, Follows, Alike, DevicesMeet};
 ghost use Rattle.membership_machine.specs.Growth.{Grows};
 ghost use Rattle.membership_machine.specs.Sample.{sample_setting, forming, formed, changing, reforming, updating, splitting, split, add_device, create_group};
-ghost use Rattle.membership_machine.specs.Parts.{PromisesHold, AttemptsDiffer, RecordsAgree, ShareMember, ShareDevice};
+ghost use Rattle.membership_machine.specs.Parts.{PromisesHold, AttemptsDiffer, StartsAreCounted, RecordsAgree, ShareMember, ShareDevice};
 
 /// A durable promise never falls, sessions and installed epochs are promises, and members are in a membership that started.
 pub fn promises_hold()
@@ -32,6 +32,11 @@ pub fn attempts_differ()
 /// What a message tells stays true: of two states of one run the earlier grows to the later.
 pub fn told_facts_stay()
     ensures { (S : Setting) (events later : List Event) (w v : Memberships) → Run S first_memberships events w → Run S w later v → Grows w v }
+{}
+
+/// Every start was counted, with a majority under the committed and under the pending votes, and every member had installed it.
+pub fn starts_are_counted()
+    ensures { (S : Setting) (events : List Event) (w : Memberships) → Run S first_memberships events w → StartsAreCounted S w }
 {}
 
 /// Two majorities of the same votes share a member or a device that has votes.
