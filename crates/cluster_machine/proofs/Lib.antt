@@ -1,0 +1,5 @@
+pub mod Commands
+pub mod Agreements
+pub mod Whole
+pub mod Safety
+pub mod SampleRun

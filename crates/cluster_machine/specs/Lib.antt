@@ -1,0 +1,4 @@
+pub mod Cluster
+pub mod Agreement
+pub mod Parts
+pub mod Sample

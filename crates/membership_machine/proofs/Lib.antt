@@ -1,0 +1,13 @@
+pub mod Majorities
+pub mod Prefixes
+pub mod Before
+pub mod Followed
+pub mod Growth
+pub mod NodeSteps
+pub mod MemberSteps
+pub mod EpochSteps
+pub mod Leaders
+pub mod Updates
+pub mod Preserved
+pub mod Lineages
+pub mod SampleRun
