@@ -1,5 +1,5 @@
 -- The laws of the parts of messages.
-use Rattle.std.proofs.Common.{◌≡◌, ℕ, zero, suc, ◌+◌, ◌*◌, ◌^◌, ◌<◌, ◌≤◌, Bool, true, false, not, cond, eqb, ltb, leb, ◌&&◌, ◌⊎◌, List, [], ◌∷◌, ◌++◌, length, Option, Some, None, refl, sym, ap, subst, ◌∙◌, append_assoc, arith, inl, inr}
+use Rattle.std.proofs.Common.{◌≡◌, ℕ, zero, suc, ◌+◌, ◌*◌, ◌^◌, ◌<◌, ◌≤◌, Bool, true, false, not, cond, eqb, ltb, leb, ◌&&◌, ◌⊎◌, List, [], ◌∷◌, ◌++◌, length, Option, Some, None, refl, sym, ap, subst, ◌∙◌, append_assoc, arith, inl, inr, lit<}
 use Rattle.std.specs.Prelude.{IfSome, bit_and}
 use Rattle.std.specs.List.{find, flat_map, concat, AllByRecursion}
 use Rattle.std.specs.Option.{option_to_list}
@@ -164,12 +164,12 @@ marks_again m =
     let p3 = and_parts _ _ p2.1 in
     let p4 = and_parts _ _ p3.1 in
     let p5 = and_parts _ _ p4.1 in
-    let e1 : not (eqb (bit_and n 1) 0) ≡ m.pre = is_set m.pre 1 _ (omega arith) p1.0 in
-    let e2 : not (eqb (bit_and n 2) 0) ≡ m.run = is_set m.run 2 _ (omega arith) p2.0 in
-    let e3 : not (eqb (bit_and n 4) 0) ≡ m.mon = is_set m.mon 4 _ (omega arith) p3.0 in
-    let e4 : not (eqb (bit_and n 8) 0) ≡ m.faulted = is_set m.faulted 8 _ (omega arith) p4.0 in
-    let e5 : not (eqb (bit_and n 16) 0) ≡ m.stop_failed = is_set m.stop_failed 16 _ (omega arith) p5.0 in
-    let e6 : not (eqb (bit_and n 32) 0) ≡ m.monitor_failed = is_set m.monitor_failed 32 _ (omega arith) p5.1 in
+    let e1 : not (eqb (bit_and n 1) 0) ≡ m.pre = is_set m.pre 1 _ (lit< tt) p1.0 in
+    let e2 : not (eqb (bit_and n 2) 0) ≡ m.run = is_set m.run 2 _ (lit< tt) p2.0 in
+    let e3 : not (eqb (bit_and n 4) 0) ≡ m.mon = is_set m.mon 4 _ (lit< tt) p3.0 in
+    let e4 : not (eqb (bit_and n 8) 0) ≡ m.faulted = is_set m.faulted 8 _ (lit< tt) p4.0 in
+    let e5 : not (eqb (bit_and n 16) 0) ≡ m.stop_failed = is_set m.stop_failed 16 _ (lit< tt) p5.0 in
+    let e6 : not (eqb (bit_and n 32) 0) ≡ m.monitor_failed = is_set m.monitor_failed 32 _ (lit< tt) p5.1 in
     (same_marks (marks_of n) m e1 e2 e3 e4 e5 e6, ltb-true n 64 p0.0)
 
 pub marks_law : FieldLaw (λ m. one (marks_byte m)) (λ _. Unit {0}) marks_at
