@@ -1,5 +1,5 @@
 -- What is short enough to be spelled.
-use Rattle.std.proofs.Common.{ℕ, ◌<◌, List, [], ◌∷◌, Option, Some, None}
+use Rattle.std.proofs.Common.{◌≡◌, ℕ, zero, suc, ◌<◌, List, [], ◌∷◌, length, get_or, take, Option, Some, None, subst, arith}
 use Rattle.std.specs.Prelude.{IfSome}
 use Rattle.std.specs.List.{AllByRecursion}
 use Rattle.wire.specs.declared.lists.Reading.{Reading}
@@ -51,3 +51,9 @@ body_short (body.Done epoch order outcome) f = tt
 body_short (body.Request epoch request words) f = f.2
 body_short (body.Answer epoch request words) f = f.2
 body_short (body.Excluded epoch newest) f = tt
+
+-- one more item of a list
+pub all_more : {A : Type 0} (P : A → Type 0) (xs : List A) (i : ℕ) (x : A) → i < length xs → x ≡ get_or xs i x → P x → AllByRecursion P (take i xs) → AllByRecursion P (take (suc i) xs)
+all_more P [] i x lt is px all = absurd (omega arith)
+all_more P (y ∷ ys) zero x lt is px all = (subst P is px, tt)
+all_more P (y ∷ ys) (suc i) x lt is px all = (all.0, all_more P ys i x (omega arith) is px all.1)

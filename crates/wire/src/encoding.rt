@@ -1,5 +1,5 @@
 ghost use Rattle.std.specs.Prelude.{◌≡◌, ◌++◌, ◌<◌, ◌^◌, [], length, OnOk, IfOk, IfSome};
-ghost use Rattle.wire.specs.Spelling.{word, set, one, truth, text, list, at_most_one, resource_report, group_report, report, reading, seized_result, outcome_byte, fields, spelling, IsShort, IsShortText, IsShortList, IsShortReading, IsShortResource, IsShortGroup, IsShortReport, IsShortResult};
+ghost use Rattle.wire.specs.Spelling.{word, set, one, truth, text, list, at_most_one, resource_report, group_report, report, reading, seized_result, outcome_byte, fields, spelling, IsShort, IsShortText, IsShortList, IsShortReading, IsShortResource, IsShortGroup, IsShortReport, IsShortResult, IsWord, IsNodes, IsDevice, FitsResult, FitsReport, FitsBody, Fits};
 
 use crate::codes::{method_byte, outcome_byte};
 use crate::item::{put_at_most_one, put_keys, put_list};
@@ -12,14 +12,16 @@ use cl_base::{DevId, Epoch, NodeSet};
 use std::alloc::{AllocError, Global};
 
 fn put_epochs(writer: &mut Writer, first: Epoch, second: Epoch) -> Result<(), AllocError>
-    ensures { OnOk result (writer.new ≡ writer.old ++ (word first ++ word second)) }
+    ensures spelled { OnOk result (writer.new ≡ writer.old ++ (word first ++ word second)) }
+    ensures range { OnOk result (IsWord first × IsWord second) }
 {
     writer.epoch(first)?;
     writer.epoch(second)
 }
 
 fn put_numbered(writer: &mut Writer, epoch: Epoch, number: u64) -> Result<(), AllocError>
-    ensures { OnOk result (writer.new ≡ writer.old ++ (word epoch ++ word number)) }
+    ensures spelled { OnOk result (writer.new ≡ writer.old ++ (word epoch ++ word number)) }
+    ensures range { OnOk result (IsWord epoch × IsWord number) }
 {
     writer.epoch(epoch)?;
     writer.number(number)
@@ -32,14 +34,16 @@ fn put_numbered_text(
     words: &Text,
 ) -> Result<(), AllocError>
     requires { IsShortText words.now }
-    ensures { OnOk result (writer.new ≡ writer.old ++ (word epoch ++ (word number ++ text words.now))) }
+    ensures spelled { OnOk result (writer.new ≡ writer.old ++ (word epoch ++ (word number ++ text words.now))) }
+    ensures range { OnOk result (IsWord epoch × IsWord number) }
 {
     put_numbered(writer, epoch, number)?;
     writer.text(words)
 }
 
 fn put_members(writer: &mut Writer, epoch: Epoch, members: NodeSet) -> Result<(), AllocError>
-    ensures { OnOk result (writer.new ≡ writer.old ++ (word epoch ++ set members)) }
+    ensures spelled { OnOk result (writer.new ≡ writer.old ++ (word epoch ++ set members)) }
+    ensures range { OnOk result (IsWord epoch × IsNodes members) }
 {
     writer.epoch(epoch)?;
     writer.nodes(members)
@@ -51,7 +55,8 @@ fn put_seize(
     members: NodeSet,
     device: DevId,
 ) -> Result<(), AllocError>
-    ensures { OnOk result (writer.new ≡ writer.old ++ (word epoch ++ (set members ++ one device))) }
+    ensures spelled { OnOk result (writer.new ≡ writer.old ++ (word epoch ++ (set members ++ one device))) }
+    ensures range { OnOk result (IsWord epoch × IsNodes members × IsDevice device) }
 {
     put_members(writer, epoch, members)?;
     writer.device(device)
@@ -65,7 +70,8 @@ fn put_updates(
 ) -> Result<(), AllocError>
     requires committed { IsShortList IsShortText committed.now }
     requires pending { IfSome pending.now IsShortText }
-    ensures { OnOk result (writer.new ≡ writer.old ++ (list text committed.now ++ at_most_one text pending.now)) }
+    ensures spelled { OnOk result (writer.new ≡ writer.old ++ (list text committed.now ++ at_most_one text pending.now)) }
+    ensures range { OnOk result (IsShortList IsShortText committed.now × IfSome pending.now IsShortText) }
 {
     put_list(writer, committed.items())?;
     put_at_most_one(writer, pending)
@@ -73,7 +79,8 @@ fn put_updates(
 
 fn put_result(writer: &mut Writer, outcome: &SeizedResult) -> Result<(), AllocError>
     requires { IsShortResult outcome.now }
-    ensures { OnOk result (writer.new ≡ writer.old ++ seized_result outcome.now) }
+    ensures spelled { OnOk result (writer.new ≡ writer.old ++ seized_result outcome.now) }
+    ensures range { OnOk result (FitsResult outcome.now) }
 {
     match outcome {
         SeizedResult::Held(keys) => put_reading(writer, 0, keys),
@@ -87,7 +94,8 @@ fn put_result(writer: &mut Writer, outcome: &SeizedResult) -> Result<(), AllocEr
 
 fn put_reading(writer: &mut Writer, code: u8, keys: &Keys) -> Result<(), AllocError>
     requires { length keys.now < 2 ^ 16 }
-    ensures { OnOk result (writer.new ≡ writer.old ++ (one code ++ (word 0 ++ list word keys.now))) }
+    ensures spelled { OnOk result (writer.new ≡ writer.old ++ (one code ++ (word 0 ++ list word keys.now))) }
+    ensures range { OnOk result (IsShortList IsWord keys.now) }
 {
     writer.byte(code)?;
     writer.number(0)?;
@@ -96,7 +104,8 @@ fn put_reading(writer: &mut Writer, code: u8, keys: &Keys) -> Result<(), AllocEr
 
 #[tactic(auto, unfolding(crate::specs::Spelling::list))]
 fn put_without_keys(writer: &mut Writer, code: u8, number: u64) -> Result<(), AllocError>
-    ensures { OnOk result (writer.new ≡ writer.old ++ (one code ++ (word number ++ list word []))) }
+    ensures spelled { OnOk result (writer.new ≡ writer.old ++ (one code ++ (word number ++ list word []))) }
+    ensures range { OnOk result (IsWord number) }
 {
     writer.byte(code)?;
     writer.number(number)?;
@@ -105,7 +114,8 @@ fn put_without_keys(writer: &mut Writer, code: u8, number: u64) -> Result<(), Al
 
 fn put_install(writer: &mut Writer, install: &Install) -> Result<(), AllocError>
     requires { IsShort (Body.Install install.now) }
-    ensures { OnOk result (writer.new ≡ writer.old ++ fields (Body.Install install.now)) }
+    ensures spelled { OnOk result (writer.new ≡ writer.old ++ fields (Body.Install install.now)) }
+    ensures range { OnOk result (FitsBody (Body.Install install.now)) }
 {
     put_members(writer, install.epoch, install.members)?;
     put_updates(writer, &install.committed, &install.pending)?;
@@ -114,7 +124,8 @@ fn put_install(writer: &mut Writer, install: &Install) -> Result<(), AllocError>
 
 fn put_report(writer: &mut Writer, told: &Report) -> Result<(), AllocError>
     requires { IsShortReport told.now }
-    ensures { OnOk result (writer.new ≡ writer.old ++ report told.now) }
+    ensures spelled { OnOk result (writer.new ≡ writer.old ++ report told.now) }
+    ensures range { OnOk result (FitsReport told.now) }
 {
     put_list(writer, told.resources.items())?;
     put_list(writer, told.groups.items())
@@ -122,7 +133,8 @@ fn put_report(writer: &mut Writer, told: &Report) -> Result<(), AllocError>
 
 fn put_order(writer: &mut Writer, order: &Order) -> Result<(), AllocError>
     requires { IsShortText order.now.resource }
-    ensures { OnOk result (writer.new ≡ writer.old ++ fields (Body.Order order.now)) }
+    ensures spelled { OnOk result (writer.new ≡ writer.old ++ fields (Body.Order order.now)) }
+    ensures range { OnOk result (FitsBody (Body.Order order.now)) }
 {
     put_numbered(writer, order.epoch, order.number)?;
     writer.byte(method_byte(order.method))?;
@@ -132,7 +144,8 @@ fn put_order(writer: &mut Writer, order: &Order) -> Result<(), AllocError>
 /// Writes the fields of a message.
 fn put_body(writer: &mut Writer, body: &Body) -> Result<(), AllocError>
     requires { IsShort body.now }
-    ensures { OnOk result (writer.new ≡ writer.old ++ fields body.now) }
+    ensures spelled { OnOk result (writer.new ≡ writer.old ++ fields body.now) }
+    ensures range { OnOk result (FitsBody body.now) }
 {
     match body {
         Body::Heartbeat { promised, session, member } => {
@@ -181,6 +194,8 @@ fn put_body(writer: &mut Writer, body: &Body) -> Result<(), AllocError>
 pub fn encode(alloc: Global, m: &Message) -> Result<Vec<u8>, AllocError>
     requires { IsShort m.now.body }
     ensures spelled { IfOk result (λ bytes. bytes.items ≡ spelling m.now) }
+    // So the message that `decode` finds in these bytes is this one.
+    ensures range { OnOk result (Fits m.now) }
 {
     let mut writer = Writer::new(alloc);
     writer.byte(m.body.kind().byte())?;

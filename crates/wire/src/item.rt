@@ -1,6 +1,7 @@
 ghost use Rattle.std.specs.Prelude.{◌≡◌, ◌++◌, ◌<◌, ◌^◌, List, ℕ, Option, OnOk, IfSome, length};
+ghost use Rattle.std.specs.List.{AllByRecursion};
 ghost use Rattle.wire.specs.Reads.{Gives, GivesAs, number_at, text_at, list_at, items_at, at_most_one_at, reading_at, resource_at, failures_at, group_at};
-ghost use Rattle.wire.specs.Spelling.{word, text, list, at_most_one, reading, resource_report, group_report, seconds_of, IsShortList, IsShortText, IsShortReading, IsShortResource, IsShortGroup};
+ghost use Rattle.wire.specs.Spelling.{word, text, list, at_most_one, reading, resource_report, group_report, seconds_of, IsShortList, IsShortText, IsShortReading, IsShortResource, IsShortGroup, IsWord, FitsReading, FitsGroup};
 
 use crate::codes::{marks, marks_byte};
 use crate::lists::{Keys, Reading};
@@ -17,13 +18,16 @@ pub trait Item: Drop {
     ghost spelled: { Self → List ℕ };
     /// Whether its texts and lists are short enough to have a spelling.
     ghost is_short: { Self → Type 0 };
+    /// What holds of one that is spelled.
+    ghost fits: { Self → Type 0 };
     /// Reading it from the front of bytes.
     ghost read_at: { List ℕ → Option (Self × List ℕ) };
 
     /// Writes it at the end.
     fn put(&self, writer: &mut Writer) -> Result<(), AllocError>
         requires { is_short self.now }
-        ensures { OnOk result (writer.new ≡ writer.old ++ spelled self.now) };
+        ensures spelled { OnOk result (writer.new ≡ writer.old ++ spelled self.now) }
+        ensures range { OnOk result (fits self.now) };
 
     /// Reads it from the front.
     fn take(alloc: Global, reader: &mut Reader<'_>) -> Result<Self, Stop>
@@ -66,7 +70,8 @@ pub fn at_most_one<T: Item>(alloc: Global, reader: &mut Reader<'_>) -> Result<Op
 #[tactic(auto, unfolding(crate::specs::Spelling::list))]
 pub fn put_list<T: Item>(writer: &mut Writer, items: &[T]) -> Result<(), AllocError>
     requires { IsShortList T.is_short items.now }
-    ensures { OnOk result (writer.new ≡ writer.old ++ list T.spelled items.now) }
+    ensures spelled { OnOk result (writer.new ≡ writer.old ++ list T.spelled items.now) }
+    ensures range { OnOk result (IsShortList T.fits items.now) }
 {
     writer.count(items.len() as u16)?;
     for item in items {
@@ -79,7 +84,8 @@ pub fn put_list<T: Item>(writer: &mut Writer, items: &[T]) -> Result<(), AllocEr
 #[tactic(auto, unfolding(crate::specs::Spelling::list))]
 pub fn put_at_most_one<T: Item>(writer: &mut Writer, item: &Option<T>) -> Result<(), AllocError>
     requires { IfSome item.now T.is_short }
-    ensures { OnOk result (writer.new ≡ writer.old ++ at_most_one T.spelled item.now) }
+    ensures spelled { OnOk result (writer.new ≡ writer.old ++ at_most_one T.spelled item.now) }
+    ensures range { OnOk result (IfSome item.now T.fits) }
 {
     match item {
         None => writer.count(0),
@@ -93,6 +99,7 @@ pub fn put_at_most_one<T: Item>(writer: &mut Writer, item: &Option<T>) -> Result
 impl Item for u64 {
     ghost spelled = { word };
     ghost is_short = { λ _. Unit {0} };
+    ghost fits = { IsWord };
     ghost read_at = { number_at 8 };
 
     fn put(&self, writer: &mut Writer) -> Result<(), AllocError> {
@@ -107,6 +114,7 @@ impl Item for u64 {
 impl Item for Text {
     ghost spelled = { text };
     ghost is_short = { IsShortText };
+    ghost fits = { IsShortText };
     ghost read_at = { text_at };
 
     fn put(&self, writer: &mut Writer) -> Result<(), AllocError> {
@@ -121,6 +129,7 @@ impl Item for Text {
 impl Item for Reading {
     ghost spelled = { reading };
     ghost is_short = { IsShortReading };
+    ghost fits = { FitsReading };
     ghost read_at = { reading_at };
 
     fn put(&self, writer: &mut Writer) -> Result<(), AllocError> {
@@ -143,7 +152,8 @@ impl Item for Reading {
 #[tactic(auto, using(crate::proofs::Short::all_unit))]
 pub fn put_keys(writer: &mut Writer, keys: &Keys) -> Result<(), AllocError>
     requires { length keys.now < 2 ^ 16 }
-    ensures { OnOk result (writer.new ≡ writer.old ++ list word keys.now) }
+    ensures spelled { OnOk result (writer.new ≡ writer.old ++ list word keys.now) }
+    ensures range { OnOk result (IsShortList IsWord keys.now) }
 {
     put_list(writer, keys.items())
 }
@@ -151,6 +161,7 @@ pub fn put_keys(writer: &mut Writer, keys: &Keys) -> Result<(), AllocError>
 impl Item for ResourceReport {
     ghost spelled = { resource_report };
     ghost is_short = { IsShortResource };
+    ghost fits = { IsShortResource };
     ghost read_at = { resource_at };
 
     fn put(&self, writer: &mut Writer) -> Result<(), AllocError> {
@@ -170,7 +181,8 @@ impl Item for ResourceReport {
 /// Writes a list of at most two seconds.
 #[tactic(auto, unfolding(crate::specs::Spelling::list))]
 fn put_failures(writer: &mut Writer, failures: LastFailures) -> Result<(), AllocError>
-    ensures { OnOk result (writer.new ≡ writer.old ++ list word (seconds_of failures)) }
+    ensures spelled { OnOk result (writer.new ≡ writer.old ++ list word (seconds_of failures)) }
+    ensures range { OnOk result (AllByRecursion IsWord (seconds_of failures)) }
 {
     match failures {
         LastFailures::Never => writer.count(0),
@@ -202,6 +214,7 @@ fn failures(reader: &mut Reader<'_>) -> Result<LastFailures, Stop>
 impl Item for GroupReport {
     ghost spelled = { group_report };
     ghost is_short = { IsShortGroup };
+    ghost fits = { FitsGroup };
     ghost read_at = { group_at };
 
     fn put(&self, writer: &mut Writer) -> Result<(), AllocError> {

@@ -1,5 +1,5 @@
-ghost use Rattle.std.specs.Prelude.{◌≡◌, ◌++◌, ◌<◌, ◌^◌, ◌∷◌, [], length, OnOk};
-ghost use Rattle.wire.specs.Spelling.{number, word, set, one, truth, text, IsShortText};
+ghost use Rattle.std.specs.Prelude.{◌≡◌, ◌++◌, ◌<◌, ◌≤◌, ◌^◌, ◌∷◌, [], length, OnOk};
+ghost use Rattle.wire.specs.Spelling.{number, word, set, one, truth, text, IsShortText, IsWord, IsNode, IsDevice, IsNodes, IsDevices};
 
 use byteorder::{BigEndian, ByteOrder};
 use ccr_commit::Text;
@@ -41,7 +41,8 @@ impl Writer {
     /// Writes a number of 8 bytes.
     #[tactic(auto, unfolding(crate::specs::Spelling::number))]
     pub fn number(&mut self, n: u64) -> Result<(), AllocError>
-        ensures { OnOk result (self.new ≡ self.old ++ number 8 n) }
+        ensures spelled { OnOk result (self.new ≡ self.old ++ number 8 n) }
+        ensures range { IsWord n }
     {
         let mut bytes = [0; 8];
         BigEndian::write_u64(&mut bytes, n);
@@ -85,35 +86,40 @@ impl Writer {
 
     /// Writes the number of a node.
     pub fn node(&mut self, node: NodeId) -> Result<(), AllocError>
-        ensures { OnOk result (self.new ≡ self.old ++ one node) }
+        ensures spelled { OnOk result (self.new ≡ self.old ++ one node) }
+        ensures range { IsNode node }
     {
         self.byte(node.number() as u8)
     }
 
     /// Writes the number of a device.
     pub fn device(&mut self, device: DevId) -> Result<(), AllocError>
-        ensures { OnOk result (self.new ≡ self.old ++ one device) }
+        ensures spelled { OnOk result (self.new ≡ self.old ++ one device) }
+        ensures range { IsDevice device }
     {
         self.byte(device.number() as u8)
     }
 
     /// Writes an epoch.
     pub fn epoch(&mut self, epoch: Epoch) -> Result<(), AllocError>
-        ensures { OnOk result (self.new ≡ self.old ++ word epoch) }
+        ensures spelled { OnOk result (self.new ≡ self.old ++ word epoch) }
+        ensures range { IsWord epoch }
     {
         self.number(epoch.number())
     }
 
     /// Writes a set of nodes.
     pub fn nodes(&mut self, nodes: NodeSet) -> Result<(), AllocError>
-        ensures { OnOk result (self.new ≡ self.old ++ set nodes) }
+        ensures spelled { OnOk result (self.new ≡ self.old ++ set nodes) }
+        ensures range { IsNodes nodes }
     {
         self.length(nodes.bits())
     }
 
     /// Writes a set of devices.
     pub fn devices(&mut self, devices: DevSet) -> Result<(), AllocError>
-        ensures { OnOk result (self.new ≡ self.old ++ set devices) }
+        ensures spelled { OnOk result (self.new ≡ self.old ++ set devices) }
+        ensures range { IsDevices devices }
     {
         self.length(devices.bits() as u32)
     }

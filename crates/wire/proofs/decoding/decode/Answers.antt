@@ -3,4 +3,4 @@ use Rattle.wire.proofs.Messages.{decoded}
 use Rattle.wire.proofs.decoding.decode.Goals as goal
 
 pub returns : goal.returns
-returns c = decoded c.args.bytes.now c.whole.result (λ i. omega (arith, c.type_inv.bytes i)) c.whole.ensures
+returns c = record { found = decoded c.args.bytes.now c.whole.result (λ i. omega (arith, c.type_inv.bytes i)) c.whole.ensures }
