@@ -81,8 +81,8 @@ FieldLaw spell fits read = Law spell fits (λ a. a) read
 pub finish : {M : Type 0} (m : M) → Law (λ (_ : Unit {0}). []) (λ _. Unit {0}) (λ _. m) (λ bytes. Some (m, bytes))
 finish {M} m = record {
   takes = λ bytes n rest h e.
-    let p = some_is (m, bytes) (n, rest) e in
-    record { value = tt; made = ap (λ (x : M × List ℕ). x.0) p; fitting = tt; parts = ap (λ (x : M × List ℕ). x.1) p; left = subst IsBytes (ap (λ (x : M × List ℕ). x.1) p) h };
+      let p = some_is (m, bytes) (n, rest) e in
+      record { value = tt; made = ap (λ (x : M × List ℕ). x.0) p; fitting = tt; parts = ap (λ (x : M × List ℕ). x.1) p; left = subst IsBytes (ap (λ (x : M × List ℕ). x.1) p) h };
   again = λ a rest f. refl;
 }
 
@@ -90,9 +90,9 @@ finish {M} m = record {
 pub pick : {M : Type 0} (o : Option M) → Law (λ (_ : M). []) (λ m. o ≡ Some m) (λ m. m) (λ bytes. o >>= λ m. Some (m, bytes))
 pick {M} o = record {
   takes = λ bytes n rest h e.
-    let b = bind_some o (λ m. Some (m, bytes)) (n, rest) e in
-    let p = some_is (b.value, bytes) (n, rest) b.next in
-    record { value = b.value; made = ap (λ (x : M × List ℕ). x.0) p; fitting = b.was; parts = ap (λ (x : M × List ℕ). x.1) p; left = subst IsBytes (ap (λ (x : M × List ℕ). x.1) p) h };
+      let b = bind_some o (λ m. Some (m, bytes)) (n, rest) e in
+      let p = some_is (b.value, bytes) (n, rest) b.next in
+      record { value = b.value; made = ap (λ (x : M × List ℕ). x.0) p; fitting = b.was; parts = ap (λ (x : M × List ℕ). x.1) p; left = subst IsBytes (ap (λ (x : M × List ℕ). x.1) p) h };
   again = λ a rest f. ap (λ (x : Option M). x >>= λ m. Some (m, rest)) f;
 }
 
@@ -102,20 +102,20 @@ pub then : {A B M : Type 0} {sA : A → List ℕ} {fA : A → Type 0} {rA : List
     → Law (λ (p : A × B). sA p.0 ++ sB p.1) (λ p. fA p.0 × fB p.0 p.1) (λ p. make p.0 p.1) (λ bytes. rA bytes >>= λ x. k x.0 x.1)
 then {A} {B} {M} {sA} {fA} {rA} {sB} {fB} {make} {k} first next = record {
   takes = λ bytes m rest h e.
-    let b = bind_some (rA bytes) (λ x. k x.0 x.1) (m, rest) e in
-    let t = first.takes bytes b.value.0 b.value.1 h b.was in
-    let u = (next b.value.0).takes b.value.1 m rest t.left b.next in
-    record {
-      value = (t.value, u.value);
-      made = ap (λ (a : A). make a u.value) t.made ∙ u.made;
-      fitting = (t.fitting, subst (λ (a : A). fB a u.value) (sym t.made) u.fitting);
-      parts = t.parts ∙ ap (λ (l : List ℕ). sA t.value ++ l) u.parts ∙ sym (append_assoc (sA t.value) (sB u.value) rest);
-      left = u.left;
-    };
+      let b = bind_some (rA bytes) (λ x. k x.0 x.1) (m, rest) e in
+      let t = first.takes bytes b.value.0 b.value.1 h b.was in
+      let u = (next b.value.0).takes b.value.1 m rest t.left b.next in
+      record {
+        value = (t.value, u.value);
+        made = ap (λ (a : A). make a u.value) t.made ∙ u.made;
+        fitting = (t.fitting, subst (λ (a : A). fB a u.value) (sym t.made) u.fitting);
+        parts = t.parts ∙ ap (λ (l : List ℕ). sA t.value ++ l) u.parts ∙ sym (append_assoc (sA t.value) (sB u.value) rest);
+        left = u.left;
+      };
   again = λ p rest f.
-    ap (λ (l : List ℕ). rA l >>= λ x. k x.0 x.1) (append_assoc (sA p.0) (sB p.1) rest)
-    ∙ ap (λ (o : Option (A × List ℕ)). o >>= λ x. k x.0 x.1) (first.again p.0 (sB p.1 ++ rest) f.0)
-    ∙ (next p.0).again p.1 rest f.1;
+      ap (λ (l : List ℕ). rA l >>= λ x. k x.0 x.1) (append_assoc (sA p.0) (sB p.1) rest)
+      ∙ ap (λ (o : Option (A × List ℕ)). o >>= λ x. k x.0 x.1) (first.again p.0 (sB p.1 ++ rest) f.0)
+      ∙ (next p.0).again p.1 rest f.1;
 }
 
 -- a value as it stands in its type, before the parts that it is made of
@@ -130,18 +130,18 @@ pub recast : {A M : Type 0} {spell : A → List ℕ} {fits : A → Type 0} {make
     → Law spell fits make read → ((a : A) → fits a → (spell a ≡ spell' (make a)) × fits' (make a)) → ((m : M) → fits' m → Back spell fits make (spell' m) m) → FieldLaw spell' fits' read
 recast {A} {M} {spell} {fits} {make} {read} spell' fits' law to from = record {
   takes = λ bytes m rest h e.
-    let t = law.takes bytes m rest h e in
-    let there = to t.value t.fitting in
-    record {
-      value = m;
-      made = refl;
-      fitting = subst fits' t.made there.1;
-      parts = t.parts ∙ ap (λ (l : List ℕ). l ++ rest) (there.0 ∙ ap spell' t.made);
-      left = t.left;
-    };
+      let t = law.takes bytes m rest h e in
+      let there = to t.value t.fitting in
+      record {
+        value = m;
+        made = refl;
+        fitting = subst fits' t.made there.1;
+        parts = t.parts ∙ ap (λ (l : List ℕ). l ++ rest) (there.0 ∙ ap spell' t.made);
+        left = t.left;
+      };
   again = λ m rest f.
-    let b = from m f in
-    ap (λ (l : List ℕ). read (l ++ rest)) (sym b.same) ∙ law.again b.value rest b.fitting ∙ ap (λ (x : M). Some (x, rest)) b.made;
+      let b = from m f in
+      ap (λ (l : List ℕ). read (l ++ rest)) (sym b.same) ∙ law.again b.value rest b.fitting ∙ ap (λ (x : M). Some (x, rest)) b.made;
 }
 
 -- a field that is refused unless it passes a test
@@ -149,20 +149,20 @@ pub tested : {A : Type 0} {spell : A → List ℕ} {fits : A → Type 0} {read :
     → FieldLaw spell (λ a. fits a × (test a ≡ true)) (λ bytes. read bytes >>= λ x. cond (test x.0) (Some x) None)
 tested {A} {spell} {fits} {read} test law = record {
   takes = λ bytes m rest h e.
-    let b = bind_some (read bytes) (λ x. cond (test x.0) (Some x) None) (m, rest) e in
-    let g = guard_some (test b.value.0) b.value (m, rest) b.next in
-    let t = law.takes bytes m rest h (b.was ∙ ap (λ (x : A × List ℕ). Some x) g.1) in
-    let m-is : t.value ≡ m = t.made in
-    record {
-      value = t.value;
-      made = t.made;
-      fitting = (t.fitting, subst (λ (a : A). test a ≡ true) (ap (λ (x : A × List ℕ). x.0) g.1 ∙ sym m-is) g.0);
-      parts = t.parts;
-      left = t.left;
-    };
+      let b = bind_some (read bytes) (λ x. cond (test x.0) (Some x) None) (m, rest) e in
+      let g = guard_some (test b.value.0) b.value (m, rest) b.next in
+      let t = law.takes bytes m rest h (b.was ∙ ap (λ (x : A × List ℕ). Some x) g.1) in
+      let m-is : t.value ≡ m = t.made in
+      record {
+        value = t.value;
+        made = t.made;
+        fitting = (t.fitting, subst (λ (a : A). test a ≡ true) (ap (λ (x : A × List ℕ). x.0) g.1 ∙ sym m-is) g.0);
+        parts = t.parts;
+        left = t.left;
+      };
   again = λ a rest f.
-    ap (λ (o : Option (A × List ℕ)). o >>= λ x. cond (test x.0) (Some x) None) (law.again a rest f.0)
-    ∙ ap (λ (t : Bool). cond t (Some (a, rest)) None) f.1;
+      ap (λ (o : Option (A × List ℕ)). o >>= λ x. cond (test x.0) (Some x) None) (law.again a rest f.0)
+      ∙ ap (λ (t : Bool). cond t (Some (a, rest)) None) f.1;
 }
 
 -- the same law, for values of which something equivalent is known
@@ -189,23 +189,23 @@ number_law : (k : ℕ) → IsWide k → FieldLaw (number k) (λ n. n < 256 ^ k) 
 unfolding number number_at
 number_law k wide = record {
   takes = λ bytes m rest h e.
-    let g = guard_not (ltb (length bytes) k) (big_number k bytes, drop k bytes) (m, rest) e in
-    let long : k ≤ length bytes = ltb-false _ _ g.0 in
-    let m-is : big_number k bytes ≡ m = ap (λ (p : ℕ × List ℕ). p.0) g.1 in
-    let rest-is : drop k bytes ≡ rest = ap (λ (p : ℕ × List ℕ). p.1) g.1 in
-    let front : big_bytes k (big_number k (take k bytes)) ≡ take k bytes = wide (take k bytes) (omega (arith, length-take k bytes)) (IsBytes-take k bytes h) in
-    let whole : big_bytes k (big_number k bytes) ≡ take k bytes = ap (big_bytes k) (sym (big_from-take 0 k k bytes (omega arith))) ∙ front in
-    record {
-      value = big_number k bytes;
-      made = m-is;
-      fitting = big_from-lt 0 k bytes h;
-      parts = sym (take-append-drop k bytes) ∙ ap (λ (l : List ℕ). l ++ drop k bytes) (sym whole) ∙ ap (λ (l : List ℕ). big_bytes k (big_number k bytes) ++ l) rest-is;
-      left = subst IsBytes rest-is (IsBytes-drop k bytes h);
-    };
+      let g = guard_not (ltb (length bytes) k) (big_number k bytes, drop k bytes) (m, rest) e in
+      let long : k ≤ length bytes = ltb-false _ _ g.0 in
+      let m-is : big_number k bytes ≡ m = ap (λ (p : ℕ × List ℕ). p.0) g.1 in
+      let rest-is : drop k bytes ≡ rest = ap (λ (p : ℕ × List ℕ). p.1) g.1 in
+      let front : big_bytes k (big_number k (take k bytes)) ≡ take k bytes = wide (take k bytes) (omega (arith, length-take k bytes)) (IsBytes-take k bytes h) in
+      let whole : big_bytes k (big_number k bytes) ≡ take k bytes = ap (big_bytes k) (sym (big_from-take 0 k k bytes (omega arith))) ∙ front in
+      record {
+        value = big_number k bytes;
+        made = m-is;
+        fitting = big_from-lt 0 k bytes h;
+        parts = sym (take-append-drop k bytes) ∙ ap (λ (l : List ℕ). l ++ drop k bytes) (sym whole) ∙ ap (λ (l : List ℕ). big_bytes k (big_number k bytes) ++ l) rest-is;
+        left = subst IsBytes rest-is (IsBytes-drop k bytes h);
+      };
   again = λ n rest f.
-    let len : length (big_bytes k n) ≡ k = length-bytes_high_first k n in
-    let long : ltb (length (big_bytes k n ++ rest)) k ≡ false = le-ltb _ _ (omega (arith, length-append (big_bytes k n) rest)) in
-    rw (long, big_number-reads_back k n rest f, drop_at (big_bytes k n) rest k len) refl;
+      let len : length (big_bytes k n) ≡ k = length-bytes_high_first k n in
+      let long : ltb (length (big_bytes k n ++ rest)) k ≡ false = le-ltb _ _ (omega (arith, length-append (big_bytes k n) rest)) in
+      rw (long, big_number-reads_back k n rest f, drop_at (big_bytes k n) rest k len) refl;
 }
 
 pub number2 : FieldLaw (number 2) (λ n. n < 2 ^ 16) (number_at 2)
@@ -250,20 +250,20 @@ pub code_law : {A : Type 0} (code : A → ℕ) (all : List A) → ((a : A) → f
     → FieldLaw (λ a. one (code a)) (λ _. Unit {0}) (λ bytes. byte_at bytes >>= λ b. find (λ x. eqb (code x) b.0) all >>= λ a. Some (a, b.1))
 code_law {A} code all own = record {
   takes = λ bytes m rest h e.
-    let b = bind_some (byte_at bytes) (λ b. find (λ x. eqb (code x) b.0) all >>= λ a. Some (a, b.1)) (m, rest) e in
-    let t = byte_law.takes bytes b.value.0 b.value.1 h b.was in
-    let u = (pick (find (λ x. eqb (code x) b.value.0) all)).takes b.value.1 m rest t.left b.next in
-    let is : code u.value ≡ b.value.0 = eqb-true _ _ (find_passes (λ x. eqb (code x) b.value.0) all u.value u.fitting) in
-    record {
-      value = u.value;
-      made = u.made;
-      fitting = tt;
-      parts = t.parts ∙ ap (λ (l : List ℕ). one t.value ++ l) u.parts ∙ ap (λ (c : ℕ). one c ++ rest) (t.made ∙ sym is);
-      left = u.left;
-    };
+      let b = bind_some (byte_at bytes) (λ b. find (λ x. eqb (code x) b.0) all >>= λ a. Some (a, b.1)) (m, rest) e in
+      let t = byte_law.takes bytes b.value.0 b.value.1 h b.was in
+      let u = (pick (find (λ x. eqb (code x) b.value.0) all)).takes b.value.1 m rest t.left b.next in
+      let is : code u.value ≡ b.value.0 = eqb-true _ _ (find_passes (λ x. eqb (code x) b.value.0) all u.value u.fitting) in
+      record {
+        value = u.value;
+        made = u.made;
+        fitting = tt;
+        parts = t.parts ∙ ap (λ (l : List ℕ). one t.value ++ l) u.parts ∙ ap (λ (c : ℕ). one c ++ rest) (t.made ∙ sym is);
+        left = u.left;
+      };
   again = λ a rest f.
-    ap (λ (o : Option (ℕ × List ℕ)). o >>= λ b. find (λ x. eqb (code x) b.0) all >>= λ a. Some (a, b.1)) (byte_again (code a) rest)
-    ∙ ap (λ (o : Option A). o >>= λ x. Some (x, rest)) (own a);
+      ap (λ (o : Option (ℕ × List ℕ)). o >>= λ b. find (λ x. eqb (code x) b.0) all >>= λ a. Some (a, b.1)) (byte_again (code a) rest)
+      ∙ ap (λ (o : Option A). o >>= λ x. Some (x, rest)) (own a);
 }
 
 -- ---- texts and lists
@@ -272,29 +272,29 @@ pub text_law : FieldLaw text IsShortText text_at
 unfolding text text_at
 text_law = record {
   takes = λ bytes m rest h e.
-    let b = bind_some (number_at 4 bytes) (λ n. cond (ltb (length n.1) n.0) None (Some (take n.0 n.1, drop n.0 n.1))) (m, rest) e in
-    let n = b.value.0 in
-    let after = b.value.1 in
-    let t = number4.takes bytes n after h b.was in
-    let g = guard_not (ltb (length after) n) (take n after, drop n after) (m, rest) b.next in
-    let long : n ≤ length after = ltb-false _ _ g.0 in
-    let m-is : take n after ≡ m = ap (λ (p : List ℕ × List ℕ). p.0) g.1 in
-    let rest-is : drop n after ≡ rest = ap (λ (p : List ℕ × List ℕ). p.1) g.1 in
-    let len : length (take n after) ≡ n = omega (arith, length-take n after) in
-    let n-is : t.value ≡ n = t.made in
-    let split : after ≡ take n after ++ rest = sym (take-append-drop n after) ∙ ap (λ (l : List ℕ). take n after ++ l) rest-is in
-    record {
-      value = take n after;
-      made = m-is;
-      fitting = omega (arith, len, n-is, t.fitting);
-      parts = t.parts ∙ ap (λ (l : List ℕ). number 4 t.value ++ l) split ∙ ap (λ (k : ℕ). number 4 k ++ (take n after ++ rest)) (n-is ∙ sym len) ∙ sym (append_assoc (number 4 (length (take n after))) (take n after) rest);
-      left = subst IsBytes rest-is (IsBytes-drop n after t.left);
-    };
+      let b = bind_some (number_at 4 bytes) (λ n. cond (ltb (length n.1) n.0) None (Some (take n.0 n.1, drop n.0 n.1))) (m, rest) e in
+      let n = b.value.0 in
+      let after = b.value.1 in
+      let t = number4.takes bytes n after h b.was in
+      let g = guard_not (ltb (length after) n) (take n after, drop n after) (m, rest) b.next in
+      let long : n ≤ length after = ltb-false _ _ g.0 in
+      let m-is : take n after ≡ m = ap (λ (p : List ℕ × List ℕ). p.0) g.1 in
+      let rest-is : drop n after ≡ rest = ap (λ (p : List ℕ × List ℕ). p.1) g.1 in
+      let len : length (take n after) ≡ n = omega (arith, length-take n after) in
+      let n-is : t.value ≡ n = t.made in
+      let split : after ≡ take n after ++ rest = sym (take-append-drop n after) ∙ ap (λ (l : List ℕ). take n after ++ l) rest-is in
+      record {
+        value = take n after;
+        made = m-is;
+        fitting = omega (arith, len, n-is, t.fitting);
+        parts = t.parts ∙ ap (λ (l : List ℕ). number 4 t.value ++ l) split ∙ ap (λ (k : ℕ). number 4 k ++ (take n after ++ rest)) (n-is ∙ sym len) ∙ sym (append_assoc (number 4 (length (take n after))) (take n after) rest);
+        left = subst IsBytes rest-is (IsBytes-drop n after t.left);
+      };
   again = λ m rest f.
-    let long : ltb (length (m ++ rest)) (length m) ≡ false = le-ltb _ _ (omega (arith, length-append m rest)) in
-    ap text_at (append_assoc (number 4 (length m)) m rest)
-    ∙ ap (λ (o : Option (ℕ × List ℕ)). o >>= λ n. cond (ltb (length n.1) n.0) None (Some (take n.0 n.1, drop n.0 n.1))) (number4.again (length m) (m ++ rest) f)
-    ∙ rw (long, take_at m rest (length m) refl, drop_at m rest (length m) refl) refl;
+      let long : ltb (length (m ++ rest)) (length m) ≡ false = le-ltb _ _ (omega (arith, length-append m rest)) in
+      ap text_at (append_assoc (number 4 (length m)) m rest)
+      ∙ ap (λ (o : Option (ℕ × List ℕ)). o >>= λ n. cond (ltb (length n.1) n.0) None (Some (take n.0 n.1, drop n.0 n.1))) (number4.again (length m) (m ++ rest) f)
+      ∙ rw (long, take_at m rest (length m) refl, drop_at m rest (length m) refl) refl;
 }
 
 record ItemsTaken {A : Type 0} (spell : A → List ℕ) (fits : A → Type 0) (n : ℕ) (bytes : List ℕ) (xs : List A) (rest : List ℕ) : Type 0 where
@@ -317,8 +317,8 @@ items_take {A} {spell} {fits} {read} law (suc n) bytes xs rest h e =
     let p = some_is (a.value.0 ∷ b.value.0, b.value.1) (xs, rest) b.next in
     let fit : fits a.value.0 = subst fits t.made t.fitting in
     let parts : bytes ≡ (spell a.value.0 ++ flat_map spell b.value.0) ++ b.value.1 =
-        t.parts ∙ ap (λ (l : List ℕ). spell t.value ++ l) u.parts ∙ sym (append_assoc (spell t.value) (flat_map spell b.value.0) b.value.1)
-        ∙ ap (λ (x : A). (spell x ++ flat_map spell b.value.0) ++ b.value.1) t.made in
+    t.parts ∙ ap (λ (l : List ℕ). spell t.value ++ l) u.parts ∙ sym (append_assoc (spell t.value) (flat_map spell b.value.0) b.value.1)
+    ∙ ap (λ (x : A). (spell x ++ flat_map spell b.value.0) ++ b.value.1) t.made in
     subst (λ (y : List A × List ℕ). ItemsTaken spell fits (suc n) bytes y.0 y.1) p (record { len = ap suc u.len; fitting = (fit, u.fitting); parts = parts; left = u.left })
 
 items_again : {A : Type 0} {spell : A → List ℕ} {fits : A → Type 0} {read : List ℕ → Option (A × List ℕ)} → FieldLaw spell fits read
@@ -335,18 +335,18 @@ pub list_law : {A : Type 0} {spell : A → List ℕ} {fits : A → Type 0} {read
 unfolding list list_at
 list_law {A} {spell} {fits} {read} law = record {
   takes = λ bytes m rest h e.
-    let b = bind_some (number_at 2 bytes) (λ n. items_at read n.0 n.1) (m, rest) e in
-    let t = number2.takes bytes b.value.0 b.value.1 h b.was in
-    let u = items_take law b.value.0 b.value.1 m rest t.left b.next in
-    record {
-      value = m;
-      made = refl;
-      fitting = (omega (arith, u.len, t.made, t.fitting), u.fitting);
-      parts = t.parts ∙ ap (λ (l : List ℕ). number 2 t.value ++ l) u.parts ∙ ap (λ (k : ℕ). number 2 k ++ (flat_map spell m ++ rest)) (t.made ∙ sym u.len) ∙ sym (append_assoc (number 2 (length m)) (flat_map spell m) rest);
-      left = u.left;
-    };
+      let b = bind_some (number_at 2 bytes) (λ n. items_at read n.0 n.1) (m, rest) e in
+      let t = number2.takes bytes b.value.0 b.value.1 h b.was in
+      let u = items_take law b.value.0 b.value.1 m rest t.left b.next in
+      record {
+        value = m;
+        made = refl;
+        fitting = (omega (arith, u.len, t.made, t.fitting), u.fitting);
+        parts = t.parts ∙ ap (λ (l : List ℕ). number 2 t.value ++ l) u.parts ∙ ap (λ (k : ℕ). number 2 k ++ (flat_map spell m ++ rest)) (t.made ∙ sym u.len) ∙ sym (append_assoc (number 2 (length m)) (flat_map spell m) rest);
+        left = u.left;
+      };
   again = λ m rest f.
-    ap (list_at read) (append_assoc (number 2 (length m)) (flat_map spell m) rest)
-    ∙ ap (λ (o : Option (ℕ × List ℕ)). o >>= λ n. items_at read n.0 n.1) (number2.again (length m) (flat_map spell m ++ rest) f.0)
-    ∙ items_again law m rest f.1;
+      ap (list_at read) (append_assoc (number 2 (length m)) (flat_map spell m) rest)
+      ∙ ap (λ (o : Option (ℕ × List ℕ)). o >>= λ n. items_at read n.0 n.1) (number2.again (length m) (flat_map spell m ++ rest) f.0)
+      ∙ items_again law m rest f.1;
 }

@@ -18,28 +18,28 @@ pub message_law : FieldLaw spelling Fits message_at
 unfolding message_at
 message_law = record {
   takes = λ bytes m rest h e.
-    let a = bind_some (kind_at bytes) (λ k. node_at k.1 >>= λ s. body_at k.0 s.1 >>= λ b. Some (record { sender = s.0; body = b.0 }, b.1)) (m, rest) e in
-    let k = a.value.0 in
-    let b = bind_some (node_at a.value.1) (λ s. body_at k s.1 >>= λ b. Some (record { sender = s.0; body = b.0 }, b.1)) (m, rest) a.next in
-    let n = b.value.0 in
-    let c = bind_some (body_at k b.value.1) (λ b. Some (record { sender = n; body = b.0 }, b.1)) (m, rest) b.next in
-    let made : Message = record { sender = n; body = c.value.0 } in
-    let t = kind_law.takes bytes k a.value.1 h a.was in
-    let u = node_law.takes a.value.1 n b.value.1 t.left b.was in
-    let v = body_takes k b.value.1 c.value.0 c.value.1 u.left c.was in
-    let kind-is : kind_byte t.value ≡ kind_byte (kind_of c.value.0) = ap kind_byte (t.made ∙ sym v.kind) in
-    let inner : bytes ≡ one (kind_byte t.value) ++ (one u.value ++ (fields c.value.0 ++ c.value.1)) = t.parts ∙ ap (λ (l : List ℕ). one (kind_byte t.value) ++ l) (u.parts ∙ ap (λ (l : List ℕ). one u.value ++ l) v.parts) in
-    let named : bytes ≡ one (kind_byte (kind_of c.value.0)) ++ (one n ++ (fields c.value.0 ++ c.value.1)) =
-        inner ∙ ap (λ (x : ℕ). one x ++ (one u.value ++ (fields c.value.0 ++ c.value.1))) kind-is ∙ ap (λ (x : ℕ). one (kind_byte (kind_of c.value.0)) ++ (one x ++ (fields c.value.0 ++ c.value.1))) u.made in
-    let whole : bytes ≡ spelling made ++ c.value.1 =
-        named ∙ ap (λ (l : List ℕ). one (kind_byte (kind_of c.value.0)) ++ (one n ++ (l ++ c.value.1))) (sym (append-nil (fields c.value.0))) in
-    subst (λ (y : Message × List ℕ). Taken spelling Fits (λ x. x) bytes y.0 y.1) (some_is (made, c.value.1) (m, rest) c.next)
+      let a = bind_some (kind_at bytes) (λ k. node_at k.1 >>= λ s. body_at k.0 s.1 >>= λ b. Some (record { sender = s.0; body = b.0 }, b.1)) (m, rest) e in
+      let k = a.value.0 in
+      let b = bind_some (node_at a.value.1) (λ s. body_at k s.1 >>= λ b. Some (record { sender = s.0; body = b.0 }, b.1)) (m, rest) a.next in
+      let n = b.value.0 in
+      let c = bind_some (body_at k b.value.1) (λ b. Some (record { sender = n; body = b.0 }, b.1)) (m, rest) b.next in
+      let made : Message = record { sender = n; body = c.value.0 } in
+      let t = kind_law.takes bytes k a.value.1 h a.was in
+      let u = node_law.takes a.value.1 n b.value.1 t.left b.was in
+      let v = body_takes k b.value.1 c.value.0 c.value.1 u.left c.was in
+      let kind-is : kind_byte t.value ≡ kind_byte (kind_of c.value.0) = ap kind_byte (t.made ∙ sym v.kind) in
+      let inner : bytes ≡ one (kind_byte t.value) ++ (one u.value ++ (fields c.value.0 ++ c.value.1)) = t.parts ∙ ap (λ (l : List ℕ). one (kind_byte t.value) ++ l) (u.parts ∙ ap (λ (l : List ℕ). one u.value ++ l) v.parts) in
+      let named : bytes ≡ one (kind_byte (kind_of c.value.0)) ++ (one n ++ (fields c.value.0 ++ c.value.1)) =
+      inner ∙ ap (λ (x : ℕ). one x ++ (one u.value ++ (fields c.value.0 ++ c.value.1))) kind-is ∙ ap (λ (x : ℕ). one (kind_byte (kind_of c.value.0)) ++ (one x ++ (fields c.value.0 ++ c.value.1))) u.made in
+      let whole : bytes ≡ spelling made ++ c.value.1 =
+      named ∙ ap (λ (l : List ℕ). one (kind_byte (kind_of c.value.0)) ++ (one n ++ (l ++ c.value.1))) (sym (append-nil (fields c.value.0))) in
+      subst (λ (y : Message × List ℕ). Taken spelling Fits (λ x. x) bytes y.0 y.1) (some_is (made, c.value.1) (m, rest) c.next)
       (record { value = made; made = refl; fitting = (subst IsNode u.made u.fitting, v.fitting); parts = whole; left = v.left });
   again = λ m rest f.
-    ap (λ (l : List ℕ). message_at (one (kind_byte (kind_of m.body)) ++ (one m.sender ++ (l ++ rest)))) (append-nil (fields m.body))
-    ∙ ap (λ (o : Option (MessageKind × List ℕ)). o >>= λ k. node_at k.1 >>= λ s. body_at k.0 s.1 >>= λ b. Some (record { sender = s.0; body = b.0 }, b.1)) (kind_law.again (kind_of m.body) (one m.sender ++ (fields m.body ++ rest)) tt)
-    ∙ ap (λ (o : Option (ℕ × List ℕ)). o >>= λ s. body_at (kind_of m.body) s.1 >>= λ b. Some (record { sender = s.0; body = b.0 }, b.1)) (node_law.again m.sender (fields m.body ++ rest) f.0)
-    ∙ ap (λ (o : Option (Body × List ℕ)). o >>= λ b. Some (record { sender = m.sender; body = b.0 }, b.1)) (body_again m.body rest f.1);
+      ap (λ (l : List ℕ). message_at (one (kind_byte (kind_of m.body)) ++ (one m.sender ++ (l ++ rest)))) (append-nil (fields m.body))
+      ∙ ap (λ (o : Option (MessageKind × List ℕ)). o >>= λ k. node_at k.1 >>= λ s. body_at k.0 s.1 >>= λ b. Some (record { sender = s.0; body = b.0 }, b.1)) (kind_law.again (kind_of m.body) (one m.sender ++ (fields m.body ++ rest)) tt)
+      ∙ ap (λ (o : Option (ℕ × List ℕ)). o >>= λ s. body_at (kind_of m.body) s.1 >>= λ b. Some (record { sender = s.0; body = b.0 }, b.1)) (node_law.again m.sender (fields m.body ++ rest) f.0)
+      ∙ ap (λ (o : Option (Body × List ℕ)). o >>= λ b. Some (record { sender = m.sender; body = b.0 }, b.1)) (body_again m.body rest f.1);
 }
 
 -- no spelling begins another, and a spelling is of one message

@@ -176,18 +176,18 @@ pub marks_law : FieldLaw (λ m. one (marks_byte m)) (λ _. Unit {0}) marks_at
 unfolding marks_at
 marks_law = record {
   takes = λ bytes m rest h e.
-    let b = bind_some (byte_at bytes) (λ b. cond (ltb b.0 64) (Some (marks_of b.0, b.1)) None) (m, rest) e in
-    let g = guard_some (ltb b.value.0 64) (marks_of b.value.0, b.value.1) (m, rest) b.next in
-    let t = byte_law.takes bytes b.value.0 b.value.1 h b.was in
-    let m-is : marks_of b.value.0 ≡ m = ap (λ (p : Marks × List ℕ). p.0) g.1 in
-    let rest-is : b.value.1 ≡ rest = ap (λ (p : Marks × List ℕ). p.1) g.1 in
-    let byte : t.value ≡ marks_byte m = t.made ∙ sym (marks_back b.value.0 (ltb-true _ _ g.0)) ∙ ap marks_byte m-is in
-    record { value = m; made = refl; fitting = tt; parts = t.parts ∙ ap (λ (l : List ℕ). one t.value ++ l) rest-is ∙ ap (λ (k : ℕ). one k ++ rest) byte; left = subst IsBytes rest-is t.left };
+      let b = bind_some (byte_at bytes) (λ b. cond (ltb b.0 64) (Some (marks_of b.0, b.1)) None) (m, rest) e in
+      let g = guard_some (ltb b.value.0 64) (marks_of b.value.0, b.value.1) (m, rest) b.next in
+      let t = byte_law.takes bytes b.value.0 b.value.1 h b.was in
+      let m-is : marks_of b.value.0 ≡ m = ap (λ (p : Marks × List ℕ). p.0) g.1 in
+      let rest-is : b.value.1 ≡ rest = ap (λ (p : Marks × List ℕ). p.1) g.1 in
+      let byte : t.value ≡ marks_byte m = t.made ∙ sym (marks_back b.value.0 (ltb-true _ _ g.0)) ∙ ap marks_byte m-is in
+      record { value = m; made = refl; fitting = tt; parts = t.parts ∙ ap (λ (l : List ℕ). one t.value ++ l) rest-is ∙ ap (λ (k : ℕ). one k ++ rest) byte; left = subst IsBytes rest-is t.left };
   again = λ m rest f.
-    let k = marks_again m in
-    ap (λ (o : Option (ℕ × List ℕ)). o >>= λ b. cond (ltb b.0 64) (Some (marks_of b.0, b.1)) None) (byte_law.again (marks_byte m) rest (omega (arith, k.1)))
-    ∙ ap (λ (t : Bool). cond t (Some (marks_of (marks_byte m), rest)) None) (lt-ltb _ _ k.1)
-    ∙ ap (λ (x : Marks). Some (x, rest)) k.0;
+      let k = marks_again m in
+      ap (λ (o : Option (ℕ × List ℕ)). o >>= λ b. cond (ltb b.0 64) (Some (marks_of b.0, b.1)) None) (byte_law.again (marks_byte m) rest (omega (arith, k.1)))
+      ∙ ap (λ (t : Bool). cond t (Some (marks_of (marks_byte m), rest)) None) (lt-ltb _ _ k.1)
+      ∙ ap (λ (x : Marks). Some (x, rest)) k.0;
 }
 
 -- ---- short lists
@@ -230,26 +230,28 @@ at_most_one_law {A} {spell} {fits} {read} law =
     let step : ℕ × List ℕ → Option (Option A × List ℕ) = λ n. cond (eqb n.0 0) (Some (None, n.1)) (cond (eqb n.0 1) (read n.1 >>= λ x. Some (Some x.0, x.1)) None) in
     record {
       takes = λ bytes m rest h e.
-        let b = bind_some (number_at 2 bytes) step (m, rest) e in
-        let n = b.value in
-        let t = number2.takes bytes n.0 n.1 h b.was in
-        elim (chosen (eqb n.0 0) (Some (None, n.1)) (cond (eqb n.0 1) (read n.1 >>= λ x. Some (Some x.0, x.1)) None) (Some (m, rest)) b.next) [
-          | inl p ↦
-            let k : t.value ≡ 0 = t.made ∙ eqb-true n.0 0 p.0 in
-            subst (λ (y : Option A × List ℕ). Taken (at_most_one spell) (λ o. IfSome o fits) (λ o. o) bytes y.0 y.1) (some_is (None, n.1) (m, rest) p.1)
-              (record { value = None; made = refl; fitting = tt; parts = t.parts ∙ ap (λ (k : ℕ). number 2 k ++ n.1) k ∙ sym (list_none spell n.1); left = t.left })
-          | inr p ↦
-            let q = guard_read (eqb n.0 1) (read n.1 >>= λ x. Some (Some x.0, x.1)) (m, rest) p.1 in
-            let k : t.value ≡ 1 = t.made ∙ eqb-true n.0 1 q.0 in
-            let x = bind_some (read n.1) (λ x. Some (Some x.0, x.1)) (m, rest) q.1 in
-            let u = law.takes n.1 x.value.0 x.value.1 t.left x.was in
-            subst (λ (y : Option A × List ℕ). Taken (at_most_one spell) (λ o. IfSome o fits) (λ o. o) bytes y.0 y.1) (some_is (Some x.value.0, x.value.1) (m, rest) x.next)
-              (record {
-                value = Some u.value; made = ap (λ (a : A). Some a) u.made; fitting = u.fitting;
-                parts = t.parts ∙ ap (λ (k : ℕ). number 2 k ++ n.1) k ∙ ap (λ (l : List ℕ). number 2 1 ++ l) u.parts ∙ sym (list_one spell u.value x.value.1);
-                left = u.left;
-              })
-        ];
+          let b = bind_some (number_at 2 bytes) step (m, rest) e in
+          let n = b.value in
+          let t = number2.takes bytes n.0 n.1 h b.was in
+          elim (chosen (eqb n.0 0) (Some (None, n.1)) (cond (eqb n.0 1) (read n.1 >>= λ x. Some (Some x.0, x.1)) None) (Some (m, rest)) b.next) [
+            | inl p ↦
+                let k : t.value ≡ 0 = t.made ∙ eqb-true n.0 0 p.0 in
+                subst (λ (y : Option A × List ℕ). Taken (at_most_one spell) (λ o. IfSome o fits) (λ o. o) bytes y.0 y.1) (some_is (None, n.1) (m, rest) p.1)
+                (record { value = None; made = refl; fitting = tt; parts = t.parts ∙ ap (λ (k : ℕ). number 2 k ++ n.1) k ∙ sym (list_none spell n.1); left = t.left })
+            | inr p ↦
+                let q = guard_read (eqb n.0 1) (read n.1 >>= λ x. Some (Some x.0, x.1)) (m, rest) p.1 in
+                let k : t.value ≡ 1 = t.made ∙ eqb-true n.0 1 q.0 in
+                let x = bind_some (read n.1) (λ x. Some (Some x.0, x.1)) (m, rest) q.1 in
+                let u = law.takes n.1 x.value.0 x.value.1 t.left x.was in
+                subst (λ (y : Option A × List ℕ). Taken (at_most_one spell) (λ o. IfSome o fits) (λ o. o) bytes y.0 y.1) (some_is (Some x.value.0, x.value.1) (m, rest) x.next)
+                (record {
+                  value = Some u.value;
+                  made = ap (λ (a : A). Some a) u.made;
+                  fitting = u.fitting;
+                  parts = t.parts ∙ ap (λ (k : ℕ). number 2 k ++ n.1) k ∙ ap (λ (l : List ℕ). number 2 1 ++ l) u.parts ∙ sym (list_one spell u.value x.value.1);
+                  left = u.left;
+                })
+          ];
       again = λ o rest f. one_again law o rest f;
     }
 
@@ -266,27 +268,31 @@ failures_take bytes n after m rest parts left e =
     let Goal : LastFailures × List ℕ → Type 0 = λ y. Taken (λ x. list word (seconds_of x)) (λ x. AllByRecursion IsWord (seconds_of x)) (λ x. x) bytes y.0 y.1 in
     elim (chosen (eqb n 0) (Some (Never, after)) _ (Some (m, rest)) e) [
       | inl p ↦
-        subst Goal (some_is (Never, after) (m, rest) p.1)
+          subst Goal (some_is (Never, after) (m, rest) p.1)
           (record { value = Never; made = refl; fitting = tt; parts = parts ∙ ap (λ (k : ℕ). number 2 k ++ after) (eqb-true n 0 p.0) ∙ sym (list_none word after); left = left })
       | inr p ↦ elim (chosen (eqb n 1) (number_at 8 after >>= λ a. Some (Once a.0, a.1)) _ (Some (m, rest)) p.1) [
         | inl q ↦
-          let x = bind_some (number_at 8 after) (λ a. Some (Once a.0, a.1)) (m, rest) q.1 in
-          let u = number8.takes after x.value.0 x.value.1 left x.was in
-          subst Goal (some_is (Once x.value.0, x.value.1) (m, rest) x.next)
+            let x = bind_some (number_at 8 after) (λ a. Some (Once a.0, a.1)) (m, rest) q.1 in
+            let u = number8.takes after x.value.0 x.value.1 left x.was in
+            subst Goal (some_is (Once x.value.0, x.value.1) (m, rest) x.next)
             (record {
-              value = Once u.value; made = ap (λ (a : ℕ). Once a) u.made; fitting = (u.fitting, tt);
+              value = Once u.value;
+              made = ap (λ (a : ℕ). Once a) u.made;
+              fitting = (u.fitting, tt);
               parts = parts ∙ ap (λ (k : ℕ). number 2 k ++ after) (eqb-true n 1 q.0) ∙ ap (λ (l : List ℕ). number 2 1 ++ l) u.parts ∙ sym (list_one word u.value x.value.1);
               left = u.left;
             })
         | inr q ↦
-          let g = guard_read (eqb n 2) (number_at 8 after >>= λ a. number_at 8 a.1 >>= λ b. Some (Twice a.0 b.0, b.1)) (m, rest) q.1 in
-          let x = bind_some (number_at 8 after) (λ a. number_at 8 a.1 >>= λ b. Some (Twice a.0 b.0, b.1)) (m, rest) g.1 in
-          let u = number8.takes after x.value.0 x.value.1 left x.was in
-          let y = bind_some (number_at 8 x.value.1) (λ b. Some (Twice x.value.0 b.0, b.1)) (m, rest) x.next in
-          let v = number8.takes x.value.1 y.value.0 y.value.1 u.left y.was in
-          subst Goal (some_is (Twice x.value.0 y.value.0, y.value.1) (m, rest) y.next)
+            let g = guard_read (eqb n 2) (number_at 8 after >>= λ a. number_at 8 a.1 >>= λ b. Some (Twice a.0 b.0, b.1)) (m, rest) q.1 in
+            let x = bind_some (number_at 8 after) (λ a. number_at 8 a.1 >>= λ b. Some (Twice a.0 b.0, b.1)) (m, rest) g.1 in
+            let u = number8.takes after x.value.0 x.value.1 left x.was in
+            let y = bind_some (number_at 8 x.value.1) (λ b. Some (Twice x.value.0 b.0, b.1)) (m, rest) x.next in
+            let v = number8.takes x.value.1 y.value.0 y.value.1 u.left y.was in
+            subst Goal (some_is (Twice x.value.0 y.value.0, y.value.1) (m, rest) y.next)
             (record {
-              value = Twice u.value v.value; made = ap (λ (a : ℕ). Twice a v.value) u.made ∙ ap (λ (b : ℕ). Twice x.value.0 b) v.made; fitting = (u.fitting, (v.fitting, tt));
+              value = Twice u.value v.value;
+              made = ap (λ (a : ℕ). Twice a v.value) u.made ∙ ap (λ (b : ℕ). Twice x.value.0 b) v.made;
+              fitting = (u.fitting, (v.fitting, tt));
               parts = parts ∙ ap (λ (k : ℕ). number 2 k ++ after) (eqb-true n 2 g.0) ∙ ap (λ (l : List ℕ). number 2 2 ++ l) (u.parts ∙ ap (λ (l : List ℕ). word u.value ++ l) v.parts) ∙ sym (list_two word u.value v.value y.value.1);
               left = v.left;
             })
@@ -309,9 +315,9 @@ failures_law : FieldLaw (λ x. list word (seconds_of x)) (λ x. AllByRecursion I
 unfolding failures_at
 failures_law = record {
   takes = λ bytes m rest h e.
-    let b = bind_some (number_at 2 bytes) failures_step (m, rest) e in
-    let t = number2.takes bytes b.value.0 b.value.1 h b.was in
-    failures_take bytes b.value.0 b.value.1 m rest (t.parts ∙ ap (λ (k : ℕ). number 2 k ++ b.value.1) t.made) t.left b.next;
+      let b = bind_some (number_at 2 bytes) failures_step (m, rest) e in
+      let t = number2.takes bytes b.value.0 b.value.1 h b.was in
+      failures_take bytes b.value.0 b.value.1 m rest (t.parts ∙ ap (λ (k : ℕ). number 2 k ++ b.value.1) t.made) t.left b.next;
   again = failures_again;
 }
 
@@ -391,9 +397,9 @@ seized_ended c n keys r fn fk e =
             | inr p ↦ elim (chosen ((eqb c 4) && (eqb (length keys) 0)) (Some (seized.Contended n)) _ (Some r) p.1) [
               | inl p ↦ let t = and_parts _ _ p.0 in ended c n 4 n keys [] r (seized.Contended n) (eqb-true c 4 t.0) refl (no_keys keys t.1) (some_is _ _ p.1) refl fn
               | inr p ↦
-                let g = guard_some (((eqb c 5) && (eqb n 0)) && (eqb (length keys) 0)) seized.Fault r p.1 in
-                let t = and_parts _ _ g.0 in let u = and_parts _ _ t.0 in
-                ended c n 5 0 keys [] r seized.Fault (eqb-true c 5 u.0) (zero_number n u.1) (no_keys keys t.1) g.1 refl tt
+                  let g = guard_some (((eqb c 5) && (eqb n 0)) && (eqb (length keys) 0)) seized.Fault r p.1 in
+                  let t = and_parts _ _ g.0 in let u = and_parts _ _ t.0 in
+                  ended c n 5 0 keys [] r seized.Fault (eqb-true c 5 u.0) (zero_number n u.1) (no_keys keys t.1) g.1 refl tt
             ]
           ]
         ]

@@ -167,9 +167,9 @@ unfoldable pub failures_at : List ℕ → Option (LastFailures × List ℕ)
 failures_at bytes = do
   n ← number_at 2 bytes
   if n.0 == 0 then Some (Never, n.1)
-    else if n.0 == 1 then (number_at 8 n.1 >>= λ a. Some (Once a.0, a.1))
-    else if n.0 == 2 then (number_at 8 n.1 >>= λ a. number_at 8 a.1 >>= λ b. Some (Twice a.0 b.0, b.1))
-    else None
+      else if n.0 == 1 then (number_at 8 n.1 >>= λ a. Some (Once a.0, a.1))
+      else if n.0 == 2 then (number_at 8 n.1 >>= λ a. number_at 8 a.1 >>= λ b. Some (Twice a.0 b.0, b.1))
+      else None
 
 unfoldable pub reading_at : List ℕ → Option (Reading × List ℕ)
 reading_at bytes = do

@@ -148,12 +148,24 @@ fn put_body(writer: &mut Writer, body: &Body) -> Result<(), AllocError>
     ensures range { OnOk result (FitsBody body.now) }
 {
     match body {
-        Body::Heartbeat { promised, session, member } => {
+        Body::Heartbeat {
+            promised,
+            session,
+            member,
+        } => {
             put_epochs(writer, *promised, *session)?;
             writer.truth(*member)
         }
         Body::Collect { epoch, members } => put_members(writer, *epoch, *members),
-        Body::Promise { epoch, installed, members, valid, flagged, committed, pending } => {
+        Body::Promise {
+            epoch,
+            installed,
+            members,
+            valid,
+            flagged,
+            committed,
+            pending,
+        } => {
             put_epochs(writer, *epoch, *installed)?;
             writer.nodes(*members)?;
             writer.devices(*valid)?;
@@ -161,15 +173,31 @@ fn put_body(writer: &mut Writer, body: &Body) -> Result<(), AllocError>
             put_updates(writer, committed, pending)
         }
         Body::Nack { epoch, promised } => put_epochs(writer, *epoch, *promised),
-        Body::SeizeQuorum { epoch, members, device } => put_seize(writer, *epoch, *members, *device),
-        Body::SeizeData { epoch, members, device } => put_seize(writer, *epoch, *members, *device),
-        Body::Seized { epoch, device, outcome } => {
+        Body::SeizeQuorum {
+            epoch,
+            members,
+            device,
+        } => put_seize(writer, *epoch, *members, *device),
+        Body::SeizeData {
+            epoch,
+            members,
+            device,
+        } => put_seize(writer, *epoch, *members, *device),
+        Body::Seized {
+            epoch,
+            device,
+            outcome,
+        } => {
             writer.epoch(*epoch)?;
             writer.device(*device)?;
             put_result(writer, outcome)
         }
         Body::Install(install) => put_install(writer, install),
-        Body::Ready { epoch, joined, report } => {
+        Body::Ready {
+            epoch,
+            joined,
+            report,
+        } => {
             writer.epoch(*epoch)?;
             writer.devices(*joined)?;
             put_report(writer, report)
@@ -179,12 +207,24 @@ fn put_body(writer: &mut Writer, body: &Body) -> Result<(), AllocError>
         Body::Prepared { epoch, place } => put_numbered(writer, *epoch, *place),
         Body::Commit { epoch, place } => put_numbered(writer, *epoch, *place),
         Body::Order(order) => put_order(writer, order),
-        Body::Done { epoch, number, outcome } => {
+        Body::Done {
+            epoch,
+            number,
+            outcome,
+        } => {
             put_numbered(writer, *epoch, *number)?;
             writer.byte(outcome_byte(*outcome))
         }
-        Body::Request { epoch, number, text } => put_numbered_text(writer, *epoch, *number, text),
-        Body::Answer { epoch, number, text } => put_numbered_text(writer, *epoch, *number, text),
+        Body::Request {
+            epoch,
+            number,
+            text,
+        } => put_numbered_text(writer, *epoch, *number, text),
+        Body::Answer {
+            epoch,
+            number,
+            text,
+        } => put_numbered_text(writer, *epoch, *number, text),
         Body::Excluded { epoch, newest } => put_epochs(writer, *epoch, *newest),
     }
 }

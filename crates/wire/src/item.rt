@@ -98,8 +98,11 @@ pub fn put_at_most_one<T: Item>(writer: &mut Writer, item: &Option<T>) -> Result
 
 impl Item for u64 {
     ghost spelled = { word };
+
     ghost is_short = { λ _. Unit {0} };
+
     ghost fits = { IsWord };
+
     ghost read_at = { number_at 8 };
 
     fn put(&self, writer: &mut Writer) -> Result<(), AllocError> {
@@ -113,8 +116,11 @@ impl Item for u64 {
 
 impl Item for Text {
     ghost spelled = { text };
+
     ghost is_short = { IsShortText };
+
     ghost fits = { IsShortText };
+
     ghost read_at = { text_at };
 
     fn put(&self, writer: &mut Writer) -> Result<(), AllocError> {
@@ -128,8 +134,11 @@ impl Item for Text {
 
 impl Item for Reading {
     ghost spelled = { reading };
+
     ghost is_short = { IsShortReading };
+
     ghost fits = { FitsReading };
+
     ghost read_at = { reading_at };
 
     fn put(&self, writer: &mut Writer) -> Result<(), AllocError> {
@@ -160,8 +169,11 @@ pub fn put_keys(writer: &mut Writer, keys: &Keys) -> Result<(), AllocError>
 
 impl Item for ResourceReport {
     ghost spelled = { resource_report };
+
     ghost is_short = { IsShortResource };
+
     ghost fits = { IsShortResource };
+
     ghost read_at = { resource_at };
 
     fn put(&self, writer: &mut Writer) -> Result<(), AllocError> {
@@ -213,8 +225,11 @@ fn failures(reader: &mut Reader<'_>) -> Result<LastFailures, Stop>
 
 impl Item for GroupReport {
     ghost spelled = { group_report };
+
     ghost is_short = { IsShortGroup };
+
     ghost fits = { FitsGroup };
+
     ghost read_at = { group_at };
 
     fn put(&self, writer: &mut Writer) -> Result<(), AllocError> {

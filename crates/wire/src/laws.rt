@@ -7,5 +7,4 @@ ghost use Rattle.wire.specs.Spelling.{spelling, Fits};
 /// function of it.)
 pub fn spellings_are_apart()
     ensures apart { (a b : Message) (x y : List ℕ) → Fits a → Fits b → spelling a ++ x ≡ spelling b ++ y → (a ≡ b) × (x ≡ y) }
-{
-}
+{}

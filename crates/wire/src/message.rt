@@ -93,7 +93,10 @@ pub enum Body {
         member: bool,
     },
     /// An attempt begins.
-    Collect { epoch: Epoch, members: NodeSet },
+    Collect {
+        epoch: Epoch,
+        members: NodeSet,
+    },
     /// The sender takes part in the attempt; its record.
     Promise {
         epoch: Epoch,
@@ -108,7 +111,10 @@ pub enum Body {
         pending: Option<Text>,
     },
     /// The sender has promised a greater epoch.
-    Nack { epoch: Epoch, promised: Epoch },
+    Nack {
+        epoch: Epoch,
+        promised: Epoch,
+    },
     /// A quorum device is to be seized.
     SeizeQuorum {
         epoch: Epoch,
@@ -136,7 +142,9 @@ pub enum Body {
         report: Report,
     },
     /// The membership starts.
-    Start { epoch: Epoch },
+    Start {
+        epoch: Epoch,
+    },
     /// An update is to be prepared at a place.
     Prepare {
         epoch: Epoch,
@@ -144,9 +152,15 @@ pub enum Body {
         text: Text,
     },
     /// The sender has prepared the update.
-    Prepared { epoch: Epoch, place: u64 },
+    Prepared {
+        epoch: Epoch,
+        place: u64,
+    },
     /// The update is committed.
-    Commit { epoch: Epoch, place: u64 },
+    Commit {
+        epoch: Epoch,
+        place: u64,
+    },
     /// An order of the president.
     Order(Order),
     /// How the order ended.
@@ -168,7 +182,10 @@ pub enum Body {
         text: Text,
     },
     /// The receiver is no member of a newer membership.
-    Excluded { epoch: Epoch, newest: Epoch },
+    Excluded {
+        epoch: Epoch,
+        newest: Epoch,
+    },
 }
 
 impl Body {
