@@ -1,5 +1,5 @@
 -- The laws of messages: what is decoded is spelled so, what is spelled so is decoded, and no spelling begins another.
-use Rattle.std.proofs.Common.{◌≡◌, ◌≢◌, ℕ, ◌<◌, Bool, true, cond, eqb, List, [], ◌∷◌, ◌++◌, length, Option, Some, None, Result, Ok, Err, refl, sym, ap, subst, ◌∙◌}
+use Rattle.std.proofs.Common.{◌≡◌, ◌≢◌, ℕ, cond, eqb, List, [], ◌++◌, length, Option, Some, None, Result, Ok, Err, refl, sym, ap, subst, ◌∙◌}
 use Rattle.std.specs.Prelude.{IfOk, MatchOption}
 use Rattle.std.specs.declared.alloc.AllocError.{AllocError}
 use Rattle.std.proofs.lemmas.Bool.{eqb-true}
@@ -12,7 +12,7 @@ use Rattle.wire.specs.Spelling.{one, fields, spelling, Fits, IsNode}
 use Rattle.wire.specs.Reads.{◌>>=◌, kind_at, node_at, body_at, message_at, whole_of}
 use Rattle.wire.proofs.Fields.{IsBytes, bind_some, some_is, guard_some, Taken, FieldLaw}
 use Rattle.wire.proofs.Parts.{kind_law, node_law}
-use Rattle.wire.proofs.Bodies.{BodyTaken, body_takes, body_again}
+use Rattle.wire.proofs.Bodies.{body_takes, body_again}
 
 pub message_law : FieldLaw spelling Fits message_at
 unfolding message_at

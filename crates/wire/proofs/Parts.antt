@@ -1,28 +1,25 @@
 -- The laws of the parts of messages.
-use Rattle.std.proofs.Common.{◌≡◌, ℕ, zero, suc, ◌+◌, ◌*◌, ◌^◌, ◌<◌, ◌≤◌, Bool, true, false, not, cond, eqb, ltb, leb, ◌&&◌, ◌⊎◌, List, [], ◌∷◌, ◌++◌, length, Option, Some, None, refl, sym, ap, subst, ◌∙◌, append_assoc, arith, inl, inr, lit<}
+use Rattle.std.proofs.Common.{◌≡◌, ℕ, ◌<◌, ◌≤◌, Bool, true, false, not, cond, eqb, ltb, leb, ◌&&◌, List, [], ◌∷◌, ◌++◌, length, Option, Some, None, refl, sym, ap, subst, ◌∙◌, append_assoc, arith, inl, inr, lit<}
 use Rattle.std.specs.Prelude.{IfSome, bit_and}
-use Rattle.std.specs.List.{find, flat_map, concat, AllByRecursion}
-use Rattle.std.specs.Option.{option_to_list}
+use Rattle.std.specs.List.{find, AllByRecursion}
 use Rattle.std.proofs.lemmas.Bool.{eqb-true, ltb-true, lt-ltb, leb-true, le-leb, and_parts, and_from, agree_below, agree_below_at}
 use Rattle.std.proofs.lemmas.List.{append-nil, nil_from_length}
 use Rattle.cl_base.specs.declared.method.Method.{Method}
 use Rattle.cl_base.specs.declared.method.Method.TheVariants as method
 use Rattle.cl_base.specs.declared.method.Outcome.{Outcome}
 use Rattle.cl_base.specs.declared.method.Outcome.TheVariants.{Success, Failure, Timeout}
-use Rattle.wire.specs.declared.lists.Reading.{Reading}
 use Rattle.wire.specs.declared.report.Marks.{Marks}
 use Rattle.wire.specs.declared.report.LastFailures.{LastFailures}
 use Rattle.wire.specs.declared.report.LastFailures.TheVariants.{Never, Once, Twice}
 use Rattle.wire.specs.declared.report.ResourceReport.{ResourceReport}
 use Rattle.wire.specs.declared.report.GroupReport.{GroupReport}
-use Rattle.wire.specs.declared.report.Report.{Report}
 use Rattle.wire.specs.declared.message.SeizedResult.{SeizedResult}
 use Rattle.wire.specs.declared.message.SeizedResult.TheVariants as seized
 use Rattle.wire.specs.declared.message.MessageKind.{MessageKind}
 use Rattle.wire.specs.declared.message.MessageKind.TheVariants as kind
 use Rattle.wire.specs.Kinds.{kind_byte}
-use Rattle.wire.specs.Spelling.{number, word, one, set, truth_byte, truth, text, list, at_most_one, method_byte, outcome_byte, worth, marks_byte, seconds_of, reading, resource_report, group_report, report, seized_result, IsWord, IsNodes, IsDevices, IsNode, IsDevice, IsShortText, IsShortList, IsShortResource, FitsReading, FitsGroup, FitsReport, FitsResult}
-use Rattle.wire.specs.Reads.{◌>>=◌, number_at, byte_at, truth_at, node_at, device_at, devices_at, text_at, items_at, list_at, at_most_one_at, methods, method_at, outcome_at, kinds, kind_at, marks_of, marks_at, failures_at, reading_at, resource_at, group_at, report_at, seized_of, seized_result_at}
+use Rattle.wire.specs.Spelling.{number, word, one, set, truth_byte, truth, text, list, at_most_one, method_byte, outcome_byte, worth, marks_byte, seconds_of, reading, resource_report, group_report, report, seized_result, IsWord, IsDevices, IsNode, IsDevice, IsShortText, IsShortList, IsShortResource, FitsReading, FitsGroup, FitsReport, FitsResult}
+use Rattle.wire.specs.Reads.{◌>>=◌, number_at, byte_at, truth_at, node_at, device_at, devices_at, at_most_one_at, methods, method_at, outcome_at, kinds, kind_at, marks_of, marks_at, failures_at, reading_at, resource_at, group_at, report_at, seized_of, seized_result_at}
 use Rattle.wire.proofs.Fields.{IsBytes, bind_some, some_is, guard_some, chosen, Taken, Law, FieldLaw, finish, pick, then, Back, recast, tested, refit, number2, number4, number8, byte_law, code_law, text_law, list_law}
 
 -- ---- bytes

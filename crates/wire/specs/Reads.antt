@@ -16,8 +16,6 @@ use Rattle.wire.specs.declared.report.GroupReport.{GroupReport}
 use Rattle.wire.specs.declared.report.Report.{Report}
 use Rattle.wire.specs.declared.message.SeizedResult.{SeizedResult}
 use Rattle.wire.specs.declared.message.SeizedResult.TheVariants as seized
-use Rattle.wire.specs.declared.message.Install.{Install}
-use Rattle.wire.specs.declared.message.Order.{Order}
 use Rattle.wire.specs.declared.message.MessageKind.{MessageKind}
 use Rattle.wire.specs.declared.message.MessageKind.TheVariants as kind
 use Rattle.wire.specs.declared.message.Body.{Body}

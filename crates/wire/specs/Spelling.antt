@@ -1,6 +1,6 @@
 -- The one spelling of each message: a kind byte, a sender byte, then the fields of its kind. Nothing
 -- follows the last field. Numbers stand with their highest byte first.
-use Rattle.std.specs.Prelude.{ℕ, ◌+◌, ◌*◌, ◌<◌, ◌≤◌, ◌^◌, Bool, true, false, List, [], ◌∷◌, ◌++◌, length, Option, Some, None, IfSome}
+use Rattle.std.specs.Prelude.{ℕ, ◌+◌, ◌<◌, ◌≤◌, ◌^◌, Bool, true, false, List, [], ◌∷◌, ◌++◌, length, Option, Some, None, IfSome}
 use Rattle.std.specs.List.{flat_map, concat, AllByRecursion}
 use Rattle.std.specs.Option.{option_to_list}
 use Rattle.byteorder.specs.Endian.{big_bytes}
@@ -17,8 +17,6 @@ use Rattle.wire.specs.declared.report.GroupReport.{GroupReport}
 use Rattle.wire.specs.declared.report.Report.{Report}
 use Rattle.wire.specs.declared.message.SeizedResult.{SeizedResult}
 use Rattle.wire.specs.declared.message.SeizedResult.TheVariants as seized
-use Rattle.wire.specs.declared.message.Install.{Install}
-use Rattle.wire.specs.declared.message.Order.{Order}
 use Rattle.wire.specs.declared.message.Body.{Body}
 use Rattle.wire.specs.declared.message.Body.TheVariants as body
 use Rattle.wire.specs.declared.message.Message.{Message}

@@ -1,4 +1,4 @@
-use Rattle.std.proofs.Common.{◌≡◌, add-one, arith, rules}
+use Rattle.std.proofs.Common.{add-one, arith, rules}
 use Rattle.std.proofs.lemmas.Grind.{common_steps}
 use Rattle.wire.proofs.Short.{all_more}
 use Rattle.wire.proofs.item.put_list.Goals as goal
