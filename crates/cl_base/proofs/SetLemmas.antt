@@ -5,10 +5,10 @@ use Rattle.std.proofs.lemmas.Nat.Bits.{shr_and_one, bit_at-zero, bit_at_above, b
 use Rattle.std.proofs.lemmas.Bool.{le-leb}
 use Rattle.std.proofs.lemmas.Bool.Decides.{eqb_tells, leb_tells, nat_tests}
 use Rattle.std.proofs.lemmas.Nat.{or_lt}
-use Rattle.std.proofs.Math.Pow.{pow_mono}
+use Rattle.std.proofs.Math.Pow.{pow_mono, pow-lt}
 use Rattle.std.proofs.Math.Nat.{mod-le}
 use Rattle.std.specs.Int.Bits.{and_le_l}
-use Rattle.cl_base.specs.Sets.{has}
+use Rattle.cl_base.specs.Sets.{has, set_with}
 
 -- number 0 is in no set
 pub has_not_zero : (s : ℕ) → has s 0 ≡ false
@@ -97,6 +97,14 @@ none_or s sm none m (inr (_, lt)) = has_not_above s 32 m sm lt
 -- a set that has none of the numbers 1 to 32 has none
 pub none_at_all : (s : ℕ) → s < 2 ^ 32 → ((m : ℕ) → m < 33 → has s m ≡ false) → (m : ℕ) → has s m ≡ false
 none_at_all s sm none m = none_or s sm none m (leb_tells m 32)
+
+-- the bit that the code sets is the one that is meant
+pub or_bit_value : (s n : ℕ) → n ≤ 32 → bit_or s (1 * 2 ^ (n - 1) % 4294967296) ≡ set_with s n
+unfolding set_with
+or_bit_value s n high =
+    let small : 2 ^ (n - 1) < 2 ^ 32 = pow-lt {i = n - 1} {j = 32} (omega arith) in
+    let same : 1 * 2 ^ (n - 1) % 4294967296 ≡ 2 ^ (n - 1) = omega arith in
+    rw same refl
 
 -- a set of numbers up to 16 stays one
 power_narrow : (n : ℕ) → n ≤ 16 → 2 ^ (n - 1) ≤ 2 ^ 15

@@ -1,5 +1,5 @@
 -- A set of numbers from 1 on is kept as a number: its bit n - 1 tells whether n is in the set.
-use Rattle.std.specs.Prelude.{ℕ, ◌+◌, ◌-◌, ◌==◌, nat_le, ◌&&◌, Bool, suc, zero, if◌then◌else◌}
+use Rattle.std.specs.Prelude.{ℕ, ◌+◌, ◌-◌, ◌^◌, ◌==◌, nat_le, ◌&&◌, Bool, suc, zero, if◌then◌else◌, bit_or}
 use Rattle.std.specs.Int.{bit_at}
 
 -- whether the set has the number; clauses see a set through this alone
@@ -10,3 +10,7 @@ has set n = nat_le 1 n && (bit_at set (n - 1) == 1)
 abbrev pub count_to : ℕ → ℕ → ℕ
 count_to set zero = 0
 count_to set (suc k) = count_to set k + (if has set (k + 1) then 1 else 0)
+
+-- the set and this number
+unfoldable pub set_with : ℕ → ℕ → ℕ
+set_with set n = bit_or set (2 ^ (n - 1))

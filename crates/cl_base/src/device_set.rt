@@ -1,5 +1,5 @@
 ghost use Rattle.std.specs.Prelude.{◌≡◌, ◌<◌, ◌≤◌, ◌==◌, ◌||◌, ◌&&◌, not, true, false, ℕ, MatchOption};
-ghost use Rattle.cl_base.specs.Sets.{has, count_to};
+ghost use Rattle.cl_base.specs.Sets.{has, count_to, set_with};
 
 use crate::device::DevId;
 use crate::number_set::NumberSet;
@@ -52,6 +52,7 @@ impl DevSet {
 
     /// The set and this device.
     pub fn with(self, n: DevId) -> DevSet
+        ensures value { result ≡ set_with self n }
         ensures members { (m : ℕ) → has result m ≡ ((m == n) || has self m) }
     {
         DevSet {

@@ -11,7 +11,7 @@ pub struct BadName;
 
 /// A name of 1 to 32 bytes of `a` to `z`, digits, `_` and `-`, beginning with a letter. It is
 /// kept in place. Contracts see its bytes.
-#[derive(Clone, Copy, Debug, PartialEq, Eq)]
+#[derive(Clone, Copy, Debug, PartialEq, Eq, Hash)]
 pub struct Name {
     bytes: [u8; 32],
     len: u8,

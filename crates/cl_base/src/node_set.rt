@@ -1,5 +1,5 @@
 ghost use Rattle.std.specs.Prelude.{◌≡◌, ◌<◌, ◌≤◌, ◌==◌, ◌||◌, ◌&&◌, not, true, false, ℕ, MatchOption};
-ghost use Rattle.cl_base.specs.Sets.{has, count_to};
+ghost use Rattle.cl_base.specs.Sets.{has, count_to, set_with};
 
 use crate::node::NodeId;
 use crate::number_set::NumberSet;
@@ -50,6 +50,7 @@ impl NodeSet {
 
     /// The set and this node.
     pub fn with(self, n: NodeId) -> NodeSet
+        ensures value { result ≡ set_with self n }
         ensures members { (m : ℕ) → has result m ≡ ((m == n) || has self m) }
     {
         NodeSet {

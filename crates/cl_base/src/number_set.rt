@@ -1,5 +1,5 @@
 ghost use Rattle.std.specs.Prelude.{◌≡◌, ◌<◌, ◌≤◌, ◌==◌, ◌||◌, ◌&&◌, not, true, false, ◌^◌, ℕ, MatchOption, IfSome};
-ghost use Rattle.cl_base.specs.Sets.{has, count_to};
+ghost use Rattle.cl_base.specs.Sets.{has, count_to, set_with};
 
 use std::marker::Model;
 
@@ -52,6 +52,7 @@ impl NumberSet {
     pub fn with(self, n: u8) -> NumberSet
         requires low { 1 ≤ n }
         requires high { n ≤ 32 }
+        ensures value { result ≡ set_with self n }
         ensures members { (m : ℕ) → has result m ≡ ((m == n) || has self m) }
         ensures narrow { self < 2 ^ 16 → n ≤ 16 → result < 2 ^ 16 }
     {

@@ -1,0 +1,12 @@
+pub mod Access
+pub mod Allowed
+pub mod Device
+pub mod Kept
+pub mod KeyFields
+pub mod Keys
+pub mod Padded
+pub mod Ports
+pub mod Registered
+pub mod Runs
+pub mod Seen
+pub mod Spc

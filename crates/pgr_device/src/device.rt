@@ -1,0 +1,62 @@
+ghost use Rattle.std.specs.Prelude.{◌≡◌};
+ghost use Rattle.pgr_device.specs.Allowed.{IsAllowed};
+ghost use Rattle.pgr_device.specs.Device.{Device, fresh};
+ghost use Rattle.pgr_device.specs.Keys.{HasNoZeroKey};
+ghost use Rattle.pgr_device.specs.Spc.{step};
+
+use crate::command::{PrAnswer, PrCommand};
+use crate::state::State;
+use cl_base::{NodeId, NodeSet};
+use std::marker::Model;
+
+/// A shared device. Contracts see it as a `Device`: its paths, its registrations in order, its
+/// reservation, its word and its data.
+#[derive(Drop)]
+pub struct Pgr {
+    state: State,
+}
+
+impl Model for Pgr {
+    ghost use Rattle.pgr_device.specs.Device.{Device};
+
+    ghost Value = { Device };
+
+    ghost use Rattle.pgr_device.specs.Seen.{seen};
+    ghost use Rattle.pgr_device.specs.Kept.{IsDevice};
+
+    ghost view = { λ p. seen p.state };
+
+    ghost invariant = { λ p. IsDevice (seen p.state) };
+}
+
+impl Pgr {
+    /// The device that these nodes have a path to, with no registration and no reservation. Its
+    /// word and its data are 0.
+    pub fn new(paths: NodeSet) -> Pgr
+        ensures { result ≡ fresh paths }
+    {
+        Pgr {
+            state: State::new(paths),
+        }
+    }
+
+    /// Carries out a command, as SPC-3 has it. The sender of a `Preempt` names a victim's key that
+    /// is neither zero nor its own.
+    pub fn execute(&mut self, from: NodeId, command: PrCommand) -> PrAnswer
+        requires { IsAllowed command }
+        ensures after { self.new ≡ (step self.old from command).after }
+        ensures answer { result ≡ (step self.old from command).answer }
+        ensures keys { HasNoZeroKey result }
+    {
+        if !self.state.paths.has(from) {
+            return PrAnswer::NoPath;
+        }
+        self.state.carry_out(from, command)
+    }
+
+    /// The device loses its power and comes back: nothing changes, since registrations and the
+    /// reservation persist (APTPL is set).
+    pub fn power_loss(&mut self)
+        ensures { self.new ≡ self.old }
+    {}
+}

@@ -1,0 +1,108 @@
+-- What a word of digits is as a number.
+use Rattle.std.proofs.Common.{◌≡◌, ◌≢◌, nat_le, ℕ, ◌^◌, ◌<◌, ◌≤◌, ◌==◌, nat_lt, Bool, true, false, not, ◌&&◌, List, [], ◌∷◌, length, slice_index, Some, Err, zero, suc, refl, subst, arith, rules}
+use Rattle.std.specs.List.{list_all}
+use Rattle.std.specs.Char.{is_ascii_digit, digit_value}
+use Rattle.std.specs.Str.{IsUtf8}
+use Rattle.std.specs.Str.Parse.{digits_value, ParsesUnsigned, AllDigits, IsNumeral, without_leading_plus}
+use Rattle.std.proofs.lemmas.Str.Parse.{IsNumeralModel, numerals_by_value, parse_digits, without_leading_plus_none}
+use Rattle.std.proofs.lemmas.Fmt.{IsAscii-from_digits}
+use Rattle.std.proofs.lemmas.Str.{IsUtf8-from_ascii}
+use Rattle.std.proofs.lemmas.Int.Digits.{digits_value-lt}
+use Rattle.std.proofs.Math.Nat.{pow-le-pow_right}
+use Rattle.std.proofs.lemmas.Bool.{le-ltb, ltb-false, ltb-true, leb-true}
+use Rattle.std.proofs.lemmas.Bool.Decides.{nat_tests}
+use Rattle.schedule_text.specs.declared.number.Numeral.TheVariants.{Beyond}
+use Rattle.schedule_text.specs.Words.{is_decimal, numeral_of, decimal_in, has_no_leading_zero, is_key, is_key_digit}
+
+abbrev Digits : List ℕ → Type 0
+Digits w = list_all is_ascii_digit w ≡ true
+
+digits : IsNumeralModel Digits (digits_value 10)
+digits = numerals_by_value Digits (search rules)
+
+second : (a b : Bool) → (a && b) ≡ true → b ≡ true
+second true true h = refl
+second true false h = h
+second false b h = absurd (cc)
+
+pub digits_of_decimal : (w : List ℕ) → is_decimal w ≡ true → Digits w
+digits_of_decimal w h = second (not (length w == 0) && has_no_leading_zero w) (list_all is_ascii_digit w) h
+
+pub utf8_of_decimal : (w : List ℕ) → is_decimal w ≡ true → IsUtf8 w
+utf8_of_decimal w h = IsUtf8-from_ascii w (IsAscii-from_digits w (digits.to w (digits_of_decimal w h)))
+
+beyond : (n : ℕ) → 2 ^ 64 ≤ n → numeral_of n ≡ Beyond
+beyond n h = rw (le-ltb n (2 ^ 64) h) refl
+
+nonempty : (w : List ℕ) → is_decimal w ≡ true → 0 < length w
+nonempty [] h = absurd (cc)
+nonempty (x ∷ w) h = omega arith
+
+at_least : (n : ℕ) (t : Bool) → nat_lt n (2 ^ 64) ≡ t → (n < 2 ^ 64 → ⊥) → 2 ^ 64 ≤ n
+at_least n true is never = absurd (never (ltb-true n (2 ^ 64) is))
+at_least n false is never = ltb-false n (2 ^ 64) is
+
+-- a decimal word that `parse` does not read is too great for 64 bits
+pub unread_decimal : {E : Type 0} (text w : List ℕ) (e : E) → text ≡ w → is_decimal w ≡ true → ParsesUnsigned 64 10 text (Err e) → decimal_in w ≡ Some Beyond
+unread_decimal {E} text w e same h parsed =
+    let fails = parse_digits digits 64 w (Err e) (subst (λ (t : List ℕ). ParsesUnsigned {E = E} 64 10 t (Err e)) same parsed) (digits_of_decimal w h) in
+    let great : 2 ^ 64 ≤ digits_value 10 w = at_least (digits_value 10 w) (nat_lt (digits_value 10 w) (2 ^ 64)) refl (λ lt. fails (nonempty w h, lt)) in
+    rw (h, beyond (digits_value 10 w) great) refl
+
+-- keys
+
+abbrev KeyDigits : List ℕ → Type 0
+KeyDigits w = list_all is_key_digit w ≡ true
+
+key_digit : (b : ℕ) → is_key_digit b ≡ true → (digit_value b < 16) × (b < 128)
+key_digit b h = (grind (arith, nat_tests), grind (arith, nat_tests))
+
+key_digit_no_plus : (b : ℕ) → is_key_digit b ≡ true → b ≢ 43
+key_digit_no_plus b h = grind (arith, nat_tests)
+
+first : (a b : Bool) → (a && b) ≡ true → a ≡ true
+first true b h = refl
+first false b h = h
+
+key_digits : (w : List ℕ) → KeyDigits w → AllDigits 16 w
+key_digits [] h = tt
+key_digits (b ∷ w) h = ((key_digit b (first (is_key_digit b) (list_all is_key_digit w) h)).0, key_digits w (second (is_key_digit b) (list_all is_key_digit w) h))
+
+key_ascii : (w : List ℕ) → KeyDigits w → (i : ℕ) → slice_index w i < 128
+key_ascii [] h i = omega arith
+key_ascii (b ∷ w) h zero = (key_digit b (first (is_key_digit b) (list_all is_key_digit w) h)).1
+key_ascii (b ∷ w) h (suc i) = key_ascii w (second (is_key_digit b) (list_all is_key_digit w) h) i
+
+digits_of_key : (w : List ℕ) → is_key w ≡ true → KeyDigits w
+digits_of_key w h = second (not (length w == 0) && nat_le (length w) 16 && has_no_leading_zero w) (list_all is_key_digit w) h
+
+pub utf8_of_key : (w : List ℕ) → is_key w ≡ true → IsUtf8 w
+utf8_of_key w h = IsUtf8-from_ascii w (key_ascii w (digits_of_key w h))
+
+no_plus : (w : List ℕ) → KeyDigits w → slice_index w 0 ≢ 43
+no_plus [] h = omega arith
+no_plus (b ∷ w) h = key_digit_no_plus b (first (is_key_digit b) (list_all is_key_digit w) h)
+
+key_nonempty : (w : List ℕ) → is_key w ≡ true → 0 < length w
+key_nonempty [] h = absurd (cc)
+key_nonempty (x ∷ w) h = omega arith
+
+key_short : (w : List ℕ) → is_key w ≡ true → length w ≤ 16
+key_short w h =
+    let front : ((not (length w == 0) && nat_le (length w) 16) && has_no_leading_zero w) ≡ true = first (not (length w == 0) && nat_le (length w) 16 && has_no_leading_zero w) (list_all is_key_digit w) h in
+    let both : (not (length w == 0) && nat_le (length w) 16) ≡ true = first (not (length w == 0) && nat_le (length w) 16) (has_no_leading_zero w) front in
+    leb-true (length w) 16 (second (not (length w == 0)) (nat_le (length w) 16) both)
+
+key_value : (w : List ℕ) → is_key w ≡ true → digits_value 16 w < 2 ^ 64
+key_value w h =
+    let below : digits_value 16 w < 16 ^ length w = digits_value-lt 16 w (key_digits w (digits_of_key w h)) in
+    let most : 16 ^ length w ≤ 16 ^ 16 = pow-le-pow_right {n = 16} (omega arith) {i = length w} {j = 16} (key_short w h) in
+    omega arith
+
+-- `from_str_radix` reads each key
+pub unread_key : {E : Type 0} (text w : List ℕ) (e : E) → text ≡ w → is_key w ≡ true → ParsesUnsigned 64 16 text (Err e) → ⊥
+unread_key {E} text w e same h parsed =
+    let plain : without_leading_plus w ≡ w = without_leading_plus_none w (no_plus w (digits_of_key w h)) in
+    let reads = subst (λ (t : List ℕ). ParsesUnsigned {E = E} 64 16 t (Err e)) same parsed in
+    let fails = subst (λ (t : List ℕ). IsNumeral 16 t × (digits_value 16 t < 2 ^ 64) → ⊥) plain reads in
+    fails ((key_nonempty w h, key_digits w (digits_of_key w h)), key_value w h)

@@ -1,0 +1,87 @@
+ghost use Rattle.std.specs.Prelude.{◌≡◌};
+ghost use Rattle.std.specs.List.{list_all};
+ghost use Rattle.std.specs.Char.{is_ascii_digit};
+ghost use Rattle.schedule_text.specs.Words.{decimal_in, is_decimal, is_key, is_key_digit, has_no_leading_zero, key_in};
+
+/// A decimal number of a schedule.
+#[derive(Clone, Copy, Debug, PartialEq, Eq)]
+pub enum Numeral {
+    /// A number below 2^64.
+    Within(u64),
+    /// A greater one.
+    Beyond,
+}
+
+/// The decimal number that the word is, if it is one.
+pub fn decimal(word: &[u8]) -> Option<Numeral>
+    ensures { result ≡ decimal_in word.now }
+{
+    if !is_decimal(word) {
+        return None;
+    }
+    let Ok(text) = std::str::from_utf8(word) else {
+        return None;
+    };
+    match text.parse::<u64>() {
+        Ok(number) => Some(Numeral::Within(number)),
+        Err(_) => Some(Numeral::Beyond),
+    }
+}
+
+/// The key that the word is, if it is one.
+pub fn key(word: &[u8]) -> Option<u64>
+    ensures { result ≡ key_in word.now }
+{
+    if !is_key(word) {
+        return None;
+    }
+    let Ok(text) = std::str::from_utf8(word) else {
+        return None;
+    };
+    match u64::from_str_radix(text, 16) {
+        Ok(key) => Some(key),
+        Err(_) => None,
+    }
+}
+
+/// Whether the word is a decimal number without a leading zero.
+pub fn is_decimal(word: &[u8]) -> bool
+    ensures { result ≡ is_decimal word.now }
+{
+    !word.is_empty() && has_no_leading_zero(word) && all_digits(word)
+}
+
+/// Whether the word is a key of 1 to 16 hexadecimal digits without a leading zero.
+fn is_key(word: &[u8]) -> bool
+    ensures { result ≡ is_key word.now }
+{
+    !word.is_empty() && word.len() <= 16 && has_no_leading_zero(word) && all_key_digits(word)
+}
+
+fn all_digits(word: &[u8]) -> bool
+    ensures { result ≡ list_all is_ascii_digit word.now }
+{
+    word.iter().all(|b| b.is_ascii_digit())
+}
+
+fn all_key_digits(word: &[u8]) -> bool
+    ensures { result ≡ list_all is_key_digit word.now }
+{
+    word.iter().all(|b| is_key_digit(*b))
+}
+
+fn is_key_digit(b: u8) -> bool
+    ensures { result ≡ is_key_digit b }
+{
+    b.is_ascii_digit() || (b'a' <= b && b <= b'f')
+}
+
+fn has_no_leading_zero(word: &[u8]) -> bool
+    ensures { result ≡ has_no_leading_zero word.now }
+{
+    match word {
+        [b'0'] => true,
+        [first, ..] => *first != b'0',
+        [] => true,
+    }
+}
