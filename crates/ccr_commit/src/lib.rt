@@ -2,6 +2,13 @@
 //! pending, and which of several nodes' entries are the newest.
 #![tactic(auto)]
 
+mod entries;
+mod summary;
 mod text;
 
+pub use entries::{Entries, Prepared};
+pub use summary::{Summary, newest};
 pub use text::Text;
+
+#[cfg(test)]
+mod tests;
