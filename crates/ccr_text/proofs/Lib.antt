@@ -1,0 +1,4 @@
+pub mod CutLemmas
+pub mod OneAnswer
+pub mod RowLemmas
+pub mod TableLemmas
