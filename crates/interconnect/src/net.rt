@@ -143,7 +143,7 @@ mod tests {
         let mut net = Net::new(rt.alloc(), 100)?;
         let one = NodeId::new(1)?;
         let two = NodeId::new(2)?;
-        for _ in 0..64 {
+        for _ in 0..64u64 {
             let _ = net.send(one, two, &[1]);
         }
         let last = net.send(one, two, &[2]);

@@ -2,4 +2,4 @@ use Rattle.std.proofs.Common.{◌≡◌, ℕ, ◌+◌}
 use Rattle.interconnect.proofs.net.tests.full_link.Given as goal
 
 abbrev pub invariant-loop : goal.invariant-loop
-invariant-loop l = l.net.next ≡ l.counter + 1
+invariant-loop g l = l.net.next ≡ l.counter + 1
