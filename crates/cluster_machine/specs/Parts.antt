@@ -11,31 +11,31 @@ use Rattle.device_machine.specs.Sharing as sharing
 use Rattle.device_machine.specs.Sharing.{Sharing}
 use Rattle.cluster_machine.specs.Cluster.{Cluster, Event, Allowed, after}
 
--- 1. A durable promise never falls. The installed epoch is at most the promise. The session is 0 or the promise.
--- A member's session and installed epoch are its promise, and that number started.
+-- 1. What a node has promised on disk only rises, and its installed epoch is never above it. A session is the promise or none (0).
+-- Of a member the promise, the session and the installed epoch are one number, which started.
 pub record PromisesHold (S : Setting) (w : Cluster) : Type 0 where
   pub never_falls : (e : Event) (m : ℕ) → Allowed S w e → (w.memberships.node m).promised ≤ ((after w e).memberships.node m).promised
   pub memberships : inside.PromisesHold S w.memberships
 
--- 2. A number has at most one attempt, since its coordinator, the one node that may begin it, saved it as its promise first.
+-- 2. No number is attempted twice: only its coordinator may begin it, and has it on disk as its promise before it does.
 pub record AttemptsDiffer (S : Setting) (w : Cluster) : Type 0 where
   pub promised : (q : ℕ) → (w.memberships.epoch q).tried ≡ true → q ≤ (w.memberships.node (coordinator q)).promised
   pub once : (q : ℕ) (members : ℕ → Bool) → (w.memberships.epoch q).tried ≡ true → membership.Allowed S w.memberships (membership.Begin q members) → ⊥
 
--- 3. A device's word never falls. It is 0 or the number of an attempt. One node writes it for a given number.
+-- 3. The epoch word of a device only rises. It is 0 until an attempt writes its number there, and for each number only one node does.
 pub record WordsHold (S : Setting) (w : Cluster) : Type 0 where
   pub never_falls : (e : Event) (d : ℕ) → Allowed S w e → (w.device d).device.word ≤ ((after w e).device d).device.word
   pub of_attempt : (d : ℕ) → ((w.device d).device.word ≡ 0) ⊎ ((w.memberships.epoch (w.device d).device.word).tried ≡ true)
   pub one_writer : (d q n m : ℕ) → ((w.device d).node n).past.wrote q ≡ true → ((w.device d).node m).past.wrote q ≡ true → n ≡ m
 
--- 4. Once reserved, a device stays reserved with type 5h, and its holder is registered. A device for which a seizing ended held is reserved.
+-- 4. A reservation of type 5h stays once it is there, with a registered holder; and it is there once a seizing has ended held.
 pub record ReservationsHold (S : Setting) (w : Cluster) : Type 0 where
   pub stays : (e : Event) (d : ℕ) → Allowed S w e → (w.device d).device.reserved ≡ true → ((after w e).device d).device.reserved ≡ true
   pub holder : (d : ℕ) → (w.device d).device.reserved ≡ true → (w.device d).device.keys (w.device d).device.holder ≡ true
   pub held : (d q : ℕ) → ((w.device d).attempt q).held ≡ true → (w.device d).device.reserved ≡ true
 
--- 5. In one session a node begins at most one seizing and at most one joining of a device; a repeated request begins none.
--- A node that joined a device in its session has no task on it queued.
+-- 5. A node begins no second seizing and no second joining of a device in a session, however often it is asked; and once it has
+-- joined, nothing is left to do in its queue for that device.
 pub record TasksHold (w : Cluster) : Type 0 where
   pub one_seizing : (d n q : ℕ) → ((w.device d).node n).past.seizings q ≤ 1
   pub one_joining : (d n q : ℕ) → ((w.device d).node n).past.joinings q ≤ 1
@@ -43,19 +43,19 @@ pub record TasksHold (w : Cluster) : Type 0 where
   pub no_second_joining : (d n : ℕ) → 0 < ((w.device d).node n).past.joinings ((w.device d).node n).session → sharing.Allowed (w.device d) (sharing.Install_new n) → ⊥
   pub none_queued : (d n : ℕ) → ((w.device d).node n).joined ≡ true → ((w.device d).node n).phase ≡ Phase.Over
 
--- p is the greatest number for which a seizing of the device ended held
+-- no seizing of the device for a number above p ended held, and one for p did
 pub record IsGreatestHeld (s : Sharing) (p : ℕ) : Type 0 where
   pub held : (s.attempt p).held ≡ true
   pub greatest : (q : ℕ) → (s.attempt q).held ≡ true → q ≤ p
 
--- 6. Let p be the greatest number for which a seizing of d ended held. A node outside p's members whose key is registered on d
--- neither holds d valid nor has joined it in its session.
+-- 6. Who is registered on a device and is no member of the greatest attempt that held it has no claim on it: its record does not call
+-- the device valid, and it has not joined it.
 pub record OutsidersHold (w : Cluster) : Type 0 where
   pub not_valid : (d p n : ℕ) → IsGreatestHeld (w.device d) p → (w.memberships.epoch p).members n ≡ false → (w.device d).device.keys n ≡ true → ((w.device d).node n).valid ≡ false
   pub not_joined : (d p n : ℕ) → IsGreatestHeld (w.device d) p → (w.memberships.epoch p).members n ≡ false → (w.device d).device.keys n ≡ true → ((w.device d).node n).joined ≡ false
 
--- 7. A valid node whose key is registered on d is a member of that p, so it promised p. For each smaller number e for which a
--- seizing of d ended held, it is a member of e or has an installed epoch above e.
+-- 7. Who is registered and calls the device valid is a member of that greatest attempt, and so has promised it; and of every smaller
+-- attempt that held the device it was a member too, or has installed something greater since.
 pub record ValidNodesHold (w : Cluster) : Type 0 where
   pub member : (d p n : ℕ) → IsGreatestHeld (w.device d) p → ((w.device d).node n).valid ≡ true → (w.device d).device.keys n ≡ true → (w.memberships.epoch p).members n ≡ true
   pub promised : (d p n : ℕ) → IsGreatestHeld (w.device d) p → ((w.device d).node n).valid ≡ true → (w.device d).device.keys n ≡ true → p ≤ (w.memberships.node n).promised
@@ -66,7 +66,8 @@ pub record ValidNodesHold (w : Cluster) : Type 0 where
 abbrev pub CountedUnder : Setting → Epoch → Votes → Type 0
 CountedUnder S e v = (v ≡ S.config (take e.settled e.base)) ⊎ (v ≡ S.config e.base)
 
--- Attempts p below q held a device that has votes, and q's seizer of it is a member of p or had installed a greater epoch when it promised q.
+-- Both attempts held a device with votes, and whoever seized it for the later one belonged to the earlier, or showed at its promise that it
+-- had installed something greater.
 pub record MeetAtDevice (w : Cluster) (v : Votes) (p q : ℕ) : Type 0 where
   pub device : ℕ
   pub has_votes : 0 < v.of_device device
@@ -77,15 +78,15 @@ pub record MeetAtDevice (w : Cluster) (v : Votes) (p q : ℕ) : Type 0 where
   pub member : (w.memberships.epoch q).members seizer ≡ true
   pub knows : ((w.memberships.epoch p).members seizer ≡ true) ⊎ (p < ((w.memberships.node seizer).showed q).installed)
 
--- 8. Two attempts p below q that counted a majority under the same votes share a member. Or both held one quorum device that is
--- enabled in these votes, and q's seizer of it is a member of p or had an installed epoch above p when it promised q.
+-- 8. Where two attempts counted a majority of one and the same configuration, some node is a member of both, or they meet at a device
+-- that has votes there.
 pub record AttemptsMeet (S : Setting) (w : Cluster) : Type 0 where
   pub meet : (p q : ℕ) (v : Votes) → p < q → (w.memberships.epoch p).counted ≡ true → (w.memberships.epoch q).counted ≡ true
       → CountedUnder S (w.memberships.epoch p) v → CountedUnder S (w.memberships.epoch q) v
       → ShareMember (w.memberships.epoch p).members (w.memberships.epoch q).members ⊎ MeetAtDevice w v p q
 
--- 9. Records with the same installed epoch agree place by place. The committed entries of each are a prefix of its entries. An entry that
--- every member of a started membership has saved in that membership is in the newest record of each later attempt that counted a majority.
+-- 9. Two records of one installed epoch never differ at a place that both have, and what is committed comes first. What every member of a
+-- start has saved stands in the base of all later attempts that count a majority.
 abbrev pub RecordsAgree : Cluster → Type 0
 RecordsAgree w = inside.RecordsAgree w.memberships
 

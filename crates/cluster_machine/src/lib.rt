@@ -102,7 +102,7 @@ pub fn valid_nodes_hold()
     ensures { (S : Setting) (registered : ℕ → ℕ → Bool) (events : List Event) (w : Cluster) → Run S (first_cluster registered) events w → ValidNodesHold w }
 {}
 
-/// Part 8: two attempts that counted a majority under the same votes meet, in a member or at a quorum device.
+/// Part 8: of two attempts with equal votes, both with a majority, some member or some quorum device is in both.
 pub fn attempts_meet()
     ensures { (S : Setting) (registered : ℕ → ℕ → Bool) (events : List Event) (w : Cluster) → Run S (first_cluster registered) events w → AttemptsMeet S w }
 {}

@@ -23,7 +23,7 @@ pub record NodeGrows (v v' : Initiator) : Type 0 where
   pub unregistered : (q : ℕ) → v.past.unregistered q ≡ true → v'.past.unregistered q ≡ true
   pub ended : (q : ℕ) → v.past.ended q ≡ true → v'.past.ended q ≡ true
 
--- what a device that goes from d to d' leaves node k: its key does not come, the word does not fall, a reservation stays
+-- what a device that goes from d to d' leaves node k: no registration of k is added, the word only grows, a reservation stays
 pub record Leaves (d d' : Device) (k : ℕ) : Type 0 where
   pub keys : d'.keys k ≡ true → d.keys k ≡ true
   pub word : d.word ≤ d'.word

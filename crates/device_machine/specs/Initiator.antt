@@ -21,7 +21,7 @@ pub record Past : Type 0 where
   pub wrote : ℕ → Bool
 
 -- Durable are the promise, the installed epoch and whether the key is validated. The session, the joined mark and the task are lost
--- when the node goes down.
+-- when it stops.
 pub record Initiator : Type 0 where
   -- the greatest epoch that it promised
   pub promised : ℕ

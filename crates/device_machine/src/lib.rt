@@ -73,7 +73,7 @@ pub fn holder_is_registered()
         → s.device.reserved ≡ true → s.device.keys s.device.holder ≡ true }
 {}
 
-/// A device for which a seizing ended held is reserved.
+/// Once some seizing has ended held, the device is reserved from then on.
 pub fn held_is_reserved()
     ensures { (registered : ℕ → Bool) (events : List Event) (s : Sharing) (q : ℕ) → Run (first_sharing registered) events s
         → (s.attempt q).held ≡ true → s.device.reserved ≡ true }

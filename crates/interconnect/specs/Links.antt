@@ -61,7 +61,7 @@ pub record Outcome : Type 0 where
   pub after : Links
   pub sent : Sent
 
--- a packet for which too few cells are free takes its number, and is dropped
+-- where the pool has no room for a packet, the packet's number is used up and nothing is sent
 abbrev pub refusing : Links → Outcome
 refusing net = record {
   after = record net { next = net.next + 1 };

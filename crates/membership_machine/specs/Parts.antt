@@ -6,8 +6,8 @@ use Rattle.membership_machine.specs.State.{Memberships}
 use Rattle.membership_machine.specs.Events.{Event, Begin, Allowed, after}
 use Rattle.membership_machine.specs.Starts.{Alike}
 
--- A durable promise never falls. The installed epoch is at most the promise. The session is 0 or the promise.
--- A member's session and installed epoch are its promise, and that number started.
+-- Promises only grow, and what is installed was promised. A session that is open is the one last promised. A member is in the epoch of its
+-- session, has installed it, and that epoch started.
 pub record PromisesHold (S : Setting) (w : Memberships) : Type 0 where
   pub never_falls : (e : Event) (m : ℕ) → Allowed S w e → (w.node m).promised ≤ ((after w e).node m).promised
   pub installed : (m : ℕ) → (w.node m).saved.installed ≤ (w.node m).promised
@@ -31,12 +31,12 @@ pub record StartsAreCounted (S : Setting) (w : Memberships) : Type 0 where
   pub ready : (q m : ℕ) → (w.epoch q).started ≡ true → (w.epoch q).members m ≡ true → (w.node m).ready q ≡ true
   pub base : (q : ℕ) → (w.epoch q).started ≡ true → length (w.epoch q).base ≤ (w.epoch q).acked
 
--- every member of q has saved the first v entries in it, from its Install, a Prepare of it, or by proposing there
+-- the first v entries are on the disks of all the members of q, by what each did in q: installing, preparing or proposing
 abbrev pub AllSaved : Memberships → ℕ → ℕ → Type 0
 AllSaved w q v = (m : ℕ) → (w.epoch q).members m ≡ true → v ≤ (w.node m).reached q
 
--- Records with the same installed epoch agree place by place. Committed entries come first in each record, and at most one other after them.
--- What every member of a started membership has saved in it is in the newest record of each later attempt that counted a majority: in its base.
+-- Two records of one installed epoch have equal entries as far as both go. A record is its committed entries and at most one that is pending.
+-- No attempt that counted begins from less than an earlier started membership had on all its disks.
 pub record RecordsAgree (w : Memberships) : Type 0 where
   pub place_by_place : (m k v : ℕ) → (w.node m).saved.installed ≡ (w.node k).saved.installed → v ≤ length (w.node m).saved.entries → v ≤ length (w.node k).saved.entries
       → Alike v (w.node m).saved.entries (w.node k).saved.entries

@@ -135,7 +135,7 @@ fields (body.Excluded epoch newest) = concat (word epoch ∷ word newest ∷ [])
 abbrev pub spelling : Message → List ℕ
 spelling m = concat (one (kind_byte (kind_of m.body)) ∷ one m.sender ∷ fields m.body ∷ [])
 
--- ---- what can be spelled: no list has more than 65,535 items, and each text has fewer than 2 ^ 32 bytes
+-- ---- what can be spelled: lists whose length fits in 16 bits, and texts whose length fits in 32 bits
 
 abbrev pub IsShortText : List ℕ → Type 0
 IsShortText bytes = length bytes < 2 ^ 32
