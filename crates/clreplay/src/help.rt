@@ -1,4 +1,6 @@
-ghost use Rattle.std.specs.Prelude.{◌≡◌};
+ghost use Rattle.std.specs.Prelude.{◌≡◌, ◌∷◌, [], map};
+ghost use Rattle.std.specs.String.{string_bytes};
+ghost use Rattle.clreplay.specs.Answers.{answer_of};
 
 /// What `--version` prints.
 pub const VERSION: &str = "clreplay 0.1.0";
@@ -28,13 +30,23 @@ pub enum Answer {
 }
 
 /// The answer to `--help` and to `--version`.
-pub fn early_answer(words: &[String]) -> Option<Answer> {
+pub fn early_answer(words: &[String]) -> Option<Answer>
+    ensures { result ≡ answer_of (map string_bytes words.now) }
+{
     match words {
-        [word] => match word.as_str() {
-            "--help" => Some(Answer::Help),
-            "--version" => Some(Answer::Version),
-            _ => None,
-        },
+        [word] => answer_of_word(word.as_bytes()),
         _ => None,
+    }
+}
+
+fn answer_of_word(word: &[u8]) -> Option<Answer>
+    ensures { result ≡ answer_of (word.now ∷ []) }
+{
+    if word == b"--help".as_slice() {
+        Some(Answer::Help)
+    } else if word == b"--version".as_slice() {
+        Some(Answer::Version)
+    } else {
+        None
     }
 }

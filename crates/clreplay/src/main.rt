@@ -6,7 +6,7 @@ mod help;
 use cl_base::Agent;
 use cl_io::{StdinSource, StdoutSink};
 use help::{Answer, early_answer};
-use replay::run_words;
+use replay::{Status, run_words};
 use std::process::ExitCode;
 use std::{env, io};
 
@@ -21,12 +21,20 @@ fn main(rt: HostRuntime) -> io::Result<ExitCode> {
             return Ok(ExitCode::from(6));
         }
     }
-    match early_answer(&words) {
-        Some(Answer::Help) => println!(rt; "{}", help::HELP)?,
-        Some(Answer::Version) => println!(rt; "{}", help::VERSION)?,
-        None => return Ok(ExitCode::from(run(&rt, &words))),
+    let status = match early_answer(&words) {
+        Some(Answer::Help) => show(&rt, help::HELP),
+        Some(Answer::Version) => show(&rt, help::VERSION),
+        None => run(&rt, &words),
+    };
+    Ok(ExitCode::from(status))
+}
+
+/// Writes the text as a line, and tells the exit status.
+fn show(rt: &HostRuntime, text: &str) -> u8 {
+    match println!(rt; "{}", text) {
+        Ok(()) => 0,
+        Err(_) => Status::WriteFault.code(),
     }
-    Ok(ExitCode::from(0))
 }
 
 /// Runs the words over standard input and output, and tells the exit status.
