@@ -1,4 +1,4 @@
-ghost use Rattle.std.specs.Prelude.{◌≡◌, ◌↔◌, ◌+◌, IsTrue, IsSome, IfOk, OnErr, MatchOption, option_copied, length, if◌then◌else◌};
+ghost use Rattle.std.specs.Prelude.{◌≡◌, ◌↔◌, ◌+◌, IsTrue, IsSome, IfOk, OnErr, option_copied, length, if◌then◌else◌};
 ghost use Rattle.ccr_commit.specs.Entries.{no_entries, texts_of, all_committed, answer_for, left_by};
 
 use crate::text::Text;

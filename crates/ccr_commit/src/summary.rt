@@ -1,4 +1,4 @@
-ghost use Rattle.std.specs.Prelude.{◌≡◌, ◌<◌, ◌⊎◌, ◌↔◌, ℕ, IsTrue, IfSome, All, take, length, slice_get};
+ghost use Rattle.std.specs.Prelude.{◌<◌, ◌⊎◌, ◌↔◌, IsTrue, IfSome, All, take, length, slice_get};
 ghost use Rattle.ccr_commit.specs.Newest.{IsNewer, IsAsNew};
 
 use cl_base::{Epoch, NodeId, NodeSet};

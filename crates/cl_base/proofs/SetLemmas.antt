@@ -8,7 +8,7 @@ use Rattle.std.proofs.lemmas.Nat.{or_lt}
 use Rattle.std.proofs.Math.Pow.{pow_mono, pow-lt}
 use Rattle.std.proofs.Math.Nat.{mod-le}
 use Rattle.std.specs.Int.Bits.{and_le_l}
-use Rattle.cl_base.specs.Sets.{has, set_with}
+use Rattle.cl_base.specs.Sets.{has, set_with, set_without}
 
 -- number 0 is in no set
 pub has_not_zero : (s : ℕ) → has s 0 ≡ false
@@ -102,6 +102,13 @@ none_at_all s sm none m = none_or s sm none m (leb_tells m 32)
 pub or_bit_value : (s n : ℕ) → n ≤ 32 → bit_or s (1 * 2 ^ (n - 1) % 4294967296) ≡ set_with s n
 unfolding set_with
 or_bit_value s n high =
+    let small : 2 ^ (n - 1) < 2 ^ 32 = pow-lt {i = n - 1} {j = 32} (omega arith) in
+    let same : 1 * 2 ^ (n - 1) % 4294967296 ≡ 2 ^ (n - 1) = omega arith in
+    rw same refl
+
+pub and_bit_value : (s n : ℕ) → n ≤ 32 → bit_and s (4294967295 - 1 * 2 ^ (n - 1) % 4294967296) ≡ set_without s n
+unfolding set_without
+and_bit_value s n high =
     let small : 2 ^ (n - 1) < 2 ^ 32 = pow-lt {i = n - 1} {j = 32} (omega arith) in
     let same : 1 * 2 ^ (n - 1) % 4294967296 ≡ 2 ^ (n - 1) = omega arith in
     rw same refl

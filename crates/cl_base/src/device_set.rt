@@ -1,5 +1,5 @@
 ghost use Rattle.std.specs.Prelude.{◌≡◌, ◌<◌, ◌≤◌, ◌==◌, ◌||◌, ◌&&◌, not, true, false, ℕ, MatchOption};
-ghost use Rattle.cl_base.specs.Sets.{has, count_to, set_with};
+ghost use Rattle.cl_base.specs.Sets.{has, count_to, set_with, set_without};
 
 use crate::device::DevId;
 use crate::number_set::NumberSet;
@@ -62,6 +62,7 @@ impl DevSet {
 
     /// The set less this device.
     pub fn without(self, n: DevId) -> DevSet
+        ensures value { result ≡ set_without self n }
         ensures members { (m : ℕ) → has result m ≡ (not (m == n) && has self m) }
     {
         DevSet {

@@ -1,5 +1,5 @@
 ghost use Rattle.std.specs.Prelude.{◌≡◌, ◌<◌, ◌≤◌, ◌==◌, ◌||◌, ◌&&◌, not, true, false, ℕ, MatchOption};
-ghost use Rattle.cl_base.specs.Sets.{has, count_to, set_with};
+ghost use Rattle.cl_base.specs.Sets.{has, count_to, set_with, set_without};
 
 use crate::node::NodeId;
 use crate::number_set::NumberSet;
@@ -60,6 +60,7 @@ impl NodeSet {
 
     /// The set less this node.
     pub fn without(self, n: NodeId) -> NodeSet
+        ensures value { result ≡ set_without self n }
         ensures members { (m : ℕ) → has result m ≡ (not (m == n) && has self m) }
     {
         NodeSet {

@@ -1,5 +1,5 @@
 ghost use Rattle.std.specs.Prelude.{◌≡◌, ◌<◌, ◌≤◌, ◌==◌, ◌||◌, ◌&&◌, not, true, false, ◌^◌, ℕ, MatchOption, IfSome};
-ghost use Rattle.cl_base.specs.Sets.{has, count_to, set_with};
+ghost use Rattle.cl_base.specs.Sets.{has, count_to, set_with, set_without};
 
 use std::marker::Model;
 
@@ -64,6 +64,7 @@ impl NumberSet {
     pub fn without(self, n: u8) -> NumberSet
         requires low { 1 ≤ n }
         requires high { n ≤ 32 }
+        ensures value { result ≡ set_without self n }
         ensures members { (m : ℕ) → has result m ≡ (not (m == n) && has self m) }
         ensures narrow { self < 2 ^ 16 → result < 2 ^ 16 }
     {

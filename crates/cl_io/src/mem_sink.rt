@@ -1,4 +1,4 @@
-ghost use Rattle.std.specs.Prelude.{◌≡◌, ◌==◌, ◌<◌, ◌-◌, ℕ, List, [], length, min, Ok, Some, IfOk};
+ghost use Rattle.std.specs.Prelude.{◌≡◌, ◌==◌, ◌<◌, ◌-◌, [], length, min, Ok, Some, IfOk};
 ghost use Rattle.std.specs.Result.{is_err};
 ghost use Rattle.std.specs.List.{list_any};
 ghost use Rattle.std.specs.Io.{WritesAtMost};

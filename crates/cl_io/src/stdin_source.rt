@@ -13,7 +13,10 @@ pub struct StdinSource<R> {
 
 impl<R: Read> StdinSource<R> {
     /// The bytes of this reader.
-    pub fn new(reader: R) -> StdinSource<R> {
+    pub fn new(reader: R) -> StdinSource<R>
+        ensures left { ⟦<StdinSource<R> as Source>⟧.left result ≡ R.remaining reader }
+        ensures faults { ⟦<StdinSource<R> as Source>⟧.faults result ≡ 0 }
+    {
         StdinSource { reader, faults: 0 }
     }
 }

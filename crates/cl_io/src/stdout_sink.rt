@@ -13,7 +13,10 @@ pub struct StdoutSink<W> {
 
 impl<W: Write> StdoutSink<W> {
     /// Writes to this writer.
-    pub fn new(writer: W) -> StdoutSink<W> {
+    pub fn new(writer: W) -> StdoutSink<W>
+        ensures held { ⟦<StdoutSink<W> as Sink>⟧.held result ≡ W.contents writer }
+        ensures faults { ⟦<StdoutSink<W> as Sink>⟧.faults result ≡ 0 }
+    {
         StdoutSink { writer, faults: 0 }
     }
 }

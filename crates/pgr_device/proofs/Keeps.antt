@@ -1,6 +1,5 @@
 -- What holds of a device is kept by each command.
-use Rattle.std.proofs.Common.{◌≡◌, ◌≢◌, ℕ, ◌<◌, ◌≤◌, ◌+◌, ◌==◌, Bool, true, false, not, cond, ◌||◌, ◌&&◌, List, [], ◌∷◌, ◌++◌, map, filter, find, length, Option, Some, None, option_map, unwrap_or, refl, sym, ◌∙◌, ap, subst, arith, eqb}
-use Rattle.std.specs.List.{list_any, IsDistinct}
+use Rattle.std.proofs.Common.{◌≡◌, ◌≢◌, ℕ, ◌≤◌, ◌==◌, Bool, true, false, not, cond, ◌||◌, List, [], ◌∷◌, ◌++◌, map, filter, find, Option, Some, None, option_map, refl, sym, ◌∙◌, ap, subst}
 use Rattle.std.proofs.lemmas.Bool.{eqb-true, eqb-false, ne_eqb, cond_both, cond-true, or_left, or_right, or_from, or_parts, not_from_false}
 use Rattle.std.proofs.lemmas.List.Folds.{list_any-append}
 use Rattle.cl_base.specs.Sets.{has}
@@ -15,7 +14,7 @@ use Rattle.pgr_device.specs.Device.{Device}
 use Rattle.pgr_device.specs.Kept.{IsApart, IsHeld, IsDevice}
 use Rattle.pgr_device.specs.Registered.{key_of, is_registered, has_key, rekeyed, without_node, without_key}
 use Rattle.pgr_device.specs.Access.{same_kind}
-use Rattle.pgr_device.specs.Spc.{Outcome, answers, good, conflict, with_key, released_by, registering, shows_key, reserving, releasing, cleared, is_holders, preempted, preempting, registered_only, swapping, reading, writing, may_read, may_write, carried_out, step}
+use Rattle.pgr_device.specs.Spc.{Outcome, answers, good, conflict, with_key, released_by, shows_key, reserving, releasing, cleared, is_holders, preempted, swapping, carried_out, step}
 
 -- a registration more
 registered_push : (rs : List Registration) (r : Registration) (n : ℕ) → is_registered rs n ≡ true → is_registered (rs ++ r ∷ []) n ≡ true

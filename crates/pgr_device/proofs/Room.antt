@@ -1,11 +1,10 @@
 -- An unregistered node finds room: 0, its number and the numbers of the registered are apart and below 33.
-use Rattle.std.proofs.Common.{◌≡◌, ℕ, ◌<◌, ◌≤◌, ◌+◌, ◌==◌, Bool, true, false, ◌||◌, List, [], ◌∷◌, map, length, None, refl, sym, ◌∙◌, subst, arith, eqb, inl, inr}
+use Rattle.std.proofs.Common.{◌≡◌, ℕ, ◌<◌, ◌≤◌, ◌==◌, true, false, ◌||◌, List, [], ◌∷◌, map, length, None, sym, arith, eqb, inl, inr}
 use Rattle.std.specs.List.{list_any, IsDistinct, AllByRecursion}
 use Rattle.std.proofs.lemmas.Bool.{eqb-true, eqb-false, ne_eqb, or_cases, or_parts}
 use Rattle.std.proofs.lemmas.List.{length-map}
 use Rattle.std.proofs.lemmas.Map.Steps.{length-le_from_distinct_below}
 use Rattle.std.proofs.lemmas.Map.Keys.{IsDistinct-cons}
-use Rattle.cl_base.specs.Sets.{has}
 use Rattle.pgr_device.specs.declared.registration.Registration.{Registration}
 use Rattle.pgr_device.specs.Kept.{IsApart}
 use Rattle.pgr_device.specs.Registered.{key_of, is_registered}

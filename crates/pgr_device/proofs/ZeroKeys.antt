@@ -1,5 +1,5 @@
 -- No answer has the key zero.
-use Rattle.std.proofs.Common.{◌≡◌, ◌≢◌, ℕ, ◌==◌, Bool, true, false, cond, List, [], ◌∷◌, map, find, Option, Some, None, option_map}
+use Rattle.std.proofs.Common.{◌≢◌, ℕ, ◌==◌, Bool, true, false, cond, List, [], ◌∷◌, find, Option, Some, None, option_map}
 use Rattle.std.specs.List.{All}
 use Rattle.std.proofs.lemmas.Bool.{cond_both}
 use Rattle.std.proofs.lemmas.List.Elements.{All-nil, All-cons}
@@ -15,7 +15,7 @@ use Rattle.pgr_device.specs.Device.{Device}
 use Rattle.pgr_device.specs.Keys.{HasNoZeroKey}
 use Rattle.pgr_device.specs.Kept.{IsApart, IsDevice}
 use Rattle.pgr_device.specs.Registered.{key_of, has_key, keys_of}
-use Rattle.pgr_device.specs.Spc.{Outcome, answers, good, conflict, with_key, registering, shows_key, reserving, releasing, cleared, preempted, preempting, reservation_of, swapping, may_read, may_write, carried_out, step}
+use Rattle.pgr_device.specs.Spc.{Outcome, answers, good, conflict, with_key, shows_key, reserving, releasing, cleared, preempted, preempting, reservation_of, swapping, may_read, may_write, carried_out, step}
 
 keys_not_zero : (paths : ℕ) (rs : List Registration) → IsApart paths rs → All (λ key. key ≢ 0) (keys_of rs)
 keys_not_zero paths [] h = All-nil (λ (key : ℕ). key ≢ 0)

@@ -1,6 +1,5 @@
 -- What holds of a device in every state that commands lead to.
-use Rattle.std.specs.Prelude.{◌≡◌, ◌≢◌, ℕ, ◌≤◌, ◌==◌, Bool, true, false, List, [], ◌∷◌, Option, Some, None}
-use Rattle.std.specs.List.{list_any}
+use Rattle.std.specs.Prelude.{◌≡◌, ◌≢◌, ℕ, ◌≤◌, true, false, List, [], ◌∷◌, Option, Some, None}
 use Rattle.cl_base.specs.Sets.{has}
 use Rattle.pgr_device.specs.declared.registration.Registration.{Registration}
 use Rattle.pgr_device.specs.declared.registration.Reservation.{Reservation}

@@ -1,5 +1,5 @@
 -- No key of an answer is zero.
-use Rattle.std.specs.Prelude.{◌≢◌, List, All, Option, Some, None}
+use Rattle.std.specs.Prelude.{◌≢◌, All, Some}
 use Rattle.pgr_device.specs.declared.command.PrAnswer.{PrAnswer}
 use Rattle.pgr_device.specs.declared.command.PrAnswer.TheVariants as answer
 

@@ -6,7 +6,7 @@ use Rattle.pgr_device.specs.declared.port.PortError.{PortError}
 use Rattle.pgr_device.specs.declared.port.PortError.TheVariants.{Failed}
 use Rattle.pgr_device.specs.Device.{Device}
 use Rattle.pgr_device.specs.Keys.{HasNoZeroKey}
-use Rattle.pgr_device.specs.Spc.{answers, step}
+use Rattle.pgr_device.specs.Spc.{step}
 
 -- a count of faults has risen, or stands at its type's end
 abbrev pub Rose : ℕ → ℕ → Type 0

@@ -1,6 +1,6 @@
 -- A run of a device: commands and losses of power, one after another. A loss of power changes nothing
 -- and has no answer.
-use Rattle.std.specs.Prelude.{ℕ, ◌≤◌, List, [], ◌∷◌}
+use Rattle.std.specs.Prelude.{◌≤◌, List, [], ◌∷◌}
 use Rattle.pgr_device.specs.declared.command.PrAnswer.{PrAnswer}
 use Rattle.pgr_device.specs.declared.run.Step.{Step}
 use Rattle.pgr_device.specs.declared.run.Step.TheVariants.{Command, PowerLoss}

@@ -1,7 +1,7 @@
 //! What follows from the rules. Each law is a function that does nothing: its clauses are the law,
 //! proved of every state that a new device comes to by commands and losses of power, or of every
 //! state at all.
-ghost use Rattle.std.specs.Prelude.{◌≡◌, ◌≢◌, ◌≤◌, ◌==◌, ◌↔◌, ℕ, Bool, true, false, List, ◌∷◌, ◌++◌, count_by, IfSome, Some};
+ghost use Rattle.std.specs.Prelude.{◌≡◌, ◌≤◌, ◌==◌, ◌↔◌, ℕ, true, false, List, ◌∷◌, ◌++◌, count_by, IfSome, Some};
 ghost use Rattle.cl_base.specs.Sets.{has};
 ghost use Rattle.pgr_device.specs.Device.{Device, fresh};
 ghost use Rattle.pgr_device.specs.Registered.{is_registered, has_key};
@@ -9,9 +9,7 @@ ghost use Rattle.pgr_device.specs.Runs.{run, run_answers, IsRun};
 ghost use Rattle.pgr_device.specs.Spc.{step};
 ghost use Rattle.pgr_device.specs.declared.command.PrAnswer.TheVariants as answer;
 ghost use Rattle.pgr_device.specs.declared.command.PrCommand.TheVariants as command;
-ghost use Rattle.pgr_device.specs.declared.kind.PrKind.{PrKind};
 ghost use Rattle.pgr_device.specs.declared.kind.PrKind.TheVariants.{WriteExclusiveRegistrantsOnly};
-ghost use Rattle.pgr_device.specs.declared.registration.Reservation.{Reservation};
 ghost use Rattle.pgr_device.specs.declared.run.Step.{Step};
 ghost use Rattle.pgr_device.specs.declared.run.Step.TheVariants.{PowerLoss};
 

@@ -1,5 +1,4 @@
-ghost use Rattle.std.specs.Prelude.{◌≡◌, ◌≤◌, ◌==◌, not, map, filter, length};
-ghost use Rattle.std.specs.List.{list_any};
+ghost use Rattle.std.specs.Prelude.{◌≡◌, ◌≤◌, ◌==◌, map, length};
 ghost use Rattle.pgr_device.specs.Registered.{key_of, is_registered, has_key, rekeyed, without_node, without_key, keys_of};
 
 use crate::key_list::KeyList;

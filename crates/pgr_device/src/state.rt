@@ -1,8 +1,8 @@
-ghost use Rattle.std.specs.Prelude.{◌≡◌, ◌<◌, ◌==◌, Bool, length, None, Some};
-ghost use Rattle.pgr_device.specs.Device.{Device, fresh};
+ghost use Rattle.std.specs.Prelude.{◌≡◌, ◌<◌, ◌==◌, length, None, Some};
+ghost use Rattle.pgr_device.specs.Device.{fresh};
 ghost use Rattle.pgr_device.specs.Registered.{key_of};
 ghost use Rattle.pgr_device.specs.Seen.{seen};
-ghost use Rattle.pgr_device.specs.Spc.{answers, good, with_key, registering, reserving, releasing, cleared, registered_only, is_holders, preempted, preempting, reservation_of, reading, may_read, may_write, carried_out, released_by, shows_key};
+ghost use Rattle.pgr_device.specs.Spc.{answers, good, with_key, registering, reserving, releasing, cleared, registered_only, is_holders, preempting, reservation_of, reading, may_read, may_write, carried_out, released_by, shows_key};
 ghost use Rattle.pgr_device.specs.declared.command.PrAnswer.TheVariants as answer;
 ghost use Rattle.pgr_device.specs.declared.command.PrCommand.TheVariants as command;
 

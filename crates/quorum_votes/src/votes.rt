@@ -1,6 +1,6 @@
 ghost use Rattle.std.specs.Prelude.{◌≡◌, ◌≤◌, ◌<◌, ◌*◌, ◌↔◌, ℕ, length, MatchResult};
 ghost use Rattle.quorum_votes.specs.Sums.{sum_to};
-ghost use Rattle.quorum_votes.specs.Votes.{node_at, device_at, vote_in, vote_of, is_configured, node_votes_of, device_votes_of, votes_of_device, state_of, total_of, held_of, needed_of, device_share, first_of, first_nodes, first_device, first_devices};
+ghost use Rattle.quorum_votes.specs.Votes.{node_at, device_at, vote_in, vote_of, is_configured, node_votes_of, device_votes_of, state_of, total_of, held_of, needed_of, device_share, first_of, first_nodes, first_device, first_devices};
 ghost use Rattle.quorum_votes.specs.Changes.{changed, with_vote, with_state, IsVote, Changes, ChangesNode, ChangesDevice, IsRefused, IsNodeRefused, IsDeviceRefused};
 
 use crate::change::{VoteChange, VoteError};

@@ -1,6 +1,6 @@
 ghost use Rattle.std.specs.Prelude.{◌≡◌, ◌≤◌};
 ghost use Rattle.wire.specs.Spelling.{method_byte, outcome_byte, marks_byte, worth};
-ghost use Rattle.wire.specs.Reads.{Gives, method_of, outcome_of, kind_of_byte, marks_of, method_at, outcome_at, kind_at, marks_at};
+ghost use Rattle.wire.specs.Reads.{Gives, method_of, outcome_of, kind_of_byte, method_at, outcome_at, kind_at, marks_at};
 
 use crate::message::MessageKind;
 use crate::reader::Reader;

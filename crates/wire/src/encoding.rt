@@ -1,5 +1,5 @@
 ghost use Rattle.std.specs.Prelude.{◌≡◌, ◌++◌, ◌<◌, ◌^◌, [], length, OnOk, IfOk, IfSome};
-ghost use Rattle.wire.specs.Spelling.{word, set, one, truth, text, list, at_most_one, resource_report, group_report, report, reading, seized_result, outcome_byte, fields, spelling, IsShort, IsShortText, IsShortList, IsShortReading, IsShortResource, IsShortGroup, IsShortReport, IsShortResult, IsWord, IsNodes, IsDevice, FitsResult, FitsReport, FitsBody, Fits};
+ghost use Rattle.wire.specs.Spelling.{word, set, one, truth, text, list, at_most_one, report, seized_result, outcome_byte, fields, spelling, IsShort, IsShortText, IsShortList, IsShortReport, IsShortResult, IsWord, IsNodes, IsDevice, FitsResult, FitsReport, FitsBody, Fits};
 
 use crate::codes::{method_byte, outcome_byte};
 use crate::item::{put_at_most_one, put_keys, put_list};

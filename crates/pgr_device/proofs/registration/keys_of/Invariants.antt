@@ -1,4 +1,4 @@
-use Rattle.std.proofs.Common.{◌≡◌, map, take}
+use Rattle.std.proofs.Common.{◌≡◌, take}
 use Rattle.pgr_device.specs.Registered.{keys_of}
 use Rattle.pgr_device.proofs.registration.keys_of.Given as goal
 
