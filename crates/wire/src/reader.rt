@@ -2,7 +2,7 @@ ghost use Rattle.std.specs.Prelude.{◌≡◌, ◌==◌, length};
 ghost use Rattle.wire.specs.Reads.{Gives, number_at, byte_at, truth_at, node_at, device_at, devices_at, text_at};
 
 use crate::stop::Stop;
-use byteorder::{BigEndian};
+use byteorder::{BigEndian, ByteOrder};
 use ccr_commit::Text;
 use cl_base::{DevId, DevSet, Epoch, NodeId, NodeSet};
 use std::alloc::Global;

@@ -1,7 +1,7 @@
 ghost use Rattle.std.specs.Prelude.{◌≡◌, ◌++◌, ◌<◌, [], length, OnOk};
 ghost use Rattle.wire.specs.Spelling.{number, word, set, one, truth, text, IsShortText, IsWord, IsNode, IsDevice, IsNodes, IsDevices};
 
-use byteorder::{BigEndian};
+use byteorder::{BigEndian, ByteOrder};
 use ccr_commit::Text;
 use cl_base::{DevId, DevSet, Epoch, NodeId, NodeSet};
 use std::alloc::{AllocError, Global};
