@@ -1,0 +1,6 @@
+pub mod Answers
+pub mod Joining
+pub mod Keys
+pub mod SeizeKept
+pub mod Seizing
+pub mod Shows

@@ -1,6 +1,14 @@
 //! Seizing a shared device for a membership, and joining it, one command at a time.
 #![tactic(auto)]
 
+mod answer;
+mod joining;
+mod key;
 mod kind;
+mod seizing;
+mod step;
 
+pub use joining::Join;
 pub use kind::{JoinResult, SeizeKind, SeizeResult};
+pub use seizing::Seize;
+pub use step::{JoinStep, SeizeStep};

@@ -1,0 +1,40 @@
+//! The keys of a cluster's nodes.
+ghost use Rattle.std.specs.Prelude.{◌≡◌, ◌<◌, ◌^◌, ◌*◌};
+ghost use Rattle.seize.specs.Keys.{key_of, is_key_of, has_key, first_stranger};
+
+use cl_base::{NodeId, NodeSet};
+
+/// The first key of a cluster is above this many times its number.
+const KEYS_OF_CLUSTER: u64 = 4_294_967_296;
+
+/// The key of a node.
+pub(crate) fn key_of(cluster: u32, node: NodeId) -> u64
+    ensures { result ≡ key_of cluster node }
+{
+    cluster as u64 * KEYS_OF_CLUSTER + node.number()
+}
+
+/// Whether the key is that of one of these nodes.
+fn is_key_of(cluster: u32, members: NodeSet, key: u64) -> bool
+    ensures { result ≡ is_key_of cluster members key }
+{
+    let number = key.saturating_sub(cluster as u64 * KEYS_OF_CLUSTER);
+    match NodeId::new(number) {
+        Ok(node) => members.has(node),
+        Err(_) => false,
+    }
+}
+
+/// Whether the key is among these.
+pub(crate) fn has_key(key: u64, keys: &[u64]) -> bool
+    ensures { result ≡ has_key key keys.now }
+{
+    keys.iter().any(|k| *k == key)
+}
+
+/// The first key that is none of these nodes'.
+pub(crate) fn first_stranger(cluster: u32, members: NodeSet, keys: &[u64]) -> Option<u64>
+    ensures { result ≡ first_stranger cluster members keys.now }
+{
+    keys.iter().copied().find(|key| !is_key_of(cluster, members, *key))
+}
