@@ -12,8 +12,11 @@ pub(crate) type Answer = Result<PrAnswer, Failed>;
 pub(crate) fn keys_told(answer: Answer) -> Option<KeyList>
     ensures { result ≡ keys_told answer }
 {
-    match answer {
-        Ok(PrAnswer::Keys(keys)) => Some(keys),
+    let Ok(told) = answer else {
+        return None;
+    };
+    match told {
+        PrAnswer::Keys(keys) => Some(keys),
         _ => None,
     }
 }

@@ -1,5 +1,6 @@
 //! The keys of a cluster's nodes.
 ghost use Rattle.std.specs.Prelude.{◌≡◌, ◌<◌, ◌^◌, ◌*◌};
+ghost use Rattle.cl_base.specs.Sets.{has};
 ghost use Rattle.seize.specs.Keys.{key_of, is_key_of, has_key, first_stranger};
 
 use cl_base::{NodeId, NodeSet};
@@ -18,11 +19,18 @@ pub(crate) fn key_of(cluster: u32, node: NodeId) -> u64
 fn is_key_of(cluster: u32, members: NodeSet, key: u64) -> bool
     ensures { result ≡ is_key_of cluster members key }
 {
-    let number = key.saturating_sub(cluster as u64 * KEYS_OF_CLUSTER);
-    match NodeId::new(number) {
-        Ok(node) => members.has(node),
-        Err(_) => false,
+    has_number(members, key.saturating_sub(cluster as u64 * KEYS_OF_CLUSTER))
+}
+
+/// Whether the set has a node of this number. Bit n - 1 of a set stands for node n.
+fn has_number(members: NodeSet, number: u64) -> bool
+    ensures { result ≡ has members number }
+{
+    let bits = members.bits();
+    if number == 0 || number > NodeId::MOST {
+        return false;
     }
+    (bits >> (number - 1)) & 1 == 1
 }
 
 /// Whether the key is among these.
