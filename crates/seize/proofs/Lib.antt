@@ -1,2 +1,5 @@
+mod Failures
 pub mod Fits
+pub mod JoinPast
+pub mod Past
 pub mod Tells

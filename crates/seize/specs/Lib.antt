@@ -1,4 +1,6 @@
 pub mod Answers
+pub mod Endings
+pub mod Exchanges
 pub mod Joining
 pub mod Keys
 pub mod SeizeKept

@@ -19,7 +19,10 @@ pub(crate) fn key_of(cluster: u32, node: NodeId) -> u64
 fn is_key_of(cluster: u32, members: NodeSet, key: u64) -> bool
     ensures { result ≡ is_key_of cluster members key }
 {
-    has_number(members, key.saturating_sub(cluster as u64 * KEYS_OF_CLUSTER))
+    has_number(
+        members,
+        key.saturating_sub(cluster as u64 * KEYS_OF_CLUSTER),
+    )
 }
 
 /// Whether the set has a node of this number. Bit n - 1 of a set stands for node n.
@@ -44,5 +47,7 @@ pub(crate) fn has_key(key: u64, keys: &[u64]) -> bool
 pub(crate) fn first_stranger(cluster: u32, members: NodeSet, keys: &[u64]) -> Option<u64>
     ensures { result ≡ first_stranger cluster members keys.now }
 {
-    keys.iter().copied().find(|key| !is_key_of(cluster, members, *key))
+    keys.iter()
+        .copied()
+        .find(|key| !is_key_of(cluster, members, *key))
 }

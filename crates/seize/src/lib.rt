@@ -5,8 +5,11 @@ mod answer;
 mod joining;
 mod key;
 mod kind;
+pub mod law;
 mod seizing;
 mod step;
+#[cfg(test)]
+mod tests;
 
 pub use joining::Join;
 pub use kind::{JoinResult, SeizeKind, SeizeResult};
