@@ -1,6 +1,6 @@
 -- From which answers comes what an answer tells, and which ones are failures.
-use Rattle.std.proofs.Common.{◌≡◌, ℕ, ◌==◌, Bool, true, false, not, ◌||◌, cond, List, Option, Some, None, Ok, Err, refl, ap, sym, ◌∙◌, subst}
-use Rattle.std.proofs.lemmas.Bool.{cases_Bool, cond_both, true≢false, false≢true}
+use Rattle.std.proofs.Common.{◌≡◌, ℕ, ◌==◌, Bool, true, false, not, ◌||◌, cond, List, Some, None, Ok, Err, refl, ap, sym}
+use Rattle.std.proofs.lemmas.Bool.{true≢false, false≢true}
 use Rattle.std.proofs.lemmas.Option.{none-some, same_Some}
 use Rattle.pgr_device.specs.declared.kind.PrKind.{PrKind}
 use Rattle.pgr_device.specs.declared.command.PrCommand.TheVariants as command

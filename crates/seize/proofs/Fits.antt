@@ -1,10 +1,8 @@
 -- Each answer leads to a step at which the invariant of a seizing holds, and which shows as the initiator's next phase.
-use Rattle.std.proofs.Common.{◌≡◌, ◌≢◌, ℕ, ◌+◌, ◌<◌, ◌≤◌, nat_lt, ◌==◌, Bool, true, false, not, ◌&&◌, ◌||◌, cond, List, All, find, Option, Some, None, IfSome, Ok, Err, IfOk, arith, refl, sym, ap, subst, ◌∙◌}
+use Rattle.std.proofs.Common.{◌≡◌, ◌≢◌, ℕ, ◌+◌, ◌≤◌, nat_lt, ◌==◌, Bool, true, not, ◌&&◌, ◌||◌, cond, List, All, find, Option, Some, None, IfSome, Ok, IfOk, arith, refl, sym, ap, subst, ◌∙◌}
 use Rattle.std.proofs.lemmas.Bool.{cond_both, ltb-true, not-true}
-use Rattle.cl_base.specs.Sets.{has}
 use Rattle.pgr_device.specs.declared.command.PrAnswer.TheVariants as answer
 use Rattle.pgr_device.specs.Keys.{HasNoZeroKey}
-use Rattle.device_machine.specs.Phase.{Phase}
 use Rattle.device_machine.specs.Initiator.{Initiator, unvalidated}
 use Rattle.seize.specs.declared.kind.SeizeKind.{SeizeKind}
 use Rattle.seize.specs.declared.kind.SeizeKind.TheVariants.{Vote, Plain}
@@ -15,7 +13,7 @@ use Rattle.seize.specs.Answers.{Answer, keys_told, word_told, word_found, is_goo
 use Rattle.seize.specs.Keys.{has_key, first_stranger, is_key_of}
 use Rattle.seize.specs.Seizing.{SeizeState, own_key, checked, compared, swapped, cleared, looked, confirmed, next_step, taken}
 use Rattle.seize.specs.SeizeKept.{FitsStep, IsSeizing}
-use Rattle.seize.specs.Shows.{Shows, ShowsStep, is_vote, arrived, answered, lost}
+use Rattle.seize.specs.Shows.{Shows, is_vote, arrived, answered}
 use Rattle.seize.proofs.Tells.{keys_nonzero, find_passes, find_all}
 
 either : (P : SeizeStep → Type 0) (b : Bool) (x y : SeizeStep) → P x → P y → P (cond b x y)

@@ -1,3 +1,4 @@
+pub mod DeviceAnswers
 mod Failures
 pub mod Fits
 pub mod JoinPast

@@ -1,7 +1,7 @@
 -- What passed up to each step of a seizing.
-use Rattle.std.proofs.Common.{◌≡◌, ◌≢◌, ℕ, ◌+◌, ◌<◌, ◌≤◌, nat_lt, ◌==◌, ◌⊎◌, inl, inr, Bool, true, false, not, ◌&&◌, ◌||◌, cond, List, [], ◌∷◌, find, Option, Some, None, IfSome, Ok, Err, arith, refl, sym, ap, subst, ◌∙◌, IfNone}
+use Rattle.std.proofs.Common.{◌≡◌, ℕ, ◌+◌, ◌<◌, ◌≤◌, nat_lt, ◌==◌, inl, inr, Bool, true, false, not, ◌&&◌, ◌||◌, cond, List, [], ◌∷◌, find, Option, Some, None, Ok, arith, refl, sym, ap, subst, ◌∙◌}
 use Rattle.std.specs.List.{AllPass}
-use Rattle.std.proofs.lemmas.Bool.{cond_both, cases_Bool, ltb-true, ltb-false, le-ltb, eqb-true, eqb-false, or_cases, and_cases, cond-true, cond-false, not_from_true, not_from_false}
+use Rattle.std.proofs.lemmas.Bool.{cond_both, cases_Bool, ltb-true, ltb-false, le-ltb, eqb-true, eqb-false, and_cases, cond-true, cond-false, not_from_true, not_from_false}
 use Rattle.std.proofs.lemmas.Option.{none-some, same_Some}
 use Rattle.std.proofs.lemmas.List.Elements.{All-nil, All-cons}
 use Rattle.pgr_device.specs.declared.kind.PrKind.TheVariants.{WriteExclusiveRegistrantsOnly}
@@ -15,7 +15,7 @@ use Rattle.seize.specs.declared.kind.SeizeResult.TheVariants.{Held, NotRegistere
 use Rattle.seize.specs.declared.step.SeizeStep.{SeizeStep}
 use Rattle.seize.specs.declared.step.SeizeStep.TheVariants.{Check, Register, ReadWord, Swap, Reserve, ReadKeys, Preempt, Confirm, Ended}
 use Rattle.seize.specs.Answers.{Answer, keys_told, word_told, word_found, is_good, is_conflict, IsFailure}
-use Rattle.seize.specs.Endings.{HasBegun, SawMembers, SawMembersAndEpoch, SawStranger, SawWord, LackedKey, WasExpelled, IsExpulsion, HasFailed}
+use Rattle.seize.specs.Endings.{HasBegun, SawMembers, SawMembersAndEpoch, SawStranger, SawWord, LackedKey, WasExpelled, HasFailed}
 use Rattle.seize.specs.Exchanges.{Exchange, exchanged, fed, exchanges, keys_read, word_read, shown_word, running, has_reserved}
 use Rattle.seize.specs.Keys.{has_key, first_stranger, is_key_of}
 use Rattle.seize.specs.Seizing.{SeizeState, own_key, first_step, command_at, command_of, result_at, result_of, checked, compared, swapped, cleared, looked, confirmed, next_step, taken}

@@ -1,5 +1,5 @@
 -- What an answer tells, and from which answers it comes.
-use Rattle.std.proofs.Common.{◌≡◌, ◌≢◌, ℕ, Bool, true, false, List, [], ◌∷◌, find, All, Option, Some, None, IfSome, Ok, Err, IfOk, not}
+use Rattle.std.proofs.Common.{◌≡◌, ◌≢◌, ℕ, Bool, true, List, [], ◌∷◌, find, All, Some, IfSome, Ok, IfOk}
 use Rattle.std.proofs.lemmas.Bool.{cond_both}
 use Rattle.std.proofs.lemmas.List.Elements.{All-head, All-tail}
 use Rattle.pgr_device.specs.declared.command.PrAnswer.TheVariants as answer

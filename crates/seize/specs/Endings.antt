@@ -1,5 +1,5 @@
 -- What passed before a task ended in one way or another.
-use Rattle.std.specs.Prelude.{◌≡◌, ◌≢◌, ℕ, ◌⊎◌, true, false, List, [], ◌∷◌, Option, Some, Ok}
+use Rattle.std.specs.Prelude.{◌≡◌, ◌≢◌, ℕ, ◌⊎◌, true, false, List, [], ◌∷◌, Some, Ok}
 use Rattle.std.specs.List.{AllPass}
 use Rattle.pgr_device.specs.declared.kind.PrKind.TheVariants.{WriteExclusiveRegistrantsOnly}
 use Rattle.pgr_device.specs.declared.command.PrCommand.{PrCommand}
@@ -8,7 +8,7 @@ use Rattle.pgr_device.specs.declared.command.PrAnswer.TheVariants as answer
 use Rattle.seize.specs.declared.kind.SeizeKind.TheVariants.{Vote}
 use Rattle.seize.specs.Answers.{Answer, IsFailure}
 use Rattle.seize.specs.Exchanges.{Exchange, keys_read, word_read, shown_word, running, has_reserved}
-use Rattle.seize.specs.Keys.{key_of, has_key, first_stranger, is_key_of}
+use Rattle.seize.specs.Keys.{has_key, first_stranger, is_key_of}
 use Rattle.seize.specs.Seizing.{SeizeState, first_step, own_key}
 
 -- no command was done yet

@@ -1,6 +1,5 @@
 -- Seizing a device for a membership attempt, one command at a time.
-use Rattle.std.specs.Prelude.{◌≡◌, ◌≢◌, ℕ, ◌+◌, ◌<◌, ◌≤◌, nat_lt, ◌==◌, Bool, true, false, ◌&&◌, ◌||◌, if◌then◌else◌, List, Option, Some, None}
-use Rattle.cl_base.specs.Sets.{has}
+use Rattle.std.specs.Prelude.{ℕ, ◌+◌, nat_lt, ◌==◌, Bool, ◌&&◌, ◌||◌, if◌then◌else◌, List, Option, Some, None}
 use Rattle.pgr_device.specs.declared.kind.PrKind.TheVariants.{WriteExclusiveRegistrantsOnly}
 use Rattle.pgr_device.specs.declared.command.PrCommand.{PrCommand}
 use Rattle.pgr_device.specs.declared.command.PrCommand.TheVariants as command
@@ -11,7 +10,7 @@ use Rattle.seize.specs.declared.kind.SeizeResult.TheVariants.{Held, NotRegistere
 use Rattle.seize.specs.declared.step.SeizeStep.{SeizeStep}
 use Rattle.seize.specs.declared.step.SeizeStep.TheVariants.{Check, Register, ReadWord, Swap, Reserve, ReadKeys, Preempt, Confirm, Ended}
 use Rattle.seize.specs.Answers.{Answer, keys_told, word_told, word_found, is_good, is_conflict}
-use Rattle.seize.specs.Keys.{key_of, has_key, first_stranger, is_key_of}
+use Rattle.seize.specs.Keys.{key_of, has_key, first_stranger}
 
 pub record SeizeState : Type 0 where
   -- for its votes, or as a device without

@@ -1,5 +1,5 @@
 -- How a task shows as the task of an initiator of the abstract device, and what each answer makes of that one.
-use Rattle.std.specs.Prelude.{◌≡◌, ℕ, Bool, true, false, Ok}
+use Rattle.std.specs.Prelude.{◌≡◌, Bool, true, false, Ok}
 use Rattle.pgr_device.specs.declared.command.PrAnswer.TheVariants as answer
 use Rattle.device_machine.specs.Phase.{Phase}
 use Rattle.device_machine.specs.Initiator.{Initiator, to_phase, unvalidated, expecting, marking, marking_lost, aiming, holding, rejecting, ending, admitted}

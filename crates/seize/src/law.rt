@@ -1,14 +1,18 @@
 //! What follows from the rules. Each law is a function that does nothing: its clauses are the law,
 //! proved of every list of answers. Lists of answers and exchanges are newest first.
-ghost use Rattle.std.specs.Prelude.{◌≡◌, ◌≢◌, ◌⊎◌, ◌↔◌, ◌∷◌, [], ℕ, true, false, List, Some, IfSome, IsSome, IsNone, Ok};
+ghost use Rattle.std.specs.Prelude.{◌≡◌, ◌≢◌, ◌⊎◌, ◌↔◌, ◌∷◌, [], ℕ, true, false, List, Some, None, IfSome, IsSome, IsNone, Ok};
 ghost use Rattle.cl_base.specs.Sets.{has};
+ghost use Rattle.pgr_device.specs.Device.{Device};
+ghost use Rattle.pgr_device.specs.Spc.{step, may_read};
+ghost use Rattle.pgr_device.specs.declared.kind.PrKind.TheVariants.{WriteExclusiveRegistrantsOnly};
+ghost use Rattle.pgr_device.specs.declared.registration.Registration.{Registration};
 ghost use Rattle.pgr_device.specs.declared.command.PrCommand.{PrCommand};
 ghost use Rattle.pgr_device.specs.declared.command.PrCommand.TheVariants as command;
 ghost use Rattle.pgr_device.specs.declared.command.PrAnswer.TheVariants as answer;
 ghost use Rattle.seize.specs.declared.kind.SeizeKind.TheVariants.{Vote};
 ghost use Rattle.seize.specs.declared.kind.SeizeResult.TheVariants.{Held, NotRegistered, Greater, Expelled, Contended, Fault};
 ghost use Rattle.seize.specs.declared.kind.JoinResult.TheVariants as join;
-ghost use Rattle.seize.specs.Answers.{Answer, IsFailure};
+ghost use Rattle.seize.specs.Answers.{Answer, IsFailure, is_answer};
 ghost use Rattle.seize.specs.Endings.{HasBegun, SawMembersAndEpoch, SawStranger, SawWord, LackedKey, WasExpelled, HasFailed, IsOwn};
 ghost use Rattle.seize.specs.Exchanges.{fed, exchanges, join_fed, join_exchanges, keys_read, word_read, running};
 ghost use Rattle.seize.specs.Joining as Joining;
@@ -84,4 +88,14 @@ pub fn due_until_the_result()
 pub fn keys_of_members()
     ensures from { (cluster members node : ℕ) → is_key_of cluster members (key_of cluster node) ≡ has members node }
     ensures to { (cluster members key : ℕ) → is_key_of cluster members key ≡ true → (key ≡ key_of cluster (node_of cluster key)) × (has members (node_of cluster key) ≡ true) }
+{}
+
+/// A device that lets the node read never answers one of these commands by what counts as a
+/// failure. It lets every node read where no reservation stands, or one of type 5h, which is the
+/// only one that is made here.
+pub fn a_device_gives_no_fault()
+    ensures answers { (d : Device) (node epoch own : ℕ) (sent : PrCommand) → has d.paths node ≡ true → may_read d.registrations node d.reservation ≡ true
+        → IsOwn epoch own sent → is_answer sent (step d node sent).answer ≡ true }
+    ensures unreserved { (registrations : List Registration) (node : ℕ) → may_read registrations node None ≡ true }
+    ensures reserved { (registrations : List Registration) (node holder : ℕ) → may_read registrations node (Some (record { holder = holder; kind = WriteExclusiveRegistrantsOnly })) ≡ true }
 {}
