@@ -10,7 +10,7 @@ use Rattle.seize.specs.declared.kind.SeizeResult.TheVariants.{Held, NotRegistere
 use Rattle.seize.specs.declared.step.SeizeStep.{SeizeStep}
 use Rattle.seize.specs.declared.step.SeizeStep.TheVariants.{Check, Register, ReadWord, Swap, Reserve, ReadKeys, Preempt, Confirm, Ended}
 use Rattle.seize.specs.Answers.{Answer, keys_told, word_told, word_found, is_good, is_conflict}
-use Rattle.seize.specs.Keys.{has_key, first_stranger, is_key_of}
+use Rattle.seize.specs.Keys.{has_key, is_key_of}
 use Rattle.seize.specs.Seizing.{SeizeState, own_key, checked, compared, swapped, cleared, looked, confirmed, next_step, taken}
 use Rattle.seize.specs.SeizeKept.{FitsStep, IsSeizing}
 use Rattle.seize.specs.Shows.{Shows, is_vote, arrived, answered}
@@ -76,58 +76,11 @@ record Same (s : SeizeState) (v : Initiator) : Type 0 where
   quorum : v.quorum ≡ is_vote s.kind
   valid : s.kind ≡ Vote → v.valid ≡ s.valid
 
-abbrev IsLater : SeizeStep → Type 0
-IsLater Check = ⊥
-IsLater Register = ⊥
-IsLater _ = Unit {0}
-
-shows_at : (s : SeizeState) (next : SeizeStep) (v : Initiator) → Same s v → IsLater next → Shows (record s { step = next }) (arrived s next v)
-shows_at s Check v same later = absurd later
-shows_at s Register v same later = absurd later
-shows_at s (Swap expected) v same later = record { session = same.session; quorum = same.quorum; valid = same.valid; step = (refl, refl) }
-shows_at s (Preempt victim reading) v same later = record { session = same.session; quorum = same.quorum; valid = same.valid; step = (refl, refl) }
-shows_at s (Ended (Held keys)) v same later = record { session = same.session; quorum = same.quorum; valid = same.valid; step = refl }
-shows_at s next v same later = record { session = same.session; quorum = same.quorum; valid = same.valid; step = refl }
-
-later_checked : (s : SeizeState) (told : Option (List ℕ)) → IsLater (checked s told)
-later_checked s None = tt
-later_checked s (Some keys) = either IsLater (has_key (own_key s) keys && s.valid) ReadWord (Ended (NotRegistered keys)) tt tt
-
-later_compared : (s : SeizeState) (told : Option ℕ) → IsLater (compared s told)
-later_compared s None = tt
-later_compared s (Some word) =
-    either IsLater (nat_lt word s.epoch) (Swap word) (cond (word == s.epoch) Reserve (Ended (Greater word))) tt
-    (either IsLater (word == s.epoch) Reserve (Ended (Greater word)) tt tt)
-
-later_swapped : (s : SeizeState) (expected : ℕ) (a : Answer) → IsLater (swapped s expected a)
-later_swapped s expected a =
-    either IsLater (is_good a) Reserve (cond (is_conflict a) (Ended Expelled) (compared s (word_found expected a))) tt
-    (either IsLater (is_conflict a) (Ended Expelled) (compared s (word_found expected a)) tt (later_compared s (word_found expected a)))
-
-later_cleared : (keys : List ℕ) (reading : ℕ) (found : Option ℕ) → IsLater (cleared keys reading found)
-later_cleared keys reading None = tt
-later_cleared keys reading (Some key) = either IsLater (nat_lt reading 64) (Preempt key reading) (Ended (Contended key)) tt tt
-
-later_looked : (s : SeizeState) (reading : ℕ) (told : Option (List ℕ)) → IsLater (looked s reading told)
-later_looked s reading None = tt
-later_looked s reading (Some keys) =
-    either IsLater (has_key (own_key s) keys) (cleared keys reading (first_stranger s.cluster s.members keys)) (Ended Expelled)
-    (later_cleared keys reading (first_stranger s.cluster s.members keys)) tt
-
-later_confirmed : (s : SeizeState) (keys : List ℕ) (told : Option ℕ) → IsLater (confirmed s keys told)
-later_confirmed s keys None = tt
-later_confirmed s keys (Some word) = either IsLater (word == s.epoch) (Ended (Held keys)) (Ended (Greater word)) tt tt
-
-later_next : (s : SeizeState) (step : SeizeStep) (a : Answer) → IsLater (next_step s step a)
-later_next s Check a = later_checked s (keys_told a)
-later_next s Register a = either IsLater (is_good a) ReadWord (Ended Fault) tt tt
-later_next s ReadWord a = later_compared s (word_told a)
-later_next s (Swap expected) a = later_swapped s expected a
-later_next s Reserve a = either IsLater (is_good a || is_conflict a) (ReadKeys 1) (Ended Fault) tt tt
-later_next s (ReadKeys reading) a = later_looked s reading (keys_told a)
-later_next s (Preempt victim reading) a = either IsLater (is_good a || is_conflict a) (ReadKeys (reading + 1)) (Ended Fault) tt tt
-later_next s (Confirm keys) a = later_confirmed s keys (word_told a)
-later_next s (Ended result) a = tt
+shows_at : (s : SeizeState) (next : SeizeStep) (v : Initiator) → Same s v → Shows (record s { step = next }) (arrived s next v)
+shows_at s (Swap expected) v same = record { session = same.session; quorum = same.quorum; valid = same.valid; step = (refl, refl) }
+shows_at s (Preempt victim reading) v same = record { session = same.session; quorum = same.quorum; valid = same.valid; step = (refl, refl) }
+shows_at s (Ended (Held keys)) v same = record { session = same.session; quorum = same.quorum; valid = same.valid; step = refl }
+shows_at s next v same = record { session = same.session; quorum = same.quorum; valid = same.valid; step = refl }
 
 not_vote : (k : SeizeKind) {A : Type 0} → k ≡ Plain → k ≡ Vote → A
 not_vote k plain vote = absurd (cc)
@@ -137,10 +90,10 @@ shows_next : (s : SeizeState) (step : SeizeStep) (a : Answer) (v : Initiator) �
 shows_next s Register a v fits same =
     let plain : s.kind ≡ Plain = fits in
     shows_at s (next_step s Register a) (unvalidated v)
-    (record { session = same.session; quorum = same.quorum; valid = λ vote. not_vote s.kind plain vote }) (later_next s Register a)
+    (record { session = same.session; quorum = same.quorum; valid = λ vote. not_vote s.kind plain vote })
 shows_next s (Swap expected) (Ok answer.Good) v fits same =
     record { session = same.session; quorum = same.quorum; valid = same.valid; step = refl }
-shows_next s step a v fits same = shows_at s (next_step s step a) v same (later_next s step a)
+shows_next s step a v fits same = shows_at s (next_step s step a) v same
 
 pub taken_shows : (s : SeizeState) (a : Answer) (v : Initiator) → IsSeizing s → Shows s v → Shows (taken s a) (answered s s.step a v)
 taken_shows s a v h shows = shows_next s s.step a v h.fits (record { session = shows.session; quorum = shows.quorum; valid = shows.valid })

@@ -40,10 +40,10 @@ pub record Shows (s : SeizeState) (v : Initiator) : Type 0 where
   pub valid : s.kind ≡ Vote → v.valid ≡ s.valid
   pub step : ShowsStep s s.step v
 
--- what the initiator is when the seizing comes to a step; none leads to the first one
+-- what the initiator is when the seizing comes to a step; no answer leads to the first one
 abbrev pub arrived : SeizeState → SeizeStep → Initiator → Initiator
-arrived s Check v = v
-arrived s Register v = v
+arrived s Check v = to_phase v Phase.Asked
+arrived s Register v = to_phase v Phase.Asked
 arrived s ReadWord v = to_phase v Phase.Keyed
 arrived s (Swap expected) v = expecting v expected
 arrived s Reserve v = to_phase v Phase.Marked
@@ -79,7 +79,7 @@ pub record ShowsJoin (s : Joining.JoinState) (v : Initiator) : Type 0 where
 
 -- what the initiator is when the joining comes to a step. A key that was registered while the answer was lost makes no difference to it.
 abbrev pub join_arrived : JoinStep → Initiator → Initiator
-join_arrived join.Register v = v
+join_arrived join.Register v = to_phase v Phase.Joining
 join_arrived join.ReadWord v = to_phase v Phase.Entered
 join_arrived (join.Ended Joined) v = admitted v
 join_arrived (join.Ended result) v = to_phase v Phase.Over

@@ -1,11 +1,11 @@
 //! The keys of a cluster's nodes.
-ghost use Rattle.std.specs.Prelude.{◌≡◌, ◌<◌, ◌^◌, ◌*◌};
+ghost use Rattle.std.specs.Prelude.{◌≡◌};
 ghost use Rattle.cl_base.specs.Sets.{has};
 ghost use Rattle.seize.specs.Keys.{key_of, is_key_of, has_key, first_stranger};
 
 use cl_base::{NodeId, NodeSet};
 
-/// The first key of a cluster is above this many times its number.
+/// So many numbers are set aside for the keys of one cluster.
 const KEYS_OF_CLUSTER: u64 = 4_294_967_296;
 
 /// The key of a node.

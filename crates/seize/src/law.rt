@@ -14,7 +14,7 @@ ghost use Rattle.seize.specs.declared.kind.SeizeResult.TheVariants.{Held, NotReg
 ghost use Rattle.seize.specs.declared.kind.JoinResult.TheVariants as join;
 ghost use Rattle.seize.specs.Answers.{Answer, IsFailure, is_answer};
 ghost use Rattle.seize.specs.Endings.{HasBegun, SawMembersAndEpoch, SawStranger, SawWord, LackedKey, WasExpelled, HasFailed, IsOwn};
-ghost use Rattle.seize.specs.Exchanges.{fed, exchanges, join_fed, join_exchanges, keys_read, word_read, running};
+ghost use Rattle.seize.specs.Exchanges.{fed, exchanges, join_fed, join_exchanges, word_read, running};
 ghost use Rattle.seize.specs.Joining as Joining;
 ghost use Rattle.seize.specs.Keys.{key_of, node_of, is_key_of, has_key, first_stranger};
 ghost use Rattle.seize.specs.Seizing.{SeizeState, command_of, result_of, taken, own_key};

@@ -1,9 +1,9 @@
-ghost use Rattle.std.specs.Prelude.{◌≡◌, ◌≢◌, ◌≤◌, ◌<◌, true, false, IfSome, IfOk, OnErr, IsSome, All};
+ghost use Rattle.std.specs.Prelude.{◌≡◌, true, IfSome, IfOk, OnErr, IsSome};
 ghost use Rattle.cl_base.specs.Sets.{has};
 ghost use Rattle.device_machine.specs.Initiator.{Initiator, seizing};
 ghost use Rattle.pgr_device.specs.Allowed.{IsAllowed};
 ghost use Rattle.pgr_device.specs.Keys.{HasNoZeroKey};
-ghost use Rattle.seize.specs.Seizing.{begun, command_of, result_of, taken, next_step, checked, compared, swapped, cleared, looked, confirmed, own_key};
+ghost use Rattle.seize.specs.Seizing.{begun, command_of, result_of, taken, next_step, checked, compared, swapped, looked, confirmed, own_key};
 ghost use Rattle.seize.specs.Shows.{Shows, is_vote, answered, lost};
 ghost use Rattle.seize.specs.declared.kind.SeizeKind.TheVariants.{Vote};
 

@@ -1,5 +1,5 @@
 //! What passes between a task and a device, command by command.
-ghost use Rattle.std.specs.Prelude.{◌≡◌, ◌≢◌, ◌≤◌, length, All, IfOk};
+ghost use Rattle.std.specs.Prelude.{◌≢◌, All, IfOk};
 ghost use Rattle.pgr_device.specs.Keys.{HasNoZeroKey};
 
 use crate::{Join, JoinResult, Seize, SeizeKind, SeizeResult};
