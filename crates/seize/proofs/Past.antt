@@ -76,8 +76,16 @@ past_compared : (s : SeizeState) (sent : PrCommand) (a : Answer) (es : List Exch
 past_compared s sent a es None lost shown = lost refl
 past_compared s sent a es (Some word) lost shown =
     cond_both (nat_lt word s.epoch) (Swap word) (cond (word == s.epoch) Reserve (Ended (Greater word))) (λ x. IsPast s x (with sent a es)) (λ _. tt)
-    (λ _. cond_both (word == s.epoch) Reserve (Ended (Greater word)) (λ x. IsPast s x (with sent a es)) (λ _. tt)
-    (λ other. record { before = es; sent = sent; answer = a; last = refl; shown = shown word refl; other = eqb-false word s.epoch other }))
+    (λ ge. cond_both (word == s.epoch) Reserve (Ended (Greater word)) (λ x. IsPast s x (with sent a es)) (λ _. tt)
+    (λ other. record {
+      before = es;
+      sent = sent;
+      answer = a;
+      last = refl;
+      shown = shown word refl;
+      other = eqb-false word s.epoch other;
+      above = inl (omega (arith, ltb-false word s.epoch ge, eqb-false word s.epoch other));
+    }))
 
 past_swapped : (s : SeizeState) (expected : ℕ) (a : Answer) (es : List Exchange)
     → IsPast s (swapped s expected a) (with (command.Swap expected s.epoch) a es)
@@ -128,6 +136,7 @@ past_confirmed s keys es a (Some word) e h =
       last = refl;
       shown = shown_read a word e;
       other = eqb-false word s.epoch other;
+      above = inr (ap has_reserved h.last ∙ h.reserved);
     })
 
 past_next : (s : SeizeState) (step : SeizeStep) (es : List Exchange) (a : Answer) → IsPast s step es

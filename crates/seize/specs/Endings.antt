@@ -1,5 +1,5 @@
 -- What passed before a task ended in one way or another.
-use Rattle.std.specs.Prelude.{◌≡◌, ◌≢◌, ℕ, ◌⊎◌, true, false, List, [], ◌∷◌, Some, Ok}
+use Rattle.std.specs.Prelude.{◌≡◌, ◌≢◌, ◌<◌, ℕ, ◌⊎◌, true, false, List, [], ◌∷◌, Some, Ok}
 use Rattle.std.specs.List.{AllPass}
 use Rattle.pgr_device.specs.declared.kind.PrKind.TheVariants.{WriteExclusiveRegistrantsOnly}
 use Rattle.pgr_device.specs.declared.command.PrCommand.{PrCommand}
@@ -38,7 +38,7 @@ pub record SawStranger (s : SeizeState) (key : ℕ) (es : List Exchange) : Type 
   pub own : has_key (own_key s) keys ≡ true
   pub first : first_stranger s.cluster s.members keys ≡ Some key
 
--- the last answer showed this word, which is not the epoch
+-- the last answer showed this word, which is not the epoch; it is above the epoch, unless it was read after a try to reserve
 pub record SawWord (s : SeizeState) (word : ℕ) (es : List Exchange) : Type 0 where
   pub before : List Exchange
   pub sent : PrCommand
@@ -46,6 +46,7 @@ pub record SawWord (s : SeizeState) (word : ℕ) (es : List Exchange) : Type 0 w
   pub last : es ≡ record { command = sent; answer = answer } ∷ before
   pub shown : shown_word answer ≡ Some word
   pub other : word ≢ s.epoch
+  pub above : (s.epoch < word) ⊎ (has_reserved before ≡ true)
 
 -- the first command of a seizing for votes was the last: its reading lacked the own key, or the record does not call that key validated
 pub record LackedKey (s : SeizeState) (keys : List ℕ) (es : List Exchange) : Type 0 where

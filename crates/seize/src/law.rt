@@ -34,7 +34,8 @@ pub fn contended_at_the_64th()
         → result_of (fed s (Ok (answer.Keys keys) ∷ answers)) ≡ Some (Contended key) }
 {}
 
-/// The word that a seizing ends by is the one that the last answer showed, and is not the epoch.
+/// The word that a seizing ends by is the one that the last answer showed, and is not the epoch. It
+/// is above the epoch, unless it was read after a try to reserve.
 pub fn greater_is_not_the_epoch()
     ensures { (s : SeizeState) (answers : List Answer) (word : ℕ) → HasBegun s → result_of (fed s answers) ≡ Some (Greater word) → SawWord s word (exchanges s answers) }
 {}
