@@ -1,4 +1,4 @@
-ghost use Rattle.std.specs.Prelude.{◌≡◌, ◌≢◌, ◌==◌, ℕ, ◌<◌, ◌≤◌, ◌++◌, ◌∷◌, [], length, filter, not, slice_get, replicate, IfOk};
+ghost use Rattle.std.specs.Prelude.{◌≡◌, ◌==◌, ℕ, ◌<◌, ◌≤◌, ◌++◌, ◌∷◌, [], length, filter, not, slice_get, replicate, IfOk};
 ghost use Rattle.interconnect.specs.Numbers.{AreNodes, IsOther, link_of, numbers_on};
 
 use arrayvec::ArrayVec;

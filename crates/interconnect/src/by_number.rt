@@ -1,8 +1,7 @@
-ghost use Rattle.std.specs.Prelude.{◌≡◌, ◌≢◌, ◌==◌, ℕ, ◌+◌, ◌*◌, ◌^◌, ◌<◌, ◌≤◌, ◌++◌, ◌∷◌, [], Some, length, filter, find, map, not, slice_index, IfSome, IfNone, IfOk};
+ghost use Rattle.std.specs.Prelude.{◌≡◌, ◌≢◌, ◌==◌, ℕ, ◌+◌, ◌^◌, ◌<◌, ◌≤◌, ◌++◌, ◌∷◌, [], length, filter, find, map, not, slice_index, IfSome, IfNone, IfOk};
 ghost use Rattle.std.specs.Option.{option_copied};
 ghost use Rattle.std.specs.VecDeque.{deque_len, deque_capacity};
-ghost use Rattle.interconnect.specs.Places.{Numbered, sweeping};
-ghost use Rattle.interconnect.specs.declared.by_number.Held.{Held};
+ghost use Rattle.interconnect.specs.Places.{sweeping};
 
 use cell_pool::Chain;
 use cl_base::NodeId;

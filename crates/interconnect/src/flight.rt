@@ -1,6 +1,6 @@
-ghost use Rattle.std.specs.Prelude.{◌≡◌, ℕ, ◌+◌, ◌*◌, ◌^◌, ◌<◌, ◌≤◌, [], length, not, nat_lt, if◌then◌else◌, replicate, slice_index_or, IfOk, IsOk, IsErr, IsOkAnd, MatchOption};
+ghost use Rattle.std.specs.Prelude.{◌≡◌, ◌+◌, ◌^◌, ◌<◌, ◌≤◌, [], length, not, nat_lt, if◌then◌else◌, IfOk, IsOk, IsErr, IsOkAnd, MatchOption};
 ghost use Rattle.cell_pool.specs.Cells.{cells_for};
-ghost use Rattle.interconnect.specs.Links.{Links, sending, appending, removing, packet_of, oldest_on, count_on, free_cells_of, delivery_of, copied};
+ghost use Rattle.interconnect.specs.Links.{sending, appending, removing, packet_of, oldest_on, count_on, free_cells_of, delivery_of, copied};
 
 use crate::by_link::ByLink;
 use crate::by_number::ByNumber;

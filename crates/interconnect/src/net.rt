@@ -149,6 +149,27 @@ mod tests {
     }
 
     #[test]
+    fn old_packet(rt: HostRuntime) -> Result<(), Fail> {
+        let mut net = Net::new(rt.alloc(), 4)?;
+        let one = NodeId::new(1)?;
+        let two = NodeId::new(2)?;
+        let mut out = vec![in rt.alloc(); 0u8; MOST]?;
+        let _ = net.send(one, two, &[5]);
+        for number in 2..40u64 {
+            let _ = net.send(two, one, &[6]);
+            net.lose(number)?;
+        }
+        assert_eq!(rt;
+            (net.oldest(one, two), net.in_flight(two, one)),
+            (Some(1), 0)
+        );
+        let found = net.deliver(1, &mut out)?;
+        assert_eq!(rt; (found.from, found.to, found.length), (one, two, 1));
+        assert_eq!(rt; (net.oldest(one, two), out[0]), (None, 5));
+        Ok(())
+    }
+
+    #[test]
     fn full_link(rt: HostRuntime) -> Result<(), Fail> {
         let mut net = Net::new(rt.alloc(), 100)?;
         let one = NodeId::new(1)?;

@@ -1,4 +1,4 @@
-use Rattle.std.proofs.Common.{◌≡◌, ◌<◌, ◌≢◌, ◌∙◌, ◌++◌, ◌∷◌, [], List, ℕ, ap, sym, arith, length, get_or, set, map, not, ◌==◌, filter}
+use Rattle.std.proofs.Common.{◌≡◌, ◌<◌, ◌≢◌, ◌∙◌, ◌++◌, ◌∷◌, [], List, ℕ, ap, arith, length, get_or, set, map}
 use Rattle.interconnect.specs.Numbers.{link_of, numbers_on}
 use Rattle.interconnect.proofs.Tables.{links_apart, own_now, own_before, others_now}
 use Rattle.interconnect.proofs.by_link.ByLink.push.Goals as goal

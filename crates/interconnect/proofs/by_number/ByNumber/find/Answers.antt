@@ -1,4 +1,4 @@
-use Rattle.std.proofs.Common.{◌++◌, ◌∙◌, sym, ap, List}
+use Rattle.std.proofs.Common.{◌∙◌, sym, ap}
 use Rattle.interconnect.specs.Places.{Numbered}
 use Rattle.interconnect.proofs.Places.{named, ascending_pairs, ascending_front, ascending_back, found_front, found_behind, found_none}
 use Rattle.interconnect.proofs.by_number.ByNumber.find.Goals as goal

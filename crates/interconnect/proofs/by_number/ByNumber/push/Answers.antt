@@ -1,8 +1,8 @@
-use Rattle.std.proofs.Common.{◌+◌, ◌++◌, ◌∷◌, ◌<◌, ◌∙◌, [], List, Some, refl, ap, sym, subst, arith, length, deque_capacity, deque_len, lit≤}
+use Rattle.std.proofs.Common.{◌+◌, ◌++◌, ◌<◌, Some, refl, sym, subst, arith, length, deque_capacity, deque_len}
 use Rattle.interconnect.specs.declared.by_number.Held.{Held}
 use Rattle.interconnect.specs.declared.by_number.Place.{Place}
 use Rattle.interconnect.specs.Places.{Numbered, live}
-use Rattle.interconnect.proofs.Places.{IsSweeping, pushed, swept_once, kept_after, room_for, pushed_view}
+use Rattle.interconnect.proofs.Places.{pushed, swept_once, kept_after, room_for, pushed_view}
 use Rattle.interconnect.proofs.by_number.ByNumber.push.Goals as goal
 
 pub sweep-requires-2 : goal.sweep-requires-2

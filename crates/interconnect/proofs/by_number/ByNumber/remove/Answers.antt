@@ -1,4 +1,4 @@
-use Rattle.std.proofs.Common.{◌++◌, ◌∙◌, sym, ap, List, refl, set, deque_capacity}
+use Rattle.std.proofs.Common.{◌++◌, ◌∙◌, sym, ap, refl, set, deque_capacity}
 use Rattle.interconnect.specs.declared.by_number.Place.{Place}
 use Rattle.interconnect.specs.Places.{Numbered, live}
 use Rattle.interconnect.proofs.Places.{named, ascending_pairs, ascending_front, ascending_back, found_front, found_behind, found_none, kept_front, kept_behind, taken_front, taken_behind, kept_none, removed_view}

@@ -1,7 +1,6 @@
-use Rattle.std.proofs.Common.{◌≡◌, ◌∙◌, ◌++◌, ◌≤◌, ℕ, List, [], ◌∷◌, refl, sym, ap, arith, length}
+use Rattle.std.proofs.Common.{◌≡◌, ◌∙◌, ◌++◌, ℕ, List, [], ◌∷◌, refl, sym, ap, arith, length}
 use Rattle.interconnect.specs.declared.by_number.Held.{Held}
 use Rattle.interconnect.specs.Links.{Links, count_on}
-use Rattle.interconnect.specs.Places.{Numbered}
 use Rattle.interconnect.specs.Numbers.{numbers_on}
 use Rattle.interconnect.proofs.Steps.{sound_refused, sound_appended}
 use Rattle.interconnect.proofs.Finds.{room_left, appended_links}

@@ -1,6 +1,6 @@
-use Rattle.std.proofs.Common.{◌≡◌, ◌∙◌, sym, ap, Some, None, refl}
+use Rattle.std.proofs.Common.{◌≡◌, sym, ap, Some, None, refl}
 use Rattle.interconnect.specs.Links.{Links, packet_of}
-use Rattle.interconnect.specs.Flights.{shown, all_shown}
+use Rattle.interconnect.specs.Flights.{shown}
 use Rattle.interconnect.proofs.Shown.{has_place, others_none, own_at}
 use Rattle.interconnect.proofs.Finds.{view_of, sound_without, removed_links, kept_links}
 use Rattle.interconnect.proofs.Indexes.{index_remove}

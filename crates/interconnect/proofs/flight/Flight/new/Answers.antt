@@ -1,4 +1,4 @@
-use Rattle.std.proofs.Common.{◌≡◌, ◌<◌, [], ℕ, List, arith}
+use Rattle.std.proofs.Common.{◌<◌, [], ℕ, List, arith}
 use Rattle.std.proofs.lemmas.List.{get_or-replicate}
 use Rattle.interconnect.specs.Numbers.{link_of}
 use Rattle.interconnect.proofs.Steps.{sound_none}
