@@ -1,11 +1,10 @@
-use Rattle.std.proofs.Common.{◌≡◌, ℕ, ◌+◌, ◌≤◌, ◌++◌, ◌==◌, ◌&&◌, not, nat_lt, cond, if◌then◌else◌, true, false, Bool, List, [], ◌∷◌, Option, Some, None, length, filter, refl, sym, ap, ◌∙◌, subst, arith}
-use Rattle.std.specs.List.{find, count_by}
+use Rattle.std.proofs.Common.{◌≡◌, ℕ, ◌+◌, ◌≤◌, ◌++◌, ◌==◌, ◌&&◌, not, nat_lt, cond, if◌then◌else◌, true, false, Bool, List, [], ◌∷◌, Option, Some, None, length, refl, ap, subst, arith}
+use Rattle.std.specs.List.{find}
 use Rattle.std.specs.Option.{option_map}
 use Rattle.std.proofs.lemmas.List.Sums.{sum_by_push}
 use Rattle.std.proofs.lemmas.Bool.Decides.{nat_tests}
 use Rattle.cell_pool.specs.Cells.{cells_for}
-use Rattle.interconnect.specs.declared.packet.Sent.{Sent}
-use Rattle.interconnect.specs.Links.{Packet, Links, is_on, count_on, oldest_on, packet_of, free_cells_of, refusing, dropping, crowding, appending, removing, sending, resending}
+use Rattle.interconnect.specs.Links.{Packet, Links, is_on, count_on, oldest_on, free_cells_of, refusing, dropping, crowding, appending, removing, sending}
 use Rattle.interconnect.specs.Flights.{IsUncrowded}
 use Rattle.interconnect.proofs.Places.{test_same}
 use Rattle.interconnect.proofs.Lists.{weight, weight_no, count_filter, count_less, count_none}

@@ -5,7 +5,7 @@ use Rattle.std.proofs.lemmas.Bool.{cases_lt}
 use Rattle.std.proofs.lemmas.Bool.Decides.{nat_tests}
 use Rattle.interconnect.specs.declared.by_number.Held.{Held}
 use Rattle.interconnect.specs.declared.by_number.Place.{Place}
-use Rattle.interconnect.specs.Places.{with_held, live, Bears, IsAscending, Numbered, Lists, kept, sweeping, IsRoomy, IsKept}
+use Rattle.interconnect.specs.Places.{with_held, live, Bears, IsAscending, Numbered, kept, sweeping, IsRoomy, IsKept}
 
 pub test_same : (a b : ℕ) → a ≡ b → (a == b) ≡ true
 test_same a b e = grind (arith, nat_tests)

@@ -1,11 +1,11 @@
-use Rattle.std.proofs.Common.{◌≡◌, ℕ, suc, zero, ◌+◌, ◌<◌, ◌≤◌, ◌++◌, ◌==◌, not, true, false, ◌≢◌, List, [], ◌∷◌, Option, Some, None, IsSome, length, map, filter, Bool, cond, get_or, set, remove, refl, sym, ap, ◌∙◌, subst, arith}
+use Rattle.std.proofs.Common.{◌≡◌, ℕ, suc, zero, ◌+◌, ◌<◌, ◌≤◌, ◌++◌, ◌==◌, not, true, false, ◌≢◌, List, [], ◌∷◌, Option, Some, None, IsSome, length, Bool, cond, get_or, set, remove, refl, sym, ap, ◌∙◌, subst, arith}
 use Rattle.std.specs.List.{sum_by}
 use Rattle.std.proofs.lemmas.List.Sums.{sum_by-cons}
 use Rattle.std.proofs.lemmas.List.{get_or-set_other}
 use Rattle.std.proofs.lemmas.Bool.{eqb-true}
 use Rattle.cell_pool.specs.Cells.{cells_for, IsInUse, bytes_of}
 use Rattle.interconnect.specs.declared.by_number.Held.{Held}
-use Rattle.interconnect.specs.Links.{Packet, cells_of, packet_of}
+use Rattle.interconnect.specs.Links.{cells_of}
 use Rattle.interconnect.proofs.Places.{test_same, test_other, others, named}
 use Rattle.interconnect.specs.Flights.{shown, all_shown, IsRising, LacksChain, IsApart}
 

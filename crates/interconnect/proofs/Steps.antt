@@ -1,11 +1,10 @@
-use Rattle.std.proofs.Common.{◌≡◌, ℕ, suc, zero, ◌+◌, ◌-◌, ◌<◌, ◌≤◌, ◌++◌, ◌==◌, ◌&&◌, not, cond, true, false, Bool, List, [], ◌∷◌, Option, Some, None, IsSome, unwrap_or, length, filter, get_or, set, remove, replicate, refl, sym, ap, ◌∙◌, arith, length-set}
-use Rattle.std.specs.List.{find, sum_by, count_by}
-use Rattle.std.specs.Option.{option_map}
+use Rattle.std.proofs.Common.{◌≡◌, ℕ, suc, zero, ◌+◌, ◌-◌, ◌<◌, ◌≤◌, ◌++◌, true, false, List, [], ◌∷◌, Option, Some, None, IsSome, unwrap_or, length, get_or, set, remove, replicate, refl, ap, ◌∙◌, arith, length-set}
+use Rattle.std.specs.List.{sum_by}
 use Rattle.std.proofs.lemmas.List.Sums.{sum_by-cons, sum_by_push, sum_by-set}
 use Rattle.std.proofs.lemmas.List.{get_or-set_same, map_push, length-replicate}
 use Rattle.cell_pool.specs.Cells.{cells_for, cells_at, used_cells, free_cells, bytes_of}
 use Rattle.interconnect.specs.declared.by_number.Held.{Held}
-use Rattle.interconnect.specs.Links.{Packet, cells_of, packet_of, is_on}
+use Rattle.interconnect.specs.Links.{Packet, cells_of}
 use Rattle.interconnect.specs.Flights.{shown, all_shown, LacksChain, IsSound}
 use Rattle.interconnect.proofs.Shown.{rising_push, rising_next, rising_remove, apart_push, apart_frame, apart_remove, unused_lacks, shown_frame, own_at, cells_remove}
 

@@ -1,5 +1,5 @@
 -- The numbers of the packets in flight, link by link: a table with a list for each pair of nodes.
-use Rattle.std.specs.Prelude.{ℕ, ◌+◌, ◌-◌, ◌*◌, ◌≤◌, ◌≡◌, ◌==◌, ◌&&◌, Bool, true, false, List, [], map, filter, slice_index_or}
+use Rattle.std.specs.Prelude.{ℕ, ◌+◌, ◌-◌, ◌*◌, ◌≤◌, ◌≡◌, ◌==◌, ◌&&◌, Bool, false, List, [], map, filter, slice_index_or}
 use Rattle.interconnect.specs.declared.by_number.Held.{Held}
 
 -- these are numbers of nodes
