@@ -1,76 +1,27 @@
-use Rattle.std.proofs.Common.{◌≡◌, ℕ, ◌+◌, ◌<◌, ◌≤◌, ◌++◌, ◌==◌, not, ◌≢◌, inl, inr, List, [], ◌∷◌, Option, Some, None, Result, Ok, length, map, filter, get_or, set, remove, refl, sym, ap, ◌∙◌, subst, arith, length-set}
-use Rattle.std.specs.Option.{MatchOption}
+use Rattle.std.proofs.Common.{◌≡◌, ℕ, ◌+◌, ◌<◌, ◌≤◌, ◌++◌, ◌==◌, not, List, [], ◌∷◌, Option, Some, None, Result, Ok, length, filter, get_or, set, remove, refl, sym, ap, ◌∙◌, subst, arith, length-set}
+use Rattle.std.specs.Option.{MatchOption, option_map}
 use Rattle.std.specs.Result.{IsOkAnd}
-use Rattle.std.proofs.lemmas.List.{get_or-map}
-use Rattle.std.proofs.lemmas.Bool.{cases_lt}
 use Rattle.cell_pool.specs.Cells.{cells_for, free_cells}
-use Rattle.interconnect.specs.declared.flight.Held.{Held}
+use Rattle.interconnect.specs.declared.by_number.Held.{Held}
 use Rattle.interconnect.specs.declared.packet.Delivery.{Delivery}
 use Rattle.interconnect.specs.declared.packet.NoSuchPacket.{NoSuchPacket}
 use Rattle.interconnect.specs.Links.{Packet, Links, packet_of, removing, appending, delivery_of}
-use Rattle.interconnect.specs.Flights.{all_shown, IsSound}
-use Rattle.interconnect.proofs.Shown.{rising_pairs, found_none, without_none, packets_fit}
-use Rattle.interconnect.proofs.Steps.{appended_view, removed_view}
-
-abbrev pub numbers_of : List Held → List ℕ
-numbers_of held = map (λ h. h.number) held
-
-abbrev pub Pairs : List Held → Type 0
-Pairs held = (i k : ℕ) → i < k → k < length held → get_or (numbers_of held) i 0 < get_or (numbers_of held) k 0
-
-abbrev pub Misses : List Held → ℕ → Type 0
-Misses held n = (k : ℕ) → k < length held → get_or (numbers_of held) k 0 ≢ n
-
-pub below_more : (held : List Held) (m n : ℕ) (h : Held) → Pairs held → m < length held → (get_or held m h).number < n
-    → (k : ℕ) → k < m + 1 → get_or (numbers_of held) k 0 < n
-below_more held m n h pairs l less k b =
-    let here : get_or (numbers_of held) m 0 ≡ (get_or held m h).number = get_or-map (λ (v : Held). v.number) held m h 0 l in
-    elim (cases_lt k m) as (λ _. get_or (numbers_of held) k 0 < n) [
-      | inl lower ↦ let p = pairs k m lower l in omega arith
-      | inr upper ↦ let same : m ≡ k = omega arith in subst (λ (j : ℕ). get_or (numbers_of held) j 0 < n) same (omega arith)
-    ]
-
-pub above_more : (held : List Held) (m n : ℕ) (h : Held) → Pairs held → m < length held → n < (get_or held m h).number
-    → (k : ℕ) → m ≤ k → k < length held → n < get_or (numbers_of held) k 0
-above_more held m n h pairs l more k b t =
-    let here : get_or (numbers_of held) m 0 ≡ (get_or held m h).number = get_or-map (λ (v : Held). v.number) held m h 0 l in
-    elim (cases_lt m k) as (λ _. n < get_or (numbers_of held) k 0) [
-      | inl upper ↦ let p = pairs m k upper t in omega arith
-      | inr lower ↦ let same : m ≡ k = omega arith in subst (λ (j : ℕ). n < get_or (numbers_of held) j 0) same (omega arith)
-    ]
-
-pub pairs_of : (pool : List (Option (List ℕ))) (held seen : List Held) (room next : ℕ) → IsSound pool held room next → seen ≡ held → Pairs seen
-pairs_of pool held seen room next s e = subst (λ (l : List Held). Pairs l) (sym e) (λ i k a b. rising_pairs 1 next held i k s.rising a b)
-
--- the place that was found
-pub record Hit (held : List Held) (i n : ℕ) (h : Held) : Type 0 where
-  pub low : i < length held
-  pub at : h.number ≡ n
-
-pub hit : (held seen : List Held) (i n : ℕ) (h : Held) → seen ≡ held → (i < length seen) × (get_or (numbers_of seen) i 0 ≡ n) → h ≡ get_or held i h → Hit held i n h
-hit held seen i n h e found is =
-    let here : (i < length held) × (get_or (numbers_of held) i 0 ≡ n) = subst (λ (l : List Held). (i < length l) × (get_or (numbers_of l) i 0 ≡ n)) e found in
-    record {
-      low = here.0;
-      at = ap (λ (v : Held). v.number) is ∙ sym (get_or-map (λ (v : Held). v.number) held i h 0 here.0) ∙ here.1;
-    }
-
-pub none_view : (pool : List (Option (List ℕ))) (held seen : List Held) (n : ℕ) (old : Links) → seen ≡ held → Misses seen n
-    → all_shown pool held ≡ old.packets → packet_of old.packets n ≡ None
-none_view pool held seen n old e none v =
-    ap (λ (ps : List Packet). packet_of ps n) (sym v) ∙ found_none pool held n (subst (λ (l : List Held). Misses l n) e none)
-
-pub none_kept : (pool : List (Option (List ℕ))) (held seen : List Held) (n : ℕ) (old : Links) → seen ≡ held → Misses seen n
-    → all_shown pool held ≡ old.packets → old ≡ removing old n
-none_kept pool held seen n old e none v =
-    let kept : filter (λ p. not (p.number == n)) old.packets ≡ old.packets =
-    subst (λ (ps : List Packet). filter (λ p. not (p.number == n)) ps ≡ ps) v (without_none pool held n (subst (λ (l : List Held). Misses l n) e none)) in
-    ap (λ (ps : List Packet). let l : Links = record { packets = ps; next = old.next; cells = old.cells } in l) (sym kept)
+use Rattle.interconnect.specs.Flights.{shown, all_shown, IsSound}
+use Rattle.interconnect.proofs.Places.{named, others}
+use Rattle.interconnect.proofs.Shown.{HasPlace, others_remove, own_at, shown_frame, packets_fit}
+use Rattle.interconnect.proofs.Steps.{appended_view, sound_removed}
+use Rattle.interconnect.proofs.Indexes.{packet_shown, others_shown}
 
 pub room_left : (pool : List (Option (List ℕ))) (held : List Held) (room next n : ℕ) → IsSound pool held room next → cells_for n ≤ free_cells pool
     → length held < room
 room_left pool held room next n s free =
     let u = s.used in let m = s.enough in let f = packets_fit pool held in omega arith
+
+-- what was looked for, as the links show it
+pub view_of : (pool : List (Option (List ℕ))) (held : List Held) (n : ℕ) (found : Option Held) (old : Links) → all_shown pool held ≡ old.packets
+    → found ≡ named n held → packet_of old.packets n ≡ option_map (shown pool) found
+view_of pool held n found old v e =
+    ap (λ (ps : List Packet). packet_of ps n) (sym v) ∙ packet_shown pool held n ∙ ap (λ (o : Option Held). option_map (shown pool) o) (sym e)
 
 pub appended_links : (pool new : List (Option (List ℕ))) (held items : List Held) (h : Held) (room next : ℕ) (bytes : List ℕ) (old : Links)
     → IsSound pool held room next → h.number ≡ next → h.chain < length pool → get_or pool h.chain None ≡ None → new ≡ set pool h.chain (Some bytes)
@@ -85,16 +36,42 @@ appended_links pool new held items h room next bytes old s n low none is e v =
     subst (λ (o : Links). (let l : Links = record { packets = all_shown new items; next = next + 1; cells = length new } in l ≡ appending o h.from h.to bytes)) v
     (rw (shows, size) refl)
 
-pub removed_links : (pool new : List (Option (List ℕ))) (held items : List Held) (i n : ℕ) (h : Held) (room next : ℕ) (old : Links)
-    → IsSound pool held room next → i < length held → h ≡ get_or held i h → h.number ≡ n → new ≡ set pool h.chain None → items ≡ remove held i
+-- the packets once the chain of one went back
+pub sound_without : (pool new : List (Option (List ℕ))) (held : List Held) (n : ℕ) (h : Held) (room next : ℕ)
+    → IsSound pool held room next → HasPlace held n h → new ≡ set pool h.chain None → IsSound new (others n held) room next
+sound_without pool new held n h room next s p is =
+    subst (λ (m : ℕ). IsSound new (others m held) room next) p.at
+    (subst (λ (l : List Held). IsSound new l room next) (sym (others_remove 1 next held p.place h s.rising p.low p.is))
+    (sound_removed pool new held p.place h room room next s p.low p.is is refl))
+
+shown_without : (pool new : List (Option (List ℕ))) (held : List Held) (n : ℕ) (h : Held) (room next : ℕ)
+    → IsSound pool held room next → HasPlace held n h → new ≡ set pool h.chain None → all_shown new (others n held) ≡ all_shown pool (others n held)
+shown_without pool new held n h room next s p is =
+    let own = own_at pool held p.place h s.apart p.low p.is in
+    let same : remove held p.place ≡ others n held =
+    sym (others_remove 1 next held p.place h s.rising p.low p.is) ∙ ap (λ (m : ℕ). others m held) p.at in
+    subst (λ (l : List Held). all_shown new l ≡ all_shown pool l) same (rw is (shown_frame pool h.chain None (remove held p.place) own.alone))
+
+pub removed_links : (pool new : List (Option (List ℕ))) (held : List Held) (n : ℕ) (h : Held) (room next : ℕ) (old : Links)
+    → IsSound pool held room next → HasPlace held n h → new ≡ set pool h.chain None
     → (let l : Links = record { packets = all_shown pool held; next = next; cells = length pool } in l ≡ old)
-    → (let l : Links = record { packets = all_shown new items; next = next; cells = length new } in l ≡ removing old n)
-removed_links pool new held items i n h room next old s l e at is r v =
-    let size : length new ≡ length pool = ap (λ (p : List (Option (List ℕ))). length p) is ∙ length-set pool h.chain None in
-    let shows : all_shown new items ≡ filter (λ p. not (p.number == n)) (all_shown pool held) =
-    ap (λ (l : List Held). all_shown new l) r ∙ removed_view pool new held i n h room next s l e at is in
-    subst (λ (o : Links). (let l : Links = record { packets = all_shown new items; next = next; cells = length new } in l ≡ removing o n)) v
+    → (let l : Links = record { packets = all_shown new (others n held); next = next; cells = length new } in l ≡ removing old n)
+removed_links pool new held n h room next old s p is v =
+    let size : length new ≡ length pool = ap (λ (q : List (Option (List ℕ))). length q) is ∙ length-set pool h.chain None in
+    let shows : all_shown new (others n held) ≡ filter (λ p. not (p.number == n)) (all_shown pool held) =
+    shown_without pool new held n h room next s p is ∙ sym (others_shown pool held n) in
+    subst (λ (o : Links). (let l : Links = record { packets = all_shown new (others n held); next = next; cells = length new } in l ≡ removing o n)) v
     (rw (shows, size) refl)
+
+-- the packets where there is none of the number
+pub kept_links : (pool : List (Option (List ℕ))) (held : List Held) (n next : ℕ) (old : Links) → others n held ≡ held
+    → (let l : Links = record { packets = all_shown pool held; next = next; cells = length pool } in l ≡ old)
+    → (let l : Links = record { packets = all_shown pool held; next = next; cells = length pool } in l ≡ removing old n)
+kept_links pool held n next old e v =
+    let shows : all_shown pool held ≡ filter (λ p. not (p.number == n)) (all_shown pool held) =
+    ap (λ (l : List Held). all_shown pool l) (sym e) ∙ sym (others_shown pool held n) in
+    subst (λ (o : Links). (let l : Links = record { packets = all_shown pool held; next = next; cells = length pool } in l ≡ removing o n)) v
+    (ap (λ (ps : List Packet). let l : Links = record { packets = ps; next = next; cells = length pool } in l) shows)
 
 pub copy_answer : (o : Option Packet) (p : Packet) (d : Delivery) (X : Type 0) → o ≡ Some p → d ≡ delivery_of p
     → MatchOption o X (λ q. IsOkAnd (let r : Result Delivery NoSuchPacket = Ok d in r) (λ e. e ≡ delivery_of q))

@@ -1,4 +1,9 @@
-pub mod Shown
-pub mod Steps
-pub mod Finds
-pub mod Sends
+mod Places
+mod Tables
+mod Lists
+mod Shown
+mod Steps
+mod Indexes
+mod Finds
+mod Sends
+mod Crowds

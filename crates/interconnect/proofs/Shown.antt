@@ -1,18 +1,13 @@
-use Rattle.std.proofs.Common.{◌≡◌, ℕ, suc, zero, ◌+◌, ◌<◌, ◌≤◌, ◌++◌, ◌==◌, not, true, false, ◌≢◌, List, [], ◌∷◌, Option, Some, None, IsSome, length, map, filter, get_or, set, remove, refl, sym, ap, ◌∙◌, subst, arith}
+use Rattle.std.proofs.Common.{◌≡◌, ℕ, suc, zero, ◌+◌, ◌<◌, ◌≤◌, ◌++◌, ◌==◌, not, true, false, ◌≢◌, List, [], ◌∷◌, Option, Some, None, IsSome, length, Bool, cond, get_or, set, remove, refl, sym, ap, ◌∙◌, subst, arith}
 use Rattle.std.specs.List.{sum_by}
 use Rattle.std.proofs.lemmas.List.Sums.{sum_by-cons}
 use Rattle.std.proofs.lemmas.List.{get_or-set_other}
-use Rattle.std.proofs.lemmas.Bool.Decides.{nat_tests}
+use Rattle.std.proofs.lemmas.Bool.{eqb-true}
 use Rattle.cell_pool.specs.Cells.{cells_for, IsInUse, bytes_of}
-use Rattle.interconnect.specs.declared.flight.Held.{Held}
-use Rattle.interconnect.specs.Links.{Packet, cells_of, packet_of}
+use Rattle.interconnect.specs.declared.by_number.Held.{Held}
+use Rattle.interconnect.specs.Links.{cells_of}
+use Rattle.interconnect.proofs.Places.{test_same, test_other, others, named}
 use Rattle.interconnect.specs.Flights.{shown, all_shown, IsRising, LacksChain, IsApart}
-
-pub test_same : (a b : ℕ) → a ≡ b → (a == b) ≡ true
-test_same a b e = grind (arith, nat_tests)
-
-pub test_other : (a b : ℕ) → a ≢ b → (a == b) ≡ false
-test_other a b e = grind (arith, nat_tests)
 
 -- numbers that rise are at least the first
 pub low_at : (low next : ℕ) (held : List Held) (i : ℕ) (h : Held) → IsRising low held next → i < length held → h ≡ get_or held i h → low ≤ h.number
@@ -29,67 +24,62 @@ pub rising_lower : (low base next : ℕ) (held : List Held) → base ≤ low →
 rising_lower low base next [] b r = omega arith
 rising_lower low base next (x ∷ rest) b r = (let m = r.0 in omega arith, r.1)
 
-pub low_number : (low next : ℕ) (held : List Held) (i : ℕ) → IsRising low held next → i < length held → low ≤ get_or (map (λ h. h.number) held) i 0
-low_number low next [] i r l = absurd (omega arith)
-low_number low next (x ∷ rest) zero r l = r.0
-low_number low next (x ∷ rest) (suc i) r l =
-    let m = r.0 in let k = low_number (x.number + 1) next rest i r.1 (omega arith) in omega arith
+-- the packet of a number has a place
+pub record HasPlace (held : List Held) (n : ℕ) (h : Held) : Type 0 where
+  pub place : ℕ
+  pub low : place < length held
+  pub is : h ≡ get_or held place h
+  pub at : h.number ≡ n
 
-pub rising_pairs : (low next : ℕ) (held : List Held) (i k : ℕ) → IsRising low held next → i < k → k < length held
-    → get_or (map (λ h. h.number) held) i 0 < get_or (map (λ h. h.number) held) k 0
-rising_pairs low next [] i k r a b = absurd (omega arith)
-rising_pairs low next (x ∷ rest) i zero r a b = absurd (omega arith)
-rising_pairs low next (x ∷ rest) zero (suc k) r a b = let m = low_number (x.number + 1) next rest k r.1 (omega arith) in omega arith
-rising_pairs low next (x ∷ rest) (suc i) (suc k) r a b = rising_pairs (x.number + 1) next rest i k r.1 (omega arith) (omega arith)
+place_in : (b : Bool) (x : Held) (rest : List Held) (n : ℕ) (h : Held) → (x.number == n) ≡ b → cond b (Some x) (named n rest) ≡ Some h
+    → (named n rest ≡ Some h → HasPlace rest n h) → HasPlace (x ∷ rest) n h
+place_in true x rest n h t e k =
+    let same : x ≡ h = cc in
+    record { place = 0; low = omega arith; is = sym same; at = ap (λ (v : Held). v.number) (sym same) ∙ eqb-true x.number n t }
+place_in false x rest n h t e k =
+    let found = k e in let low = found.low in
+    record { place = suc found.place; low = omega arith; is = found.is; at = found.at }
 
--- the packet of a number is the one at its place
-pub found_at : (pool : List (Option (List ℕ))) (low next : ℕ) (held : List Held) (i : ℕ) (h : Held) → IsRising low held next → i < length held
-    → h ≡ get_or held i h → packet_of (all_shown pool held) h.number ≡ Some (shown pool h)
-found_at pool low next [] i h r l e = absurd (omega arith)
-found_at pool low next (x ∷ rest) zero h r l e =
-    let t : (x.number == h.number) ≡ true = test_same x.number h.number (sym (ap (λ (v : Held). v.number) e)) in
-    rw t (ap (λ (v : Held). Some (shown pool v)) (sym e))
-found_at pool low next (x ∷ rest) (suc i) h r l e =
-    let k = low_at (x.number + 1) next rest i h r.1 (omega arith) e in
-    let t : (x.number == h.number) ≡ false = test_other x.number h.number (λ (s : x.number ≡ h.number). omega arith) in
-    rw t (found_at pool (x.number + 1) next rest i h r.1 (omega arith) e)
+no_held : (h : Held) → (let o : Option Held = None in o ≡ Some h) → ⊥
+no_held h e = cc
 
-pub found_none : (pool : List (Option (List ℕ))) (held : List Held) (n : ℕ)
-    → ((k : ℕ) → k < length held → get_or (map (λ h. h.number) held) k 0 ≢ n) → packet_of (all_shown pool held) n ≡ None
-found_none pool [] n none = refl
-found_none pool (x ∷ rest) n none =
-    let t : (x.number == n) ≡ false = test_other x.number n (none 0 (omega arith)) in
-    rw t (found_none pool rest n (λ k l. none (suc k) (omega arith)))
+pub has_place : (held : List Held) (n : ℕ) (h : Held) → named n held ≡ Some h → HasPlace held n h
+has_place [] n h e = absurd (no_held h e)
+has_place (x ∷ rest) n h e = place_in (x.number == n) x rest n h refl e (has_place rest n h)
 
--- no other packet has a number below all
-pub kept_all : (pool : List (Option (List ℕ))) (low next : ℕ) (held : List Held) (n : ℕ) → IsRising low held next → n < low
-    → filter (λ p. not (p.number == n)) (all_shown pool held) ≡ all_shown pool held
-kept_all pool low next [] n r b = refl
-kept_all pool low next (x ∷ rest) n r b =
+-- no packet has a number below all
+others_all : (low next : ℕ) (held : List Held) (n : ℕ) → IsRising low held next → n < low → others n held ≡ held
+others_all low next [] n r b = refl
+others_all low next (x ∷ rest) n r b =
     let m = r.0 in
     let t : (x.number == n) ≡ false = test_other x.number n (λ (s : x.number ≡ n). omega arith) in
-    rw t (ap (λ (l : List Packet). shown pool x ∷ l) (kept_all pool (x.number + 1) next rest n r.1 (omega arith)))
+    rw t (ap (λ (l : List Held). x ∷ l) (others_all (x.number + 1) next rest n r.1 (omega arith)))
+
+some_held : (h : Held) → (let o : Option Held = Some h in o ≡ None) → ⊥
+some_held h e = cc
+
+none_in : (b : Bool) (x : Held) (rest : List Held) (n : ℕ) → cond b (Some x) (named n rest) ≡ None → (named n rest ≡ None → others n rest ≡ rest)
+    → cond (not b) (x ∷ others n rest) (others n rest) ≡ x ∷ rest
+none_in true x rest n e k = absurd (some_held x e)
+none_in false x rest n e k = ap (λ (l : List Held). x ∷ l) (k e)
+
+-- where there is no packet of a number, none is taken away
+pub others_none : (held : List Held) (n : ℕ) → named n held ≡ None → others n held ≡ held
+others_none [] n e = refl
+others_none (x ∷ rest) n e = none_in (x.number == n) x rest n e (others_none rest n)
 
 -- without the packet at a place, by its number
-pub without_at : (pool : List (Option (List ℕ))) (low next : ℕ) (held : List Held) (i : ℕ) (h : Held) → IsRising low held next → i < length held
-    → h ≡ get_or held i h → filter (λ p. not (p.number == h.number)) (all_shown pool held) ≡ all_shown pool (remove held i)
-without_at pool low next [] i h r l e = absurd (omega arith)
-without_at pool low next (x ∷ rest) zero h r l e =
+pub others_remove : (low next : ℕ) (held : List Held) (i : ℕ) (h : Held) → IsRising low held next → i < length held
+    → h ≡ get_or held i h → others h.number held ≡ remove held i
+others_remove low next [] i h r l e = absurd (omega arith)
+others_remove low next (x ∷ rest) zero h r l e =
     let n : h.number ≡ x.number = ap (λ (v : Held). v.number) e in
     let t : (x.number == h.number) ≡ true = test_same x.number h.number (sym n) in
-    rw t (kept_all pool (x.number + 1) next rest h.number r.1 (omega arith))
-without_at pool low next (x ∷ rest) (suc i) h r l e =
+    rw t (others_all (x.number + 1) next rest h.number r.1 (omega arith))
+others_remove low next (x ∷ rest) (suc i) h r l e =
     let k = low_at (x.number + 1) next rest i h r.1 (omega arith) e in
     let t : (x.number == h.number) ≡ false = test_other x.number h.number (λ (s : x.number ≡ h.number). omega arith) in
-    rw t (ap (λ (q : List Packet). shown pool x ∷ q) (without_at pool (x.number + 1) next rest i h r.1 (omega arith) e))
-
-pub without_none : (pool : List (Option (List ℕ))) (held : List Held) (n : ℕ)
-    → ((k : ℕ) → k < length held → get_or (map (λ h. h.number) held) k 0 ≢ n)
-    → filter (λ p. not (p.number == n)) (all_shown pool held) ≡ all_shown pool held
-without_none pool [] n none = refl
-without_none pool (x ∷ rest) n none =
-    let t : (x.number == n) ≡ false = test_other x.number n (none 0 (omega arith)) in
-    rw t (ap (λ (q : List Packet). shown pool x ∷ q) (without_none pool rest n (λ k l. none (suc k) (omega arith))))
+    rw t (ap (λ (q : List Held). x ∷ q) (others_remove (x.number + 1) next rest i h r.1 (omega arith) e))
 
 pub rising_remove : (low next : ℕ) (held : List Held) (i : ℕ) → IsRising low held next → IsRising low (remove held i) next
 rising_remove low next [] zero r = r

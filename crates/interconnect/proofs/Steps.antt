@@ -1,13 +1,12 @@
-use Rattle.std.proofs.Common.{◌≡◌, ℕ, suc, zero, ◌+◌, ◌-◌, ◌<◌, ◌≤◌, ◌++◌, ◌==◌, ◌&&◌, not, cond, true, false, Bool, List, [], ◌∷◌, Option, Some, None, IsSome, unwrap_or, length, filter, get_or, set, remove, refl, sym, ap, ◌∙◌, arith, length-set}
-use Rattle.std.specs.List.{find, sum_by, count_by}
-use Rattle.std.specs.Option.{option_map}
+use Rattle.std.proofs.Common.{◌≡◌, ℕ, suc, zero, ◌+◌, ◌-◌, ◌<◌, ◌≤◌, ◌++◌, true, false, List, [], ◌∷◌, Option, Some, None, IsSome, unwrap_or, length, get_or, set, remove, replicate, refl, ap, ◌∙◌, arith, length-set}
+use Rattle.std.specs.List.{sum_by}
 use Rattle.std.proofs.lemmas.List.Sums.{sum_by-cons, sum_by_push, sum_by-set}
-use Rattle.std.proofs.lemmas.List.{get_or-set_same, map_push}
+use Rattle.std.proofs.lemmas.List.{get_or-set_same, map_push, length-replicate}
 use Rattle.cell_pool.specs.Cells.{cells_for, cells_at, used_cells, free_cells, bytes_of}
-use Rattle.interconnect.specs.declared.flight.Held.{Held}
-use Rattle.interconnect.specs.Links.{Packet, cells_of, packet_of, is_on}
+use Rattle.interconnect.specs.declared.by_number.Held.{Held}
+use Rattle.interconnect.specs.Links.{Packet, cells_of}
 use Rattle.interconnect.specs.Flights.{shown, all_shown, LacksChain, IsSound}
-use Rattle.interconnect.proofs.Shown.{rising_push, rising_next, rising_remove, apart_push, apart_frame, apart_remove, unused_lacks, shown_frame, own_at, cells_remove, without_at, found_at}
+use Rattle.interconnect.proofs.Shown.{rising_push, rising_next, rising_remove, apart_push, apart_frame, apart_remove, unused_lacks, shown_frame, own_at, cells_remove}
 
 pub sound_refused : (pool : List (Option (List ℕ))) (held : List Held) (room next : ℕ) → IsSound pool held room next → IsSound pool held room (next + 1)
 sound_refused pool held room next s =
@@ -80,40 +79,16 @@ sound_removed pool new held i h room room' next s l e is more =
       enough = omega (arith, length-set pool h.chain None);
     })
 
-pub removed_view : (pool new : List (Option (List ℕ))) (held : List Held) (i n : ℕ) (h : Held) (room next : ℕ)
-    → IsSound pool held room next → i < length held → h ≡ get_or held i h → h.number ≡ n → new ≡ set pool h.chain None
-    → all_shown new (remove held i) ≡ filter (λ p. not (p.number == n)) (all_shown pool held)
-removed_view pool new held i n h room next s l e at is =
-    let own = own_at pool held i h s.apart l e in
-    let rest : all_shown new (remove held i) ≡ all_shown pool (remove held i) = rw is (shown_frame pool h.chain None (remove held i) own.alone) in
-    let gone : all_shown pool (remove held i) ≡ filter (λ p. not (p.number == h.number)) (all_shown pool held) = sym (without_at pool 1 next held i h s.rising l e) in
-    rest ∙ gone ∙ ap (λ (m : ℕ). filter (λ (p : Packet). not (p.number == m)) (all_shown pool held)) at
-
--- the packet that a place shows
-pub found_view : (pool : List (Option (List ℕ))) (held : List Held) (i n : ℕ) (h : Held) (room next : ℕ)
-    → IsSound pool held room next → i < length held → h ≡ get_or held i h → h.number ≡ n → packet_of (all_shown pool held) n ≡ Some (shown pool h)
-found_view pool held i n h room next s l e at =
-    ap (λ (m : ℕ). packet_of (all_shown pool held) m) (sym at) ∙ found_at pool 1 next held i h s.rising l e
-
 -- free cells, by the packets and by the pool
 pub free_same : (pool : List (Option (List ℕ))) (held : List Held) (room next : ℕ) → IsSound pool held room next
     → length pool - sum_by cells_of (all_shown pool held) ≡ free_cells pool
 free_same pool held room next s = let u = s.used in omega arith
 
-pub oldest_view : (pool : List (Option (List ℕ))) (held : List Held) (from to : ℕ)
-    → option_map (λ h. h.number) (find (λ h. (h.from == from) && (h.to == to)) held) ≡ option_map (λ p. p.number) (find (is_on from to) (all_shown pool held))
-oldest_view pool [] from to = refl
-oldest_view pool (x ∷ rest) from to =
-    elim ((x.from == from) && (x.to == to)) as (λ (b : Bool). option_map (λ h. h.number) (cond b (Some x) (find (λ h. (h.from == from) && (h.to == to)) rest))
-    ≡ option_map (λ p. p.number) (cond b (Some (shown pool x)) (find (is_on from to) (all_shown pool rest)))) [
-      | true ↦ refl
-      | false ↦ oldest_view pool rest from to
-    ]
+-- no packet at first
 
-pub count_view : (pool : List (Option (List ℕ))) (held : List Held) (from to : ℕ)
-    → count_by (λ h. (h.from == from) && (h.to == to)) held ≡ count_by (is_on from to) (all_shown pool held)
-count_view pool [] from to = refl
-count_view pool (x ∷ rest) from to =
-    sum_by-cons (λ (h : Held). cond ((h.from == from) && (h.to == to)) 1 0) x rest
-    ∙ ap (λ (n : ℕ). cond ((x.from == from) && (x.to == to)) 1 0 + n) (count_view pool rest from to)
-    ∙ sym (sum_by-cons (λ (p : Packet). cond (is_on from to p) 1 0) (shown pool x) (all_shown pool rest))
+pub used_none : (n : ℕ) → used_cells (replicate n None) ≡ 0
+used_none zero = refl
+used_none (suc n) = sum_by-cons cells_at None (replicate n None) ∙ (let e : 0 + used_cells (replicate n None) ≡ 0 = omega (arith, used_none n) in e)
+
+pub sound_none : (n : ℕ) → IsSound (replicate n None) [] n 1
+sound_none n = record { rising = omega arith; apart = tt; used = used_none n; enough = omega (arith, length-replicate n (let o : Option (List ℕ) = None in o)) }

@@ -1,8 +1,10 @@
 -- How the packets in flight stand in the pool: each has a chain of its own there.
 use Rattle.std.specs.Prelude.{ℕ, ◌+◌, ◌≤◌, ◌≡◌, ◌≢◌, List, [], ◌∷◌, Option, length, map, sum_by}
 use Rattle.cell_pool.specs.Cells.{IsInUse, bytes_of, used_cells}
-use Rattle.interconnect.specs.declared.flight.Held.{Held}
-use Rattle.interconnect.specs.Links.{Packet, cells_of}
+use Rattle.interconnect.specs.declared.by_number.Held.{Held}
+use Rattle.interconnect.specs.Links.{Packet, cells_of, count_on}
+use Rattle.interconnect.specs.Numbers.{IsIndex}
+use Rattle.interconnect.specs.Places.{Numbered}
 
 -- the packet with its bytes
 abbrev pub shown : List (Option (List ℕ)) → Held → Packet
@@ -34,3 +36,12 @@ pub record IsSound (pool : List (Option (List ℕ))) (held : List Held) (room ne
   pub apart : IsApart pool held
   pub used : used_cells pool ≡ sum_by cells_of (all_shown pool held)
   pub enough : length pool ≤ room
+
+-- the packets fit the pool, and the table of the links has their numbers
+pub record IsWhole (pool : List (Option (List ℕ))) (packets : Numbered) (links : List (List ℕ)) : Type 0 where
+  pub sound : IsSound pool packets.held packets.most packets.next
+  pub index : IsIndex links packets.held
+
+-- no link has more than 64 packets
+abbrev pub IsUncrowded : List Packet → Type 0
+IsUncrowded packets = (from to : ℕ) → count_on packets from to ≤ 64

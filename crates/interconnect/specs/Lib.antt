@@ -1,2 +1,4 @@
 pub mod Links
 pub mod Flights
+pub mod Numbers
+pub mod Places

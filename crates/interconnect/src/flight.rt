@@ -1,11 +1,11 @@
-ghost use Rattle.std.specs.Prelude.{◌≡◌, ◌≢◌, ◌==◌, ◌&&◌, ℕ, ◌+◌, ◌*◌, ◌^◌, ◌<◌, ◌≤◌, ◌++◌, [], length, drop, map, not, nat_lt, if◌then◌else◌, replicate, slice_index, slice_index_or, IfSome, IfNone, IfOk, IsOk, IsErr, IsOkAnd, MatchOption};
-ghost use Rattle.std.specs.List.{find, count_by};
-ghost use Rattle.std.specs.Option.{option_map};
+ghost use Rattle.std.specs.Prelude.{◌≡◌, ◌+◌, ◌^◌, ◌<◌, ◌≤◌, [], length, not, nat_lt, if◌then◌else◌, IfOk, IsOk, IsErr, IsOkAnd, MatchOption};
 ghost use Rattle.cell_pool.specs.Cells.{cells_for};
-ghost use Rattle.interconnect.specs.Links.{Links, Packet, sending, appending, removing, packet_of, oldest_on, count_on, free_cells_of, delivery_of, copied};
+ghost use Rattle.interconnect.specs.Links.{sending, appending, removing, packet_of, oldest_on, count_on, free_cells_of, delivery_of, copied};
 
+use crate::by_link::ByLink;
+use crate::by_number::ByNumber;
 use crate::packet::{Delivery, DropCause, NoSuchPacket, Sent};
-use cell_pool::{Chain, Pool};
+use cell_pool::Pool;
 use cl_base::NodeId;
 use std::alloc::{AllocError, Global};
 use std::marker::Model;
@@ -13,37 +13,25 @@ use std::marker::Model;
 /// The most packets that a link holds.
 const LINK: u64 = 64;
 
-/// A packet in flight. Its bytes stand in the pool.
-#[derive(Drop)]
-pub(crate) struct Held {
-    number: u64,
-    from: NodeId,
-    to: NodeId,
-    chain: Chain,
-}
-
-/// The packets in flight, in the order of their numbers.
-///
-/// A packet is found by halving the list. The oldest of a link, and how many it has, are found by
-/// going along the list, and a packet that leaves moves those after it up by one place.
+/// The packets in flight: their bytes in a pool, themselves by number, and their numbers by link.
 #[derive(Drop)]
 pub(crate) struct Flight {
     pool: Pool,
-    packets: Vec<Held>,
-    next: u64,
+    packets: ByNumber,
+    links: ByLink,
 }
 
 impl Model for Flight {
-    ghost use Rattle.std.specs.Prelude.{length, vec_capacity};
+    ghost use Rattle.std.specs.Prelude.{length};
     ghost use Rattle.interconnect.specs.Links.{Links};
 
     ghost Value = { Links };
 
-    ghost use Rattle.interconnect.specs.Flights.{all_shown, IsSound};
+    ghost use Rattle.interconnect.specs.Flights.{all_shown, IsWhole};
 
-    ghost view = { λ f. record { packets = all_shown f.pool f.packets.items; next = f.next; cells = length f.pool } };
+    ghost view = { λ f. record { packets = all_shown f.pool f.packets.held; next = f.packets.next; cells = length f.pool } };
 
-    ghost invariant = { λ f. IsSound f.pool f.packets.items f.packets.cap f.next };
+    ghost invariant = { λ f. IsWhole f.pool f.packets f.links };
 }
 
 impl Flight {
@@ -52,11 +40,12 @@ impl Flight {
         ensures { IfOk result (λ f. f ≡ record { packets = []; next = 1; cells = cells }) }
     {
         let pool = Pool::with_cells(alloc, cells)?;
-        let packets = Vec::with_capacity(alloc, cells as usize)?;
+        let packets = ByNumber::new(alloc, cells)?;
+        let links = ByLink::new(alloc)?;
         Ok(Flight {
             pool,
             packets,
-            next: 1,
+            links,
         })
     }
 
@@ -64,22 +53,16 @@ impl Flight {
     fn append(&mut self, from: NodeId, to: NodeId, bytes: &[u8]) -> bool
         requires number { self.old.next < 2 ^ 63 }
         requires size { length bytes.now ≤ 131072 }
+        requires room { count_on self.old.packets from to ≤ 64 }
         ensures exactly { result ≡ not (nat_lt (free_cells_of self.old) (cells_for (length bytes.now))) }
         ensures after { self.new ≡ (if result then appending self.old from to bytes.now else record self.old { next = self.old.next + 1 }) }
     {
-        let number = self.next;
-        self.next = number + 1;
         let Some(chain) = self.pool.put(bytes) else {
+            self.packets.skip();
             return false;
         };
-        self.packets
-            .push(Held {
-                number,
-                from,
-                to,
-                chain,
-            })
-            .unwrap();
+        let number = self.packets.push(from, to, chain);
+        self.links.push(from, to, number);
         true
     }
 
@@ -87,10 +70,11 @@ impl Flight {
     pub(crate) fn send(&mut self, from: NodeId, to: NodeId, bytes: &[u8]) -> Sent
         requires number { self.old.next < 2 ^ 63 }
         requires size { length bytes.now ≤ 131072 }
+        requires room { count_on self.old.packets from to ≤ 64 }
         ensures after { self.new ≡ (sending self.old from to bytes.now).after }
         ensures sent { result ≡ (sending self.old from to bytes.now).sent }
     {
-        let number = self.next;
+        let number = self.packets.next();
         if !self.append(from, to, bytes) {
             return Sent {
                 number: None,
@@ -122,10 +106,9 @@ impl Flight {
         ensures answer { MatchOption (packet_of self.now.packets number) (IsErr result) (λ p. IsOkAnd result (λ d. d ≡ delivery_of p)) }
         ensures bytes { out.new ≡ copied (packet_of self.now.packets number) out.old }
     {
-        let Some(place) = place_of(&self.packets, number) else {
+        let Some(held) = self.packets.find(number) else {
             return Err(NoSuchPacket);
         };
-        let held = &self.packets[place];
         let length = self.pool.read(&held.chain, out);
         Ok(Delivery {
             from: held.from,
@@ -139,10 +122,10 @@ impl Flight {
         ensures answer { MatchOption (packet_of self.old.packets number) (IsErr result) (λ _. IsOk result) }
         ensures after { self.new ≡ removing self.old number }
     {
-        let Some(place) = place_of(&self.packets, number) else {
+        let Some(held) = self.packets.remove(number) else {
             return Err(NoSuchPacket);
         };
-        let held = self.packets.remove(place);
+        self.links.remove(held.from, held.to, number);
         self.pool.give_back(held.chain);
         Ok(())
     }
@@ -151,56 +134,13 @@ impl Flight {
     pub(crate) fn oldest(&self, from: NodeId, to: NodeId) -> Option<u64>
         ensures { result ≡ oldest_on self.now.packets from to }
     {
-        first_on(&self.packets, from, to)
+        self.links.oldest(from, to)
     }
 
     /// How many packets are on a link.
     pub(crate) fn in_flight(&self, from: NodeId, to: NodeId) -> u64
         ensures { result ≡ count_on self.now.packets from to }
     {
-        size_on(&self.packets, from, to)
+        self.links.count(from, to)
     }
-}
-
-/// The number of the first packet on a link.
-fn first_on(packets: &[Held], from: NodeId, to: NodeId) -> Option<u64>
-    ensures { result ≡ option_map (λ h. h.number) (find (λ h. (h.from == from) && (h.to == to)) packets.now) }
-{
-    packets
-        .iter()
-        .find(|h| h.from == from && h.to == to)
-        .map(|h| h.number)
-}
-
-/// How many packets are on a link.
-fn size_on(packets: &[Held], from: NodeId, to: NodeId) -> u64
-    ensures { result ≡ count_by (λ h. (h.from == from) && (h.to == to)) packets.now }
-{
-    packets
-        .iter()
-        .filter(|h| h.from == from && h.to == to)
-        .count() as u64
-}
-
-/// The place of a packet in the list, which is in the order of the numbers.
-fn place_of(packets: &[Held], number: u64) -> Option<usize>
-    requires { (i k : ℕ) → i < k → k < length packets.now → slice_index (map (λ h. h.number) packets.now) i < slice_index (map (λ h. h.number) packets.now) k }
-    ensures found { IfSome result (λ i. (i < length packets.now) × (slice_index (map (λ h. h.number) packets.now) i ≡ number)) }
-    ensures none { IfNone result ((k : ℕ) → k < length packets.now → slice_index (map (λ h. h.number) packets.now) k ≢ number) }
-{
-    let mut low = 0;
-    let mut high = packets.len();
-    while low < high {
-        let middle = low + (high - low) / 2;
-        let here = packets[middle].number;
-        if here == number {
-            return Some(middle);
-        }
-        if here < number {
-            low = middle + 1;
-        } else {
-            high = middle;
-        }
-    }
-    None
 }

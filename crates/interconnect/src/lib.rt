@@ -4,6 +4,8 @@
 
 #![tactic(auto)]
 
+mod by_link;
+mod by_number;
 mod flight;
 mod net;
 mod packet;

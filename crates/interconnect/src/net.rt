@@ -12,6 +12,10 @@ const MOST: usize = 131_072;
 
 /// The links of all nodes. In contracts it is the list of the packets in flight, with the number of
 /// the next packet and the number of cells.
+///
+/// A call takes a number of steps that one link bounds, with the cells of the packet at hand. How
+/// many packets are in flight counts only where one is looked for by its number: by halving, twice,
+/// a list of at most twice as many places as there are cells.
 #[derive(Drop)]
 pub struct Net {
     flight: Flight,
@@ -26,12 +30,15 @@ impl Model for Net {
 
     ghost view = { λ n. n.flight };
 
-    ghost invariant = { λ n. length n.buffer.items ≡ 131072 };
+    ghost use Rattle.interconnect.specs.Flights.{IsUncrowded};
+
+    ghost invariant = { λ n. (length n.buffer.items ≡ 131072) × IsUncrowded n.flight.packets };
 }
 
 impl Net {
     /// Links without a packet, over a pool of so many cells of 256 bytes. It takes all memory that
-    /// they ever need.
+    /// they ever need: beside the pool four places of 40 bytes for each cell, 65 numbers for each of
+    /// 1,024 links, and room for one packet. Its steps are as many as there are cells and links.
     pub fn new(alloc: Global, cells: u64) -> Result<Net, AllocError>
         ensures { IfOk result (λ net. net ≡ record { packets = []; next = 1; cells = cells }) }
     {
@@ -43,7 +50,8 @@ impl Net {
     /// Sends a packet of at most 131,072 bytes.
     ///
     /// It takes the next number. Where too few cells are free it is dropped, and was never in
-    /// flight; else a link that now has more than 64 packets drops its oldest.
+    /// flight; else a link that now has more than 64 packets drops its oldest. Its steps: the cells
+    /// of the packet, three places swept, and for a packet that is dropped what its loss takes.
     pub fn send(&mut self, from: NodeId, to: NodeId, bytes: &[u8]) -> Sent
         requires number { self.old.next < 2 ^ 63 }
         requires size { length bytes.now ≤ 131072 }
@@ -55,7 +63,8 @@ impl Net {
     }
 
     /// Delivers a packet: its bytes are copied to the front of `out`, and it is no longer in flight.
-    /// `NoSuchPacket` where none of this number is in flight; then nothing changes.
+    /// `NoSuchPacket` where none of this number is in flight; then nothing changes. Its steps: the
+    /// cells of the packet, the numbers of its link, at most 64, and two searches by halving.
     pub fn deliver(&mut self, number: u64, out: &mut [u8]) -> Result<Delivery, NoSuchPacket>
         requires { 131072 ≤ length out.old }
         ensures answer { MatchOption (packet_of self.old.packets number) (IsErr result) (λ p. IsOkAnd result (λ d. d ≡ delivery_of p)) }
@@ -68,6 +77,7 @@ impl Net {
     }
 
     /// Loses a packet. `NoSuchPacket` where none of this number is in flight; then nothing changes.
+    /// Its steps: the cells of the packet, the numbers of its link, at most 64, and a search by halving.
     pub fn lose(&mut self, number: u64) -> Result<(), NoSuchPacket>
         ensures answer { MatchOption (packet_of self.old.packets number) (IsErr result) (λ _. IsOk result) }
         ensures after { self.new ≡ removing self.old number }
@@ -76,7 +86,7 @@ impl Net {
     }
 
     /// Sends a copy of a packet, as a packet of its own. `NoSuchPacket` where none of this number is
-    /// in flight; then nothing changes.
+    /// in flight; then nothing changes. Its steps: those of a send, and a search by halving.
     pub fn repeat(&mut self, number: u64) -> Result<Sent, NoSuchPacket>
         requires { self.old.next < 2 ^ 63 }
         ensures answer { MatchOption (packet_of self.old.packets number) (IsErr result) (λ p. IsOkAnd result (λ s. s ≡ (sending self.old p.from p.to p.bytes).sent)) }
@@ -87,14 +97,14 @@ impl Net {
         Ok(self.flight.send(found.from, found.to, &self.buffer[..found.length as usize]))
     }
 
-    /// The number of the oldest packet in flight on a link.
+    /// The number of the oldest packet in flight on a link, in one step.
     pub fn oldest(&self, from: NodeId, to: NodeId) -> Option<u64>
         ensures { result ≡ oldest_on self.now.packets from to }
     {
         self.flight.oldest(from, to)
     }
 
-    /// How many packets are in flight on a link.
+    /// How many packets are in flight on a link, in one step.
     pub fn in_flight(&self, from: NodeId, to: NodeId) -> u64
         ensures { result ≡ count_on self.now.packets from to }
     {
@@ -135,6 +145,27 @@ mod tests {
         assert_eq!(rt; (copy.number, copy.dropped), (Some(4), None));
         net.lose(3)?;
         assert_eq!(rt; net.oldest(two, one), Some(4));
+        Ok(())
+    }
+
+    #[test]
+    fn old_packet(rt: HostRuntime) -> Result<(), Fail> {
+        let mut net = Net::new(rt.alloc(), 4)?;
+        let one = NodeId::new(1)?;
+        let two = NodeId::new(2)?;
+        let mut out = vec![in rt.alloc(); 0u8; MOST]?;
+        let _ = net.send(one, two, &[5]);
+        for number in 2..40u64 {
+            let _ = net.send(two, one, &[6]);
+            net.lose(number)?;
+        }
+        assert_eq!(rt;
+            (net.oldest(one, two), net.in_flight(two, one)),
+            (Some(1), 0)
+        );
+        let found = net.deliver(1, &mut out)?;
+        assert_eq!(rt; (found.from, found.to, found.length), (one, two, 1));
+        assert_eq!(rt; (net.oldest(one, two), out[0]), (None, 5));
         Ok(())
     }
 

@@ -1,46 +1,51 @@
-use Rattle.std.proofs.Common.{◌≡◌, ◌∙◌, sym, ap, Some, None, refl}
+use Rattle.std.proofs.Common.{◌≡◌, sym, ap, Some, None, refl}
 use Rattle.interconnect.specs.Links.{Links, packet_of}
 use Rattle.interconnect.specs.Flights.{shown}
-use Rattle.interconnect.proofs.Shown.{own_at}
-use Rattle.interconnect.proofs.Steps.{found_view, sound_removed}
-use Rattle.interconnect.proofs.Finds.{pairs_of, hit, none_view, none_kept, removed_links}
+use Rattle.interconnect.proofs.Shown.{has_place, others_none, own_at}
+use Rattle.interconnect.proofs.Finds.{view_of, sound_without, removed_links, kept_links}
+use Rattle.interconnect.proofs.Indexes.{index_remove}
 use Rattle.interconnect.proofs.flight.Flight.lose.Goals as goal
 
-pub place_of-requires : goal.place_of-requires
-place_of-requires c = pairs_of _ _ _ _ _ c.self.invariant c.deref.ensures.value
+pub invariant_of-self : goal.invariant_of-self
+invariant_of-self c =
+    rw (c.remove.ensures.after, others_none c.self.inside.packets.held c.args.number (sym c.in_default.ensures.found)) c.self.invariant
 
 pub returns-in_default-clause-answer : goal.returns-in_default-clause-answer
 returns-in_default-clause-answer c =
     let none : packet_of c.args.self.now.packets c.args.number ≡ None =
-    none_view c.self.inside.pool c.self.inside.packets.items c.deref.result.now c.args.number c.args.self.now c.deref.ensures.value c.in_default.ensures.none (ap (λ (l : Links). l.packets) c.self.view_is) in
+    view_of c.self.inside.pool c.self.inside.packets.held c.args.number None c.args.self.now (ap (λ (l : Links). l.packets) c.self.view_is) c.in_default.ensures.found in
     rw none refl
 
 pub returns-in_default-clause-after : goal.returns-in_default-clause-after
 returns-in_default-clause-after c =
-    none_kept c.self.inside.pool c.self.inside.packets.items c.deref.result.now c.args.number c.args.self.now c.deref.ensures.value c.in_default.ensures.none (ap (λ (l : Links). l.packets) c.self.view_is)
+    let none = others_none c.self.inside.packets.held c.args.number (sym c.in_default.ensures.found) in
+    rw (c.remove.ensures.after, none)
+    (kept_links c.self.inside.pool c.self.inside.packets.held c.args.number c.self.inside.packets.next c.args.self.now none c.self.view_is)
 
 pub give_back-requires : goal.give_back-requires
 give_back-requires c =
-    let k = hit c.self.inside.packets.items c.deref.result.now c.in-Some.place c.args.number c.remove-held.result c.deref.ensures.value c.in-Some.ensures.found c.remove-held.ensures.value in
-    let own = own_at c.self.inside.pool c.self.inside.packets.items c.in-Some.place c.remove-held.result c.self.invariant.apart k.low c.remove-held.ensures.value in
+    let k = has_place c.self.inside.packets.held c.args.number c.in-Some.held (sym c.in-Some.ensures.found) in
+    let own = own_at c.self.inside.pool c.self.inside.packets.held k.place c.in-Some.held c.self.invariant.sound.apart k.low k.is in
     own.in_use
 
-pub invariant_of-self : goal.invariant_of-self
-invariant_of-self c =
-    let k = hit c.self.inside.packets.items c.deref.result.now c.in-Some.place c.args.number c.remove-held.result c.deref.ensures.value c.in-Some.ensures.found c.remove-held.ensures.value in
-    rw c.remove-held.ensures.items (sound_removed c.self.inside.pool c.give_back.new.self c.self.inside.packets.items c.in-Some.place c.remove-held.result _ _ _
-    c.self.invariant k.low c.remove-held.ensures.value c.give_back.ensures (sym c.remove-held.ensures.capacity))
+pub invariant_of-self-2 : goal.invariant_of-self-2
+invariant_of-self-2 c =
+    let k = has_place c.self.inside.packets.held c.args.number c.in-Some.held (sym c.in-Some.ensures.found) in
+    rw c.remove.ensures.after (record {
+      sound = sound_without c.self.inside.pool c.give_back.new.self c.self.inside.packets.held c.args.number c.in-Some.held c.self.inside.packets.most c.self.inside.packets.next c.self.invariant.sound k c.give_back.ensures;
+      index = index_remove c.self.inside.links c.remove-2.new.self c.self.inside.packets.held c.in-Some.held c.args.number c.self.inside.packets.next c.self.invariant.index c.self.invariant.sound.rising k
+          c.remove-2.ensures.own c.remove-2.ensures.others;
+    })
 
 pub returns-clause-answer : goal.returns-clause-answer
 returns-clause-answer c =
-    let k = hit c.self.inside.packets.items c.deref.result.now c.in-Some.place c.args.number c.remove-held.result c.deref.ensures.value c.in-Some.ensures.found c.remove-held.ensures.value in
-    let is : packet_of c.args.self.now.packets c.args.number ≡ Some (shown c.self.inside.pool c.remove-held.result) =
-    ap (λ (l : Links). packet_of l.packets c.args.number) (sym c.self.view_is)
-    ∙ found_view c.self.inside.pool c.self.inside.packets.items c.in-Some.place c.args.number c.remove-held.result _ _ c.self.invariant k.low c.remove-held.ensures.value k.at in
+    let is : packet_of c.args.self.now.packets c.args.number ≡ Some (shown c.self.inside.pool c.in-Some.held) =
+    view_of c.self.inside.pool c.self.inside.packets.held c.args.number (Some c.in-Some.held) c.args.self.now (ap (λ (l : Links). l.packets) c.self.view_is) c.in-Some.ensures.found in
     rw is refl
 
 pub returns-clause-after : goal.returns-clause-after
 returns-clause-after c =
-    let k = hit c.self.inside.packets.items c.deref.result.now c.in-Some.place c.args.number c.remove-held.result c.deref.ensures.value c.in-Some.ensures.found c.remove-held.ensures.value in
-    removed_links c.self.inside.pool c.give_back.new.self c.self.inside.packets.items c.remove-held.new.self.items c.in-Some.place c.args.number c.remove-held.result _ _ c.args.self.now
-    c.self.invariant k.low c.remove-held.ensures.value k.at c.give_back.ensures c.remove-held.ensures.items c.self.view_is
+    let k = has_place c.self.inside.packets.held c.args.number c.in-Some.held (sym c.in-Some.ensures.found) in
+    rw c.remove.ensures.after
+    (removed_links c.self.inside.pool c.give_back.new.self c.self.inside.packets.held c.args.number c.in-Some.held c.self.inside.packets.most c.self.inside.packets.next c.args.self.now c.self.invariant.sound k c.give_back.ensures
+    c.self.view_is)

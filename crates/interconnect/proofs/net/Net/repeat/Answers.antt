@@ -1,6 +1,7 @@
 use Rattle.std.proofs.Common.{◌≡◌, ◌+◌, ◌∙◌, ℕ, List, ap, arith, length, take}
 use Rattle.interconnect.specs.Links.{Links, packet_of}
 use Rattle.interconnect.proofs.Sends.{sending_next, copied_found, repeat_answer_at, repeat_after_at, written}
+use Rattle.interconnect.proofs.Crowds.{sending_uncrowded}
 use Rattle.interconnect.proofs.net.Net.repeat.Goals as goal
 
 pub returns-clause-answer : goal.returns-clause-answer
@@ -32,3 +33,13 @@ returns-clause-next c =
     ∙ sending_next c.self.inside.flight c.in_ok-found.found.from c.in_ok-found.found.to (take c.in_ok-found.found.length c.deref.result.now)
     ∙ ap (λ (l : Links). l.next + 1) c.self.view_is in
     omega arith
+
+pub invariant_of-self-2 : goal.invariant_of-self-2
+invariant_of-self-2 c =
+    let k = c.self.invariant in
+    let was : length c.deref_mut.result.now ≡ length c.self.inside.buffer.items = ap (λ (l : List ℕ). length l) c.deref_mut.ensures.value in
+    let size : length c.copy.new.out ≡ length c.self.inside.buffer.items = omega (arith, c.copy.auto.out) in (
+      ap (λ (l : List ℕ). length l) (written c.self.inside.buffer.len c.self.inside.buffer.items c.copy.new.out c.self.inside.buffer.ok.0 size) ∙ size ∙ k.0,
+      rw c.send.ensures.after
+          (sending_uncrowded c.self.inside.flight c.in_ok-found.found.from c.in_ok-found.found.to (take c.in_ok-found.found.length c.deref.result.now) k.1),
+    )

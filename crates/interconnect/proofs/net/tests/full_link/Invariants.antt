@@ -1,4 +1,4 @@
-use Rattle.std.proofs.Common.{◌≡◌, ℕ, ◌+◌}
+use Rattle.std.proofs.Common.{◌≡◌, ◌+◌}
 use Rattle.interconnect.proofs.net.tests.full_link.Given as goal
 
 abbrev pub invariant-loop : goal.invariant-loop

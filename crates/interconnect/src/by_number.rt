@@ -1,0 +1,174 @@
+ghost use Rattle.std.specs.Prelude.{◌≡◌, ◌≢◌, ◌==◌, ℕ, ◌+◌, ◌^◌, ◌<◌, ◌≤◌, ◌++◌, ◌∷◌, [], length, filter, find, map, not, slice_index, IfSome, IfNone, IfOk};
+ghost use Rattle.std.specs.Option.{option_copied};
+ghost use Rattle.std.specs.VecDeque.{deque_len, deque_capacity};
+ghost use Rattle.interconnect.specs.Places.{sweeping};
+
+use cell_pool::Chain;
+use cl_base::NodeId;
+use std::alloc::{AllocError, Global};
+use std::collections::VecDeque;
+use std::marker::Model;
+use std::mem;
+
+/// A packet in flight. Its bytes stand in the pool.
+#[derive(Drop)]
+pub(crate) struct Held {
+    pub(crate) number: u64,
+    pub(crate) from: NodeId,
+    pub(crate) to: NodeId,
+    pub(crate) chain: Chain,
+}
+
+/// A place for the packet of a number. It is empty once the packet has left.
+#[derive(Drop)]
+struct Place {
+    number: u64,
+    held: Option<Held>,
+}
+
+/// The packets in flight in the order of their numbers, to be found by number.
+///
+/// They stand in places, first the swept, then the unswept. A packet is found by halving, and one
+/// that leaves only empties its place, so that no other moves. Each packet that comes sweeps three
+/// places, lest empty ones pile up: a place with a packet goes over to the swept, an empty one is
+/// given up, and when all are swept they are the unswept again. With three for one, each list keeps
+/// within `2 * most + 2` places while at most `most` packets are in flight.
+#[derive(Drop)]
+pub(crate) struct ByNumber {
+    swept: VecDeque<Place>,
+    unswept: VecDeque<Place>,
+    next: u64,
+    most: usize,
+}
+
+impl Model for ByNumber {
+    ghost use Rattle.std.specs.Prelude.{◌++◌};
+    ghost use Rattle.interconnect.specs.Places.{Numbered};
+
+    ghost Value = { Numbered };
+
+    ghost use Rattle.std.specs.VecDeque.{deque_capacity};
+    ghost use Rattle.interconnect.specs.Places.{live, IsKept};
+
+    ghost view = { λ b. record { held = live (b.swept.items ++ b.unswept.items); next = b.next; most = b.most } };
+
+    ghost invariant = { λ b. IsKept b.swept.items b.unswept.items (deque_capacity b.swept) (deque_capacity b.unswept) b.most b.next };
+}
+
+impl ByNumber {
+    /// No packet, and room for so many.
+    pub(crate) fn new(alloc: Global, most: u64) -> Result<ByNumber, AllocError>
+        ensures { IfOk result (λ b. b ≡ record { held = []; next = 1; most = most }) }
+    {
+        let most = most as usize;
+        let places = most.saturating_mul(2).saturating_add(2);
+        let swept = VecDeque::with_capacity(alloc, places)?;
+        let unswept = VecDeque::with_capacity(alloc, places)?;
+        Ok(ByNumber {
+            swept,
+            unswept,
+            next: 1,
+            most,
+        })
+    }
+
+    /// The number of the next packet.
+    pub(crate) fn next(&self) -> u64
+        ensures { result ≡ self.now.next }
+    {
+        self.next
+    }
+
+    /// Uses up a number.
+    pub(crate) fn skip(&mut self)
+        requires { self.old.next < 2 ^ 63 }
+        ensures { self.new ≡ record self.old { next = self.old.next + 1 } }
+    {
+        self.next += 1;
+    }
+
+    /// Gives a packet the next number, and tells it. Three places are swept.
+    pub(crate) fn push(&mut self, from: NodeId, to: NodeId, chain: Chain) -> u64
+        requires number { self.old.next < 2 ^ 63 }
+        requires room { length self.old.held < self.old.most }
+        ensures number { result ≡ self.old.next }
+        ensures after { self.new ≡ record self.old { held = self.old.held ++ (record { number = self.old.next; from = from; to = to; chain = chain }) ∷ []; next = self.old.next + 1 } }
+    {
+        let number = self.next;
+        self.next = number + 1;
+        let held = Some(Held {
+            number,
+            from,
+            to,
+            chain,
+        });
+        self.unswept.push_back_reserved(Place { number, held });
+        sweep(&mut self.swept, &mut self.unswept);
+        sweep(&mut self.swept, &mut self.unswept);
+        sweep(&mut self.swept, &mut self.unswept);
+        number
+    }
+
+    /// The packet of a number.
+    pub(crate) fn find(&self, number: u64) -> Option<&Held>
+        ensures { option_copied result ≡ find (λ h. h.number == number) self.now.held }
+    {
+        if let Some(place) = place_of(&self.swept, number) {
+            return self.swept[place].held.as_ref();
+        }
+        let place = place_of(&self.unswept, number)?;
+        self.unswept[place].held.as_ref()
+    }
+
+    /// Takes the packet of a number out.
+    pub(crate) fn remove(&mut self, number: u64) -> Option<Held>
+        ensures found { result ≡ find (λ h. h.number == number) self.old.held }
+        ensures after { self.new ≡ record self.old { held = filter (λ h. not (h.number == number)) self.old.held } }
+    {
+        if let Some(place) = place_of(&self.swept, number) {
+            return self.swept[place].held.take();
+        }
+        let place = place_of(&self.unswept, number)?;
+        self.unswept[place].held.take()
+    }
+}
+
+/// Sweeps one place, or begins anew where all are swept.
+fn sweep(swept: &mut VecDeque<Place>, unswept: &mut VecDeque<Place>)
+    requires { deque_len swept.old < deque_capacity swept.old }
+    ensures swept { swept.new.items ≡ (sweeping swept.old.items unswept.old.items).swept }
+    ensures unswept { unswept.new.items ≡ (sweeping swept.old.items unswept.old.items).unswept }
+    ensures room { (n : ℕ) → n ≤ deque_capacity swept.old → n ≤ deque_capacity unswept.old → n ≤ deque_capacity swept.new }
+    ensures room_behind { (n : ℕ) → n ≤ deque_capacity swept.old → n ≤ deque_capacity unswept.old → n ≤ deque_capacity unswept.new }
+{
+    let Some(place) = unswept.pop_front() else {
+        mem::swap(swept, unswept);
+        return;
+    };
+    if place.held.is_some() {
+        swept.push_back_reserved(place);
+    }
+}
+
+/// Where the place of a number is in a list, which is in the order of the numbers.
+fn place_of(places: &VecDeque<Place>, number: u64) -> Option<usize>
+    requires { (i k : ℕ) → i < k → k < length places.now.items → slice_index (map (λ p. p.number) places.now.items) i < slice_index (map (λ p. p.number) places.now.items) k }
+    ensures found { IfSome result (λ i. (i < length places.now.items) × (slice_index (map (λ p. p.number) places.now.items) i ≡ number)) }
+    ensures none { IfNone result ((k : ℕ) → k < length places.now.items → slice_index (map (λ p. p.number) places.now.items) k ≢ number) }
+{
+    let mut low = 0;
+    let mut high = places.len();
+    while low < high {
+        let middle = low + (high - low) / 2;
+        let here = places[middle].number;
+        if here == number {
+            return Some(middle);
+        }
+        if here < number {
+            low = middle + 1;
+        } else {
+            high = middle;
+        }
+    }
+    None
+}
