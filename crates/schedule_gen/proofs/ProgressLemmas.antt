@@ -1,8 +1,8 @@
 -- A generator from line to line.
-use Rattle.std.proofs.Common.{◌≡◌, ◌≢◌, ℕ, ◌+◌, ◌-◌, ◌<◌, ◌≤◌, true, false, nat_lt, List, Some, refl, sym, ◌∙◌, ap, arith, lt-ltb, le-ltb}
+use Rattle.std.proofs.Common.{◌≡◌, ◌≢◌, ℕ, ◌+◌, ◌-◌, ◌≤◌, true, false, nat_lt, List, Some, refl, sym, ◌∙◌, ap, arith, lt-ltb, le-ltb}
 use Rattle.schedule_gen.specs.Draws.{draw, drawn}
 use Rattle.schedule_gen.specs.Lines.{line_at, event_line}
-use Rattle.schedule_gen.specs.Progress.{Progress, IsGenerator, next_of}
+use Rattle.schedule_gen.specs.Progress.{IsGenerator, next_of}
 use Rattle.schedule_gen.proofs.DrawLemmas.{drawn_none, drawn_more}
 
 pub generator-new : (seed count : ℕ) → IsGenerator seed count 0 0 seed

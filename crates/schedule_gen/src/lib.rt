@@ -4,6 +4,7 @@
 mod draw;
 mod event;
 mod generator;
+pub mod law;
 mod opening;
 #[cfg(test)]
 mod tests;
