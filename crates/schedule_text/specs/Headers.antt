@@ -1,7 +1,7 @@
 -- The header of a schedule: what each of its lines makes of what was read so far.
 use Rattle.std.specs.Prelude.{ℕ, ◌+◌, ◌==◌, nat_lt, nat_le, Bool, true, false, not, ◌&&◌, length, if◌then◌else◌, List, [], ◌∷◌, ◌++◌, map, Option, Some, None, Result, Ok, Err, codes}
 use Rattle.std.specs.Str.{bytes_eq}
-use Rattle.std.specs.List.{list_all, list_any}
+use Rattle.std.specs.List.{list_all}
 use Rattle.cl_base.specs.Sets.{set_with}
 use Rattle.cl_base.specs.declared.header.Header.{Header}
 use Rattle.cl_base.specs.declared.header.HeaderDevice.{HeaderDevice}
@@ -13,6 +13,7 @@ use Rattle.schedule_text.specs.declared.kind.Kind.{Kind}
 use Rattle.schedule_text.specs.declared.kind.Kind.TheVariants as kind
 use Rattle.schedule_text.specs.declared.number.Numeral.{Numeral}
 use Rattle.schedule_text.specs.declared.number.Numeral.TheVariants.{Within, Beyond}
+use Rattle.schedule_text.specs.declared.numbers.NodeList.{NodeList}
 use Rattle.schedule_text.specs.Choices.{quorum_in}
 use Rattle.schedule_text.specs.Words.{words_of, is_decimal, decimal_in, cluster_in}
 use Rattle.schedule_text.specs.Lines.{is_blank}
@@ -23,12 +24,13 @@ pub data HeaderStep : Type 0 where
   Over : HeaderStep
   Bad : Kind → HeaderStep
 
--- the set with the numbers, which ascend from above `last` up to 16
-abbrev pub ascending : ℕ → ℕ → List (Option Numeral) → Option ℕ
-ascending last set [] = Some set
-ascending last set (None ∷ numbers) = None
-ascending last set (Some Beyond ∷ numbers) = None
-ascending last set (Some (Within n) ∷ numbers) = if nat_lt last n && nat_le n 16 then ascending n (set_with set n) numbers else None
+-- the nodes with the numbers, which ascend from above the greatest so far up to 16
+abbrev pub ascending : ℕ → ℕ → List (Option Numeral) → Option NodeList
+ascending greatest nodes [] = Some (record { nodes = nodes; greatest = greatest })
+ascending greatest nodes (None ∷ numbers) = None
+ascending greatest nodes (Some Beyond ∷ numbers) = None
+ascending greatest nodes (Some (Within n) ∷ numbers) =
+    if nat_lt greatest n && nat_le n 16 then ascending n (set_with nodes n) numbers else None
 
 -- at least one number
 abbrev pub are_numbers : List (List ℕ) → Bool
@@ -42,9 +44,9 @@ opening_line line =
     else Bad kind.Header
 
 -- A reservation schedule goes on with `senders N N ..`.
-abbrev pub senders_step : Option ℕ → HeaderStep
+abbrev pub senders_step : Option NodeList → HeaderStep
 senders_step None = Bad kind.Number
-senders_step (Some set) = More (Complete set)
+senders_step (Some senders) = More (Complete senders.nodes)
 
 abbrev pub numbers_line : List (List ℕ) → HeaderStep
 numbers_line numbers = if are_numbers numbers then senders_step (ascending 0 0 (map decimal_in numbers)) else Bad kind.Header
@@ -78,22 +80,15 @@ abbrev pub is_next : Header → Numeral → Bool
 is_next h Beyond = false
 is_next h (Within n) = (n == length h.devices + 1) && nat_le n 16
 
--- the nodes ascend, from 1 to at most 16,
-abbrev pub is_above : ℕ → Option Numeral → Bool
-is_above nodes None = false
-is_above nodes (Some Beyond) = true
-is_above nodes (Some (Within n)) = nat_lt nodes n
-
--- and the header has them.
-abbrev pub attached : Header → Bool → Option ℕ → List (List ℕ) → Result (Option HeaderDevice) Kind
-attached h quorum None nodes = Err kind.Number
-attached h quorum (Some set) nodes =
-    if list_any (λ word. is_above h.nodes (decimal_in word)) nodes then Err kind.Unknown
-    else Ok (Some (record { quorum = quorum; attached = set }))
+-- the nodes ascend, and the header has them.
+abbrev pub attached : Header → Bool → Option NodeList → Result (Option HeaderDevice) Kind
+attached h quorum None = Err kind.Number
+attached h quorum (Some listed) =
+    if nat_lt h.nodes listed.greatest then Err kind.Unknown else Ok (Some (record { quorum = quorum; attached = listed.nodes }))
 
 abbrev pub numbered : Header → Numeral → Bool → List (List ℕ) → Result (Option HeaderDevice) Kind
 numbered h number quorum nodes =
-    if is_next h number then attached h quorum (ascending 0 0 (map decimal_in nodes)) nodes else Err kind.Number
+    if is_next h number then attached h quorum (ascending 0 0 (map decimal_in nodes)) else Err kind.Number
 
 -- the device that a line of this form adds, or none where the line has not the form
 abbrev pub described : Header → Option Numeral → Option Bool → List (List ℕ) → Result (Option HeaderDevice) Kind

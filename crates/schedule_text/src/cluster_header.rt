@@ -2,7 +2,7 @@ ghost use Rattle.std.specs.Prelude.{◌≡◌, ◌≤◌, ◌<◌, ◌++◌, ◌
 ghost use Rattle.std.specs.List.{list_all, list_any};
 ghost use Rattle.cl_base.specs.declared.header.HeaderDevice.{HeaderDevice};
 ghost use Rattle.schedule_text.specs.Allowed.{IsAllowedState, IsHeader, IsAttached};
-ghost use Rattle.schedule_text.specs.Headers.{cluster_line, cluster_step, nodes_line, nodes_step, device_line, described, numbered, attached, ascending, is_next, is_above};
+ghost use Rattle.schedule_text.specs.Headers.{cluster_line, cluster_step, nodes_line, nodes_step, device_line, described, numbered, attached, ascending, is_next};
 ghost use Rattle.schedule_text.specs.HeaderAnswers.{Steps};
 ghost use Rattle.schedule_text.specs.Words.{is_decimal, decimal_in, cluster_in};
 ghost use Rattle.schedule_text.specs.declared.kind.Kind.{Kind};
@@ -61,8 +61,8 @@ pub fn nodes_line(alloc: Global, cluster: u32, words: &[&[u8]]) -> Result<Header
 /// line.
 pub fn device_line(header: &Header, words: &[&[u8]]) -> Result<Option<HeaderDevice>, Kind>
     ensures value { result ≡ device_line header.now (map (λ w. w.now) words.now) }
-    ensures attached { IfOk result (IfSome (IsAttached header.now.nodes)) }
-    ensures room { IfOk result (IfSome (λ _. length header.now.devices < 16)) }
+    ensures attached { IfOk result (λ device. IfSome device (IsAttached header.now.nodes)) }
+    ensures room { IfOk result (λ device. IfSome device (λ _. length header.now.devices < 16)) }
 {
     let [name, number, purpose, nodes @ ..] = words else {
         return Ok(None);
@@ -84,11 +84,11 @@ fn described(
 ) -> Result<Option<HeaderDevice>, Kind>
     ensures value { result ≡ (if not (length nodes.now == 0) && list_all (λ w. is_decimal w.now) nodes.now
         then (if is_next header.now number
-            then attached header.now quorum (ascending 0 0 (map (λ w. decimal_in w.now) nodes.now)) (map (λ w. w.now) nodes.now)
+            then attached header.now quorum (ascending 0 0 (map (λ w. decimal_in w.now) nodes.now))
             else Err Kind.Number)
         else Ok None) }
-    ensures attached { IfOk result (IfSome (IsAttached header.now.nodes)) }
-    ensures room { IfOk result (IfSome (λ _. length header.now.devices < 16)) }
+    ensures attached { IfOk result (λ device. IfSome device (IsAttached header.now.nodes)) }
+    ensures room { IfOk result (λ device. IfSome device (λ _. length header.now.devices < 16)) }
 {
     if nodes.is_empty() || !all_decimal(nodes) {
         return Ok(None);
@@ -96,13 +96,16 @@ fn described(
     if !is_next(header, number) {
         return Err(Kind::Number);
     }
-    let Some(attached) = ascending(nodes) else {
+    let Some(listed) = ascending(nodes) else {
         return Err(Kind::Number);
     };
-    if any_above(header.nodes, nodes) {
+    if listed.greatest > header.nodes {
         return Err(Kind::Unknown);
     }
-    Ok(Some(HeaderDevice { quorum, attached }))
+    Ok(Some(HeaderDevice {
+        quorum,
+        attached: listed.nodes,
+    }))
 }
 
 /// Whether the number is that of the next device.
@@ -114,22 +117,6 @@ fn is_next(header: &Header, number: Numeral) -> bool
             number <= 16 && number == header.devices.items().len() as u64 + 1
         }
         Numeral::Beyond => false,
-    }
-}
-
-fn any_above(nodes: u64, words: &[&[u8]]) -> bool
-    ensures { result ≡ list_any (λ word. is_above nodes (decimal_in word)) (map (λ w. w.now) words.now) }
-{
-    words.iter().any(|word| is_above(nodes, decimal(word)))
-}
-
-fn is_above(nodes: u64, number: Option<Numeral>) -> bool
-    ensures { result ≡ is_above nodes number }
-{
-    match number {
-        Some(Numeral::Within(number)) => number > nodes,
-        Some(Numeral::Beyond) => true,
-        None => false,
     }
 }
 

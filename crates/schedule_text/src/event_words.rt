@@ -258,13 +258,25 @@ fn command(alloc: Global, header: &Header, fields: &[&[u8]]) -> Result<Event, Re
 fn are_words(words: &[&[u8]]) -> bool
     ensures { result ≡ are_words (map (λ w. w.now) words.now) }
 {
-    !words.is_empty() && words.iter().all(|word| is_word(word))
+    !words.is_empty() && all_words(words)
+}
+
+fn all_words(words: &[&[u8]]) -> bool
+    ensures { result ≡ list_all (λ w. is_word w.now) words.now }
+{
+    words.iter().all(|word| is_word(word))
 }
 
 fn is_word(word: &[u8]) -> bool
     ensures { result ≡ is_word word.now }
 {
-    !word.is_empty() && !word.iter().any(|b| *b == b'\n')
+    !word.is_empty() && !has_newline(word)
+}
+
+fn has_newline(word: &[u8]) -> bool
+    ensures { result ≡ list_any (λ b. b == 10) word.now }
+{
+    word.iter().any(|b| *b == b'\n')
 }
 
 /// The words with one space between two.

@@ -117,10 +117,10 @@ fn next_state(
     state: &HeaderState,
     line: &[u8],
 ) -> Result<Option<HeaderState>, ReadError>
-    requires words { is_blank line.now ≡ false }
+    requires words { (can_hold_blank state.now && is_blank line.now) ≡ false }
     requires before { IsAllowedState state.now }
     ensures step { Leads result (header_step state.now line.now) }
-    ensures allowed { IfOk result (IfSome IsAllowedState) }
+    ensures allowed { IfOk result (λ next. IfSome next IsAllowedState) }
 {
     match state {
         HeaderState::Complete(_) => Ok(None),
@@ -142,7 +142,7 @@ fn next_device(
 ) -> Result<Option<HeaderState>, ReadError>
     requires { IsHeader header.now }
     ensures step { Leads result (device_step header.now (device_line header.now (words_of line.now))) }
-    ensures allowed { IfOk result (IfSome IsAllowedState) }
+    ensures allowed { IfOk result (λ next. IfSome next IsAllowedState) }
 {
     match device_line(header, &words(alloc, line)?)? {
         Some(device) => Ok(Some(HeaderState::Devices(with_device(
@@ -198,7 +198,7 @@ fn sender_numbers(numbers: &[&[u8]]) -> Result<HeaderState, Kind>
         return Err(Kind::Header);
     }
     match ascending(numbers) {
-        Some(senders) => Ok(HeaderState::Complete(senders)),
+        Some(senders) => Ok(HeaderState::Complete(senders.nodes)),
         None => Err(Kind::Number),
     }
 }

@@ -1,4 +1,4 @@
-ghost use Rattle.std.specs.Prelude.{◌≡◌, ◌≢◌, length, map, IfSome};
+ghost use Rattle.std.specs.Prelude.{◌≡◌, ◌≢◌, ◌≤◌, length, map, IfSome};
 ghost use Rattle.std.specs.List.{list_all};
 ghost use Rattle.schedule_text.specs.Allowed.{AreNodes};
 ghost use Rattle.schedule_text.specs.Headers.{ascending};
@@ -14,23 +14,32 @@ pub fn all_decimal(words: &[&[u8]]) -> bool
     words.iter().all(|word| is_decimal(word))
 }
 
-/// The set of these numbers, where they ascend from 1 to at most 16.
-pub fn ascending(numbers: &[&[u8]]) -> Option<NodeSet>
+/// Nodes that were listed in ascending order.
+#[derive(Clone, Copy, Debug, PartialEq, Eq)]
+pub struct NodeList {
+    /// The nodes.
+    pub nodes: NodeSet,
+    /// The greatest number among them.
+    pub greatest: u64,
+}
+
+/// The nodes with these numbers, where they ascend from 1 to at most 16.
+pub fn ascending(numbers: &[&[u8]]) -> Option<NodeList>
     requires { length numbers.now ≢ 0 }
     ensures value { result ≡ ascending 0 0 (map (λ w. decimal_in w.now) numbers.now) }
-    ensures allowed { IfSome result (AreNodes 16) }
+    ensures allowed { IfSome result (λ list. (list.greatest ≤ 16) × AreNodes list.greatest list.nodes) }
 {
-    let mut last = 0;
+    let mut greatest = 0;
     let mut nodes = NodeSet::empty();
     for word in numbers {
         let Some(Numeral::Within(number)) = decimal(word) else {
             return None;
         };
-        if number <= last || number > 16 {
+        if number <= greatest || number > 16 {
             return None;
         }
         nodes = nodes.with(NodeId::new(number).ok()?);
-        last = number;
+        greatest = number;
     }
-    Some(nodes)
+    Some(NodeList { nodes, greatest })
 }
