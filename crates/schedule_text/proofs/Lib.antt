@@ -1,2 +1,5 @@
+pub mod EventNameLemmas
+pub mod Find
+pub mod MethodNameLemmas
 pub mod NameLemmas
 pub mod NumberLemmas

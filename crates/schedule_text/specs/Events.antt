@@ -1,0 +1,118 @@
+-- The events of a cluster schedule, as a line spells them: a name, and the fields that the event of this name has.
+use Rattle.std.specs.Prelude.{ℕ, ◌==◌, Bool, not, ◌&&◌, if◌then◌else◌, List, [], ◌∷◌, length, Option, Some, None, Result, Ok, Err}
+use Rattle.std.specs.List.{list_all, join_with_byte}
+use Rattle.cl_base.specs.declared.header.Header.{Header}
+use Rattle.schedule_text.specs.declared.event.Event.{Event}
+use Rattle.schedule_text.specs.declared.event.Event.TheVariants as event
+use Rattle.schedule_text.specs.declared.event_name.EventName.{EventName}
+use Rattle.schedule_text.specs.declared.event_name.EventName.TheVariants.{Boot, Crash, CrashAt, Tick, Deliver, Lose, Repeat, Next, Drop, Again, Disk, Fault, Write, Command, Outcome, Probe, Clock, Rounds}
+use Rattle.schedule_text.specs.declared.kind.Kind.{Kind}
+use Rattle.schedule_text.specs.declared.kind.Kind.TheVariants.{Line}
+use Rattle.schedule_text.specs.declared.line.SoFar.{SoFar}
+use Rattle.schedule_text.specs.Words.{decimal_in, is_word}
+use Rattle.schedule_text.specs.Choices.{choice_in, done_in, good_in, outcome_in}
+use Rattle.schedule_text.specs.EventNames.{event_in}
+use Rattle.schedule_text.specs.MethodNames.{method_in}
+use Rattle.schedule_text.specs.Fields.{both, one_of, node_in, device_in, tested, number_of, are_calls, are_rounds, is_second, resource_in, nodes_from}
+
+-- the event that the fields make, if they are what they should be
+abbrev pub made : {A : Type 0} → (A → Event) → Result A Kind → Result Event Kind
+made make (Ok fields) = Ok (make fields)
+made make (Err kind) = Err kind
+
+-- N
+abbrev pub one_node : Header → List (List ℕ) → Result ℕ Kind
+one_node h (node ∷ []) = node_in h node
+one_node h _ = Err Line
+
+-- A B
+abbrev pub two_nodes : Header → List (List ℕ) → Result (ℕ × ℕ) Kind
+two_nodes h (from ∷ to ∷ []) = both (node_in h from) (node_in h to)
+two_nodes h _ = Err Line
+
+-- P
+abbrev pub one_packet : List (List ℕ) → Result ℕ Kind
+one_packet (number ∷ []) = number_of (decimal_in number)
+one_packet _ = Err Line
+
+-- N K CHOICE
+abbrev pub crash_at : Header → List (List ℕ) → Result Event Kind
+crash_at h (node ∷ calls ∷ choice ∷ []) =
+    made (λ f. event.CrashAt f.0 f.1.0 f.1.1) (both (node_in h node) (both (tested are_calls (decimal_in calls)) (one_of (choice_in choice))))
+crash_at h _ = Err Line
+
+-- N D `done` or `undone`
+abbrev pub fault : Header → List (List ℕ) → Result Event Kind
+fault h (node ∷ device ∷ done ∷ []) =
+    made (λ f. event.Fault f.0 f.1.0 f.1.1) (both (node_in h node) (both (device_in h device) (one_of (done_in done))))
+fault h _ = Err Line
+
+-- N D V
+abbrev pub write : Header → List (List ℕ) → Result Event Kind
+write h (node ∷ device ∷ value ∷ []) =
+    made (λ f. event.Write f.0 f.1.0 f.1.1) (both (node_in h node) (both (device_in h device) (number_of (decimal_in value))))
+write h _ = Err Line
+
+-- N WORDS: at least one word, with one space between two
+abbrev pub are_words : List (List ℕ) → Bool
+are_words words = not (length words == 0) && list_all is_word words
+
+abbrev pub command : Header → List (List ℕ) → Result Event Kind
+command h [] = Err Line
+command h (node ∷ words) =
+    if are_words words then made (λ n. event.Command n (join_with_byte 32 words)) (node_in h node) else Err Line
+
+-- N R METHOD and `success`, `failure` or `timeout`
+abbrev pub outcome : Header → List (List ℕ) → Result Event Kind
+outcome h (node ∷ resource ∷ method ∷ ending ∷ []) =
+    made (λ f. event.Outcome f.0.0 f.0.1 f.1.0 f.1.1)
+        (both (both (node_in h node) (resource_in resource)) (both (one_of (method_in method)) (one_of (outcome_in ending))))
+outcome h _ = Err Line
+
+-- N R `ok` or `fail`
+abbrev pub probe : Header → List (List ℕ) → Result Event Kind
+probe h (node ∷ resource ∷ good ∷ []) =
+    made (λ f. event.Probe f.0 f.1.0 f.1.1) (both (node_in h node) (both (resource_in resource) (one_of (good_in good))))
+probe h _ = Err Line
+
+-- S
+abbrev pub clock : SoFar → List (List ℕ) → Result Event Kind
+clock s (second ∷ []) = made event.Clock (tested (is_second s) (decimal_in second))
+clock s _ = Err Line
+
+-- K N N ..: at least one node
+abbrev pub rounds : Header → SoFar → List (List ℕ) → Result Event Kind
+rounds h s [] = Err Line
+rounds h s (count ∷ nodes) =
+    if length nodes == 0 then Err Line
+    else made (λ f. event.Rounds f.0 f.1) (both (tested (are_rounds s) (decimal_in count)) (nodes_from h (Ok 0) nodes))
+
+-- the event of this name and these fields
+abbrev pub event_of : Header → SoFar → EventName → List (List ℕ) → Result Event Kind
+event_of h s Boot fields = made event.Boot (one_node h fields)
+event_of h s Crash fields = made event.Crash (one_node h fields)
+event_of h s CrashAt fields = crash_at h fields
+event_of h s Tick fields = made event.Tick (one_node h fields)
+event_of h s Deliver fields = made event.Deliver (one_packet fields)
+event_of h s Lose fields = made event.Lose (one_packet fields)
+event_of h s Repeat fields = made event.Repeat (one_packet fields)
+event_of h s Next fields = made (λ f. event.Next f.0 f.1) (two_nodes h fields)
+event_of h s Drop fields = made (λ f. event.Drop f.0 f.1) (two_nodes h fields)
+event_of h s Again fields = made (λ f. event.Again f.0 f.1) (two_nodes h fields)
+event_of h s Disk fields = made event.Disk (one_node h fields)
+event_of h s Fault fields = fault h fields
+event_of h s Write fields = write h fields
+event_of h s Command fields = command h fields
+event_of h s Outcome fields = outcome h fields
+event_of h s Probe fields = probe h fields
+event_of h s Clock fields = clock s fields
+event_of h s Rounds fields = rounds h s fields
+
+abbrev pub named_event : Header → SoFar → Option EventName → List (List ℕ) → Result Event Kind
+named_event h s None fields = Err Line
+named_event h s (Some name) fields = event_of h s name fields
+
+-- NAME FIELDS
+abbrev pub event_line : Header → SoFar → List (List ℕ) → Result Event Kind
+event_line h s [] = Err Line
+event_line h s (name ∷ fields) = named_event h s (event_in name) fields
