@@ -3,3 +3,4 @@ pub mod Find
 pub mod MethodNameLemmas
 pub mod NameLemmas
 pub mod NumberLemmas
+pub mod WordLemmas

@@ -23,9 +23,13 @@ IsNode h n = (1 ≤ n) × (n ≤ 16) × (n ≤ h.nodes)
 abbrev pub IsDevice : Header → ℕ → Type 0
 IsDevice h d = (1 ≤ d) × (d ≤ 16) × (d ≤ length h.devices)
 
--- a set of nodes of the header, which has one at least
+-- a set of nodes with numbers up to this one
+abbrev pub AreWithin : ℕ → ℕ → Type 0
+AreWithin most set = (n : ℕ) → has set n ≡ true → (1 ≤ n) × (n ≤ most)
+
+-- and with one node at least
 abbrev pub AreNodes : ℕ → ℕ → Type 0
-AreNodes nodes set = (set ≢ 0) × ((n : ℕ) → has set n ≡ true → (1 ≤ n) × (n ≤ nodes))
+AreNodes most set = (set ≢ 0) × AreWithin most set
 
 abbrev pub IsAttached : ℕ → HeaderDevice → Type 0
 IsAttached nodes d = AreNodes nodes d.attached

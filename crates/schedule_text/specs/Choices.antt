@@ -7,7 +7,7 @@ use Rattle.schedule_text.specs.declared.event.StopChoice.{StopChoice}
 use Rattle.schedule_text.specs.declared.event.StopChoice.TheVariants as choice
 
 -- what becomes of what is not synced
-abbrev pub choice_in : List ℕ → Option StopChoice
+unfoldable pub choice_in : List ℕ → Option StopChoice
 choice_in word =
     if bytes_eq word (codes "old") then Some choice.Old
     else if bytes_eq word (codes "new") then Some choice.New
@@ -15,28 +15,28 @@ choice_in word =
     else None
 
 -- whether a command that fails is done all the same
-abbrev pub done_in : List ℕ → Option Bool
+unfoldable pub done_in : List ℕ → Option Bool
 done_in word =
     if bytes_eq word (codes "done") then Some true
     else if bytes_eq word (codes "undone") then Some false
     else None
 
 -- whether a monitor finds the resource well
-abbrev pub good_in : List ℕ → Option Bool
+unfoldable pub good_in : List ℕ → Option Bool
 good_in word =
     if bytes_eq word (codes "ok") then Some true
     else if bytes_eq word (codes "fail") then Some false
     else None
 
 -- whether a device of the header is a quorum device
-abbrev pub quorum_in : List ℕ → Option Bool
+unfoldable pub quorum_in : List ℕ → Option Bool
 quorum_in word =
     if bytes_eq word (codes "quorum") then Some true
     else if bytes_eq word (codes "data") then Some false
     else None
 
 -- how a method call ends
-abbrev pub outcome_in : List ℕ → Option Outcome
+unfoldable pub outcome_in : List ℕ → Option Outcome
 outcome_in word =
     if bytes_eq word (codes "success") then Some outcome.Success
     else if bytes_eq word (codes "failure") then Some outcome.Failure

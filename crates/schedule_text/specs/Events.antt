@@ -9,11 +9,11 @@ use Rattle.schedule_text.specs.declared.event_name.EventName.TheVariants.{Boot, 
 use Rattle.schedule_text.specs.declared.kind.Kind.{Kind}
 use Rattle.schedule_text.specs.declared.kind.Kind.TheVariants.{Line}
 use Rattle.schedule_text.specs.declared.line.SoFar.{SoFar}
-use Rattle.schedule_text.specs.Words.{decimal_in, is_word}
+use Rattle.schedule_text.specs.Words.{is_word}
 use Rattle.schedule_text.specs.Choices.{choice_in, done_in, good_in, outcome_in}
 use Rattle.schedule_text.specs.EventNames.{event_in}
 use Rattle.schedule_text.specs.MethodNames.{method_in}
-use Rattle.schedule_text.specs.Fields.{both, one_of, node_in, device_in, tested, number_of, are_calls, are_rounds, is_second, resource_in, nodes_from}
+use Rattle.schedule_text.specs.Fields.{both, one_of, node_in, device_in, number_in, calls_in, rounds_in, second_in, resource_in, nodes_from}
 
 -- the event that the fields make, if they are what they should be
 abbrev pub made : {A : Type 0} → (A → Event) → Result A Kind → Result Event Kind
@@ -32,13 +32,13 @@ two_nodes h _ = Err Line
 
 -- P
 abbrev pub one_packet : List (List ℕ) → Result ℕ Kind
-one_packet (number ∷ []) = number_of (decimal_in number)
+one_packet (number ∷ []) = number_in number
 one_packet _ = Err Line
 
 -- N K CHOICE
 abbrev pub crash_at : Header → List (List ℕ) → Result Event Kind
 crash_at h (node ∷ calls ∷ choice ∷ []) =
-    made (λ f. event.CrashAt f.0 f.1.0 f.1.1) (both (node_in h node) (both (tested are_calls (decimal_in calls)) (one_of (choice_in choice))))
+    made (λ f. event.CrashAt f.0 f.1.0 f.1.1) (both (node_in h node) (both (calls_in calls) (one_of (choice_in choice))))
 crash_at h _ = Err Line
 
 -- N D `done` or `undone`
@@ -50,17 +50,14 @@ fault h _ = Err Line
 -- N D V
 abbrev pub write : Header → List (List ℕ) → Result Event Kind
 write h (node ∷ device ∷ value ∷ []) =
-    made (λ f. event.Write f.0 f.1.0 f.1.1) (both (node_in h node) (both (device_in h device) (number_of (decimal_in value))))
+    made (λ f. event.Write f.0 f.1.0 f.1.1) (both (node_in h node) (both (device_in h device) (number_in value)))
 write h _ = Err Line
 
 -- N WORDS: at least one word, with one space between two
-abbrev pub are_words : List (List ℕ) → Bool
-are_words words = not (length words == 0) && list_all is_word words
-
 abbrev pub command : Header → List (List ℕ) → Result Event Kind
-command h [] = Err Line
-command h (node ∷ words) =
-    if are_words words then made (λ n. event.Command n (join_with_byte 32 words)) (node_in h node) else Err Line
+command h (node ∷ first ∷ words) =
+    if is_word first && list_all is_word words then made (λ n. event.Command n (join_with_byte 32 (first ∷ words))) (node_in h node) else Err Line
+command h _ = Err Line
 
 -- N R METHOD and `success`, `failure` or `timeout`
 abbrev pub outcome : Header → List (List ℕ) → Result Event Kind
@@ -77,7 +74,7 @@ probe h _ = Err Line
 
 -- S
 abbrev pub clock : SoFar → List (List ℕ) → Result Event Kind
-clock s (second ∷ []) = made event.Clock (tested (is_second s) (decimal_in second))
+clock s (second ∷ []) = made event.Clock (second_in s second)
 clock s _ = Err Line
 
 -- K N N ..: at least one node
@@ -85,7 +82,7 @@ abbrev pub rounds : Header → SoFar → List (List ℕ) → Result Event Kind
 rounds h s [] = Err Line
 rounds h s (count ∷ nodes) =
     if length nodes == 0 then Err Line
-    else made (λ f. event.Rounds f.0 f.1) (both (tested (are_rounds s) (decimal_in count)) (nodes_from h (Ok 0) nodes))
+    else made (λ f. event.Rounds f.0 f.1) (both (rounds_in s count) (nodes_from h (Ok 0) nodes))
 
 -- the event of this name and these fields
 abbrev pub event_of : Header → SoFar → EventName → List (List ℕ) → Result Event Kind

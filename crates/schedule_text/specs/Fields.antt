@@ -43,12 +43,18 @@ listed most (Some (Within n)) =
     if nat_le 1 n && nat_le n 16 then (if nat_le n most then Ok n else Err kind.Unknown) else Err kind.Number
 
 -- N
-abbrev pub node_in : Header → List ℕ → Result ℕ Kind
+unfoldable pub node_in : Header → List ℕ → Result ℕ Kind
 node_in h word = listed h.nodes (decimal_in word)
 
 -- D
-abbrev pub device_in : Header → List ℕ → Result ℕ Kind
+unfoldable pub device_in : Header → List ℕ → Result ℕ Kind
 device_in h word = listed (length h.devices) (decimal_in word)
+
+-- any number
+abbrev pub number_of : Option Numeral → Result ℕ Kind
+number_of None = Err kind.Line
+number_of (Some Beyond) = Err kind.Number
+number_of (Some (Within n)) = Ok n
 
 -- a number that passes the test
 abbrev pub tested : (ℕ → Bool) → Option Numeral → Result ℕ Kind
@@ -57,28 +63,35 @@ tested test (Some Beyond) = Err kind.Number
 tested test (Some (Within n)) = if test n then Ok n else Err kind.Number
 
 -- P or V
-abbrev pub number_of : Option Numeral → Result ℕ Kind
-number_of None = Err kind.Line
-number_of (Some Beyond) = Err kind.Number
-number_of (Some (Within n)) = Ok n
+unfoldable pub number_in : List ℕ → Result ℕ Kind
+number_in word = number_of (decimal_in word)
 
 -- the K of `crashat`
 abbrev pub are_calls : ℕ → Bool
 are_calls n = nat_le 1 n && nat_le n 1000
 
+unfoldable pub calls_in : List ℕ → Result ℕ Kind
+calls_in word = tested are_calls (decimal_in word)
+
 -- the K of `rounds`: a schedule has at most 100,000 rounds
 abbrev pub are_rounds : SoFar → ℕ → Bool
 are_rounds s n = nat_le 1 n && nat_le n 100 && nat_le (s.rounds + n) 100000
+
+unfoldable pub rounds_in : SoFar → List ℕ → Result ℕ Kind
+rounds_in s word = tested (are_rounds s) (decimal_in word)
 
 -- the S of `clock`, which does not fall
 abbrev pub is_second : SoFar → ℕ → Bool
 is_second s n = nat_le s.clock n
 
+unfoldable pub second_in : SoFar → List ℕ → Result ℕ Kind
+second_in s word = tested (is_second s) (decimal_in word)
+
 -- R
 abbrev pub is_name : List ℕ → Bool
 is_name word = nat_le 1 (length word) && nat_le (length word) 32 && is_letter (slice_index word 0) && list_all is_name_byte word
 
-abbrev pub resource_in : List ℕ → Result (List ℕ) Kind
+unfoldable pub resource_in : List ℕ → Result (List ℕ) Kind
 resource_in word = if is_name word then Ok word else Err kind.Line
 
 -- one more node of a set

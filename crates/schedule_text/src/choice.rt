@@ -5,6 +5,7 @@ use crate::event::StopChoice;
 use cl_base::Outcome;
 
 /// What the word says of what is not synced.
+#[tactic(auto, unfolding(crate::specs::Choices::choice_in))]
 pub fn stop_choice(word: &[u8]) -> Option<StopChoice>
     ensures { result ≡ choice_in word.now }
 {
@@ -20,6 +21,7 @@ pub fn stop_choice(word: &[u8]) -> Option<StopChoice>
 }
 
 /// Whether the word says that a command that fails is done.
+#[tactic(auto, unfolding(crate::specs::Choices::done_in))]
 pub fn is_done(word: &[u8]) -> Option<bool>
     ensures { result ≡ done_in word.now }
 {
@@ -33,6 +35,7 @@ pub fn is_done(word: &[u8]) -> Option<bool>
 }
 
 /// Whether the word says that a resource is well.
+#[tactic(auto, unfolding(crate::specs::Choices::good_in))]
 pub fn is_good(word: &[u8]) -> Option<bool>
     ensures { result ≡ good_in word.now }
 {
@@ -46,6 +49,7 @@ pub fn is_good(word: &[u8]) -> Option<bool>
 }
 
 /// Whether the word says that a device is a quorum device.
+#[tactic(auto, unfolding(crate::specs::Choices::quorum_in))]
 pub fn is_quorum(word: &[u8]) -> Option<bool>
     ensures { result ≡ quorum_in word.now }
 {
@@ -59,6 +63,7 @@ pub fn is_quorum(word: &[u8]) -> Option<bool>
 }
 
 /// How the word says that a call ends.
+#[tactic(auto, unfolding(crate::specs::Choices::outcome_in))]
 pub fn outcome(word: &[u8]) -> Option<Outcome>
     ensures { result ≡ outcome_in word.now }
 {

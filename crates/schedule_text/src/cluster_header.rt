@@ -64,10 +64,24 @@ pub fn device_line(header: &Header, words: &[&[u8]]) -> Result<Option<HeaderDevi
     ensures attached { IfOk result (λ device. IfSome device (IsAttached header.now.nodes)) }
     ensures room { IfOk result (λ device. IfSome device (λ _. length header.now.devices < 16)) }
 {
-    let [name, number, purpose, nodes @ ..] = words else {
-        return Ok(None);
-    };
-    if *name != b"device".as_slice() {
+    match words {
+        [name, number, purpose, nodes @ ..] => named_device(header, name, number, purpose, nodes),
+        _ => Ok(None),
+    }
+}
+
+fn named_device(
+    header: &Header,
+    name: &[u8],
+    number: &[u8],
+    purpose: &[u8],
+    nodes: &[&[u8]],
+) -> Result<Option<HeaderDevice>, Kind>
+    ensures value { result ≡ device_line header.now (name.now ∷ number.now ∷ purpose.now ∷ map (λ w. w.now) nodes.now) }
+    ensures attached { IfOk result (λ device. IfSome device (IsAttached header.now.nodes)) }
+    ensures room { IfOk result (λ device. IfSome device (λ _. length header.now.devices < 16)) }
+{
+    if name != b"device".as_slice() {
         return Ok(None);
     }
     let (Some(number), Some(quorum)) = (decimal(number), is_quorum(purpose)) else {

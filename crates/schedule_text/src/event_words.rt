@@ -1,8 +1,9 @@
-ghost use Rattle.std.specs.Prelude.{◌≡◌, ◌==◌, ℕ, length, map, IfOk};
+ghost use Rattle.std.specs.Prelude.{◌≡◌, ◌==◌, ◌∷◌, ℕ, length, map, IfOk};
 ghost use Rattle.std.specs.List.{list_all, list_any, join_with_byte};
 ghost use Rattle.schedule_text.specs.Allowed.{IsAllowedEvent, IsNode};
 ghost use Rattle.schedule_text.specs.Answers.{Tells};
-ghost use Rattle.schedule_text.specs.Events.{event_line, event_of, made, one_node, two_nodes, one_packet, crash_at, fault, write, command, outcome, probe, clock, rounds, are_words};
+ghost use Rattle.schedule_text.specs.EventNames.{event_in};
+ghost use Rattle.schedule_text.specs.Events.{event_line, named_event, event_of, made, one_node, two_nodes, one_packet, crash_at, fault, write, command, outcome, probe, clock, rounds};
 ghost use Rattle.schedule_text.specs.Words.{is_word};
 ghost use Rattle.schedule_text.specs.declared.event.Event.TheVariants as event;
 ghost use Rattle.schedule_text.specs.declared.line.SoFar.{SoFar};
@@ -28,10 +29,23 @@ pub fn event(
     ensures reading { Tells result (event_line header.now so_far (map (λ w. w.now) words.now)) }
     ensures allowed { IfOk result (IsAllowedEvent header.now so_far) }
 {
-    let [name, fields @ ..] = words else {
-        return Err(ReadError::Refused(Kind::Line));
-    };
-    match event_name(name) {
+    match words {
+        [name, fields @ ..] => spelled_event(alloc, header, so_far, event_name(name), fields),
+        [] => Err(ReadError::Refused(Kind::Line)),
+    }
+}
+
+fn spelled_event(
+    alloc: Global,
+    header: &Header,
+    so_far: SoFar,
+    name: Option<EventName>,
+    fields: &[&[u8]],
+) -> Result<Event, ReadError>
+    ensures reading { Tells result (named_event header.now so_far name (map (λ w. w.now) fields.now)) }
+    ensures allowed { IfOk result (IsAllowedEvent header.now so_far) }
+{
+    match name {
         Some(name) => named_event(alloc, header, so_far, name, fields),
         None => Err(ReadError::Refused(Kind::Line)),
     }
@@ -228,9 +242,21 @@ fn some_rounds(header: &Header, so_far: SoFar, fields: &[&[u8]]) -> Result<Event
     ensures reading { result ≡ rounds header.now so_far (map (λ w. w.now) fields.now) }
     ensures allowed { IfOk result (IsAllowedEvent header.now so_far) }
 {
-    let [count, words @ ..] = fields else {
-        return Err(Kind::Line);
-    };
+    match fields {
+        [count, words @ ..] => counted_rounds(header, so_far, count, words),
+        [] => Err(Kind::Line),
+    }
+}
+
+fn counted_rounds(
+    header: &Header,
+    so_far: SoFar,
+    count: &[u8],
+    words: &[&[u8]],
+) -> Result<Event, Kind>
+    ensures reading { result ≡ rounds header.now so_far (count.now ∷ map (λ w. w.now) words.now) }
+    ensures allowed { IfOk result (IsAllowedEvent header.now so_far) }
+{
     if words.is_empty() {
         return Err(Kind::Line);
     }
@@ -243,25 +269,38 @@ fn command(alloc: Global, header: &Header, fields: &[&[u8]]) -> Result<Event, Re
     ensures reading { Tells result (command header.now (map (λ w. w.now) fields.now)) }
     ensures allowed { (s : SoFar) → IfOk result (IsAllowedEvent header.now s) }
 {
-    let [number, words @ ..] = fields else {
-        return Err(ReadError::Refused(Kind::Line));
-    };
-    if !are_words(words) {
+    match fields {
+        [number, first, words @ ..] => worded(alloc, header, number, first, words),
+        _ => Err(ReadError::Refused(Kind::Line)),
+    }
+}
+
+fn worded(
+    alloc: Global,
+    header: &Header,
+    number: &[u8],
+    first: &[u8],
+    words: &[&[u8]],
+) -> Result<Event, ReadError>
+    ensures reading { Tells result (command header.now (number.now ∷ first.now ∷ map (λ w. w.now) words.now)) }
+    ensures allowed { (s : SoFar) → IfOk result (IsAllowedEvent header.now s) }
+{
+    if !is_word(first) || !all_words(words) {
         return Err(ReadError::Refused(Kind::Line));
     }
     let node = node(header, number)?;
-    let words = Bytes::new(joined(alloc, words)?);
+    let words = Bytes::new(joined(alloc, first, words)?);
     Ok(Event::Command { node, words })
 }
 
-/// Whether these are the words of a command: at least one, and none of them empty.
-fn are_words(words: &[&[u8]]) -> bool
-    ensures { result ≡ are_words (map (λ w. w.now) words.now) }
+/// Whether each word may stand in a command.
+fn all_words(words: &[&[u8]]) -> bool
+    ensures { result ≡ list_all is_word (map (λ w. w.now) words.now) }
 {
-    !words.is_empty() && all_words(words)
+    are_words(words)
 }
 
-fn all_words(words: &[&[u8]]) -> bool
+fn are_words(words: &[&[u8]]) -> bool
     ensures { result ≡ list_all (λ w. is_word w.now) words.now }
 {
     words.iter().all(|word| is_word(word))
@@ -280,14 +319,13 @@ fn has_newline(word: &[u8]) -> bool
 }
 
 /// The words with one space between two.
-fn joined(alloc: Global, words: &[&[u8]]) -> Result<Vec<u8>, AllocError>
-    ensures { IfOk result (λ text. text.items ≡ join_with_byte 32 (map (λ w. w.now) words.now)) }
+fn joined(alloc: Global, first: &[u8], words: &[&[u8]]) -> Result<Vec<u8>, AllocError>
+    ensures { IfOk result (λ text. text.items ≡ join_with_byte 32 (first.now ∷ map (λ w. w.now) words.now)) }
 {
     let mut text = Vec::new(alloc);
+    text.extend_from_slice(first)?;
     for word in words {
-        if !text.is_empty() {
-            text.push(b' ')?;
-        }
+        text.push(b' ')?;
         text.extend_from_slice(word)?;
     }
     Ok(text)

@@ -1,8 +1,8 @@
 ghost use Rattle.std.specs.Prelude.{◌≡◌, ◌≤◌, ◌<◌, ◌==◌, ◌+◌, ℕ, length, map, Ok, Err, IfOk};
 ghost use Rattle.std.specs.List.{list_all, list_any};
 ghost use Rattle.cl_base.specs.Names.{IsName};
-ghost use Rattle.schedule_text.specs.Allowed.{IsNode, IsDevice};
-ghost use Rattle.schedule_text.specs.Fields.{rank, first_kind, both, one_of, listed, node_in, device_in, tested, number_of, are_calls, are_rounds, is_second, resource_in, with_node, nodes_from};
+ghost use Rattle.schedule_text.specs.Allowed.{IsNode, IsDevice, AreNodes, AreWithin};
+ghost use Rattle.schedule_text.specs.Fields.{rank, first_kind, both, one_of, listed, node_in, device_in, number_of, number_in, calls_in, rounds_in, second_in, resource_in, with_node, nodes_from};
 ghost use Rattle.schedule_text.specs.Words.{decimal_in, is_word};
 
 use crate::kind::Kind;
@@ -78,6 +78,7 @@ fn listed(most: u64, numeral: Option<Numeral>) -> Result<u64, Kind>
 }
 
 /// A node of the header.
+#[tactic(auto, unfolding(crate::specs::Fields::node_in))]
 pub fn node(header: &Header, word: &[u8]) -> Result<NodeId, Kind>
     ensures value { result ≡ node_in header.now word.now }
     ensures allowed { IfOk result (IsNode header.now) }
@@ -90,6 +91,7 @@ pub fn node(header: &Header, word: &[u8]) -> Result<NodeId, Kind>
 }
 
 /// A device of the header.
+#[tactic(auto, unfolding(crate::specs::Fields::device_in))]
 pub fn device(header: &Header, word: &[u8]) -> Result<DevId, Kind>
     ensures value { result ≡ device_in header.now word.now }
     ensures allowed { IfOk result (IsDevice header.now) }
@@ -102,10 +104,17 @@ pub fn device(header: &Header, word: &[u8]) -> Result<DevId, Kind>
 }
 
 /// Any number.
+#[tactic(auto, unfolding(crate::specs::Fields::number_in))]
 pub fn number(word: &[u8]) -> Result<u64, Kind>
-    ensures { result ≡ number_of (decimal_in word.now) }
+    ensures { result ≡ number_in word.now }
 {
-    match decimal(word) {
+    within(decimal(word))
+}
+
+fn within(numeral: Option<Numeral>) -> Result<u64, Kind>
+    ensures { result ≡ number_of numeral }
+{
+    match numeral {
         Some(Numeral::Within(number)) => Ok(number),
         Some(Numeral::Beyond) => Err(Kind::Number),
         None => Err(Kind::Line),
@@ -113,11 +122,12 @@ pub fn number(word: &[u8]) -> Result<u64, Kind>
 }
 
 /// Which of the next local disk calls it is.
+#[tactic(auto, unfolding(crate::specs::Fields::calls_in))]
 pub fn calls(word: &[u8]) -> Result<u64, Kind>
-    ensures value { result ≡ tested are_calls (decimal_in word.now) }
+    ensures value { result ≡ calls_in word.now }
     ensures range { IfOk result (λ n. (1 ≤ n) × (n ≤ 1000)) }
 {
-    let number = number(word)?;
+    let number = within(decimal(word))?;
     if number == 0 || number > MOST_CALLS {
         return Err(Kind::Number);
     }
@@ -125,11 +135,12 @@ pub fn calls(word: &[u8]) -> Result<u64, Kind>
 }
 
 /// How many rounds there are now.
+#[tactic(auto, unfolding(crate::specs::Fields::rounds_in))]
 pub fn rounds(so_far: SoFar, word: &[u8]) -> Result<u64, Kind>
-    ensures value { result ≡ tested (are_rounds so_far) (decimal_in word.now) }
+    ensures value { result ≡ rounds_in so_far word.now }
     ensures range { IfOk result (λ n. (1 ≤ n) × (n ≤ 100) × (so_far.rounds + n ≤ 100000)) }
 {
-    let number = number(word)?;
+    let number = within(decimal(word))?;
     if number == 0 || number > MOST_ROUNDS || so_far.rounds > ALL_ROUNDS - number {
         return Err(Kind::Number);
     }
@@ -137,11 +148,12 @@ pub fn rounds(so_far: SoFar, word: &[u8]) -> Result<u64, Kind>
 }
 
 /// A second that is not before the clock's.
+#[tactic(auto, unfolding(crate::specs::Fields::second_in))]
 pub fn second(so_far: SoFar, word: &[u8]) -> Result<u64, Kind>
-    ensures value { result ≡ tested (is_second so_far) (decimal_in word.now) }
+    ensures value { result ≡ second_in so_far word.now }
     ensures range { IfOk result (λ n. so_far.clock ≤ n) }
 {
-    let number = number(word)?;
+    let number = within(decimal(word))?;
     if number < so_far.clock {
         return Err(Kind::Number);
     }
@@ -161,18 +173,27 @@ pub fn resource(word: &[u8]) -> Result<Name, Kind>
 
 /// The set of these nodes of the header.
 pub fn nodes(header: &Header, words: &[&[u8]]) -> Result<NodeSet, Kind>
+    requires { 0 < length words.now }
     ensures value { result ≡ nodes_from header.now (Ok 0) (map (λ w. w.now) words.now) }
+    ensures allowed { IfOk result (AreNodes header.now.nodes) }
 {
     let mut nodes = Ok(NodeSet::empty());
     for word in words {
-        nodes = with_node(nodes, node(header, word));
+        nodes = with_node(header, nodes, word);
     }
     nodes
 }
 
-fn with_node(nodes: Result<NodeSet, Kind>, node: Result<NodeId, Kind>) -> Result<NodeSet, Kind>
-    ensures value { result ≡ with_node nodes node }
+/// The set and one more node.
+fn with_node(
+    header: &Header,
+    nodes: Result<NodeSet, Kind>,
+    word: &[u8],
+) -> Result<NodeSet, Kind>
+    requires { IfOk nodes (AreWithin header.now.nodes) }
+    ensures value { result ≡ with_node nodes (node_in header.now word.now) }
+    ensures allowed { IfOk result (AreNodes header.now.nodes) }
 {
-    let (nodes, node) = both(nodes, node)?;
+    let (nodes, node) = both(nodes, node(header, word))?;
     Ok(nodes.with(node))
 }

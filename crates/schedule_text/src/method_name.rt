@@ -14,11 +14,15 @@ pub fn method(word: &[u8]) -> Option<Method>
 fn spelled(word: &[u8]) -> Option<Method>
     ensures { MatchOption result ((m : Method) → word.now ≢ method_text m) (λ m. word.now ≡ method_text m) }
 {
+    if word == b"MONITOR_START".as_slice() {
+        return Some(Method::MonitorStart);
+    }
+    if word == b"MONITOR_CHECK".as_slice() {
+        return Some(Method::MonitorCheck);
+    }
     match word {
         b"PRENET_START" => Some(Method::PrenetStart),
         b"START" => Some(Method::Start),
-        b"MONITOR_START" => Some(Method::MonitorStart),
-        b"MONITOR_CHECK" => Some(Method::MonitorCheck),
         b"MONITOR_STOP" => Some(Method::MonitorStop),
         b"STOP" => Some(Method::Stop),
         b"POSTNET_STOP" => Some(Method::PostnetStop),
