@@ -11,10 +11,14 @@ use std::marker::Model;
 /// many lines it has given.
 #[derive(Drop)]
 pub struct Gen {
+    // Kept for contracts to name: the lines come from the state.
     seed: u64,
+    // How many lines follow the opening.
     count: u64,
+    // How many opening lines were given, and then how many after them.
     opened: u64,
     drawn: u64,
+    // That of the last draw.
     state: u64,
 }
 
