@@ -1,5 +1,5 @@
 -- What a word of digits is as a number.
-use Rattle.std.proofs.Common.{◌≡◌, ◌≢◌, nat_le, ℕ, ◌^◌, ◌<◌, ◌≤◌, ◌==◌, nat_lt, if◌then◌else◌, Bool, true, false, not, ◌&&◌, List, [], ◌∷◌, length, slice_index, Some, None, Result, Ok, Err, OkIff, zero, suc, refl, ap, ◌∙◌, subst, arith, rules}
+use Rattle.std.proofs.Common.{◌≡◌, ◌≢◌, nat_le, ℕ, ◌^◌, ◌<◌, ◌≤◌, ◌==◌, nat_lt, if◌then◌else◌, Bool, true, false, not, ◌&&◌, List, [], ◌∷◌, length, slice_index, Option, Some, None, unwrap_or, Result, Ok, Err, OkIff, zero, suc, refl, ap, ◌∙◌, subst, arith, rules}
 use Rattle.std.specs.Result.{result_ok}
 use Rattle.std.specs.List.{list_all}
 use Rattle.std.specs.Char.{is_ascii_digit, digit_value}
@@ -110,12 +110,16 @@ unread_key {E} text w e same h parsed =
 
 -- an id of 8 digits fits 32 bits
 
+some_same : (a b : ℕ) → Some a ≡ Some b → a ≡ b
+some_same a b h = ap (λ (o : Option ℕ). unwrap_or o 0) h
+
 id_below : (w : List ℕ) (id : ℕ) (t : Bool) → is_key w ≡ t → (if t then Some (digits_value 16 w) else None) ≡ Some id → length w ≤ 8 → id < 2 ^ 32
-id_below w id true is refl short =
+id_below w id true is h short =
     let below : digits_value 16 w < 16 ^ length w = digits_value-lt 16 w (key_digits w (digits_of_key w is)) in
     let most : 16 ^ length w ≤ 16 ^ 8 = pow-le-pow_right {n = 16} (omega arith) {i = length w} {j = 8} short in
+    let same : digits_value 16 w ≡ id = some_same (digits_value 16 w) id h in
     omega arith
-id_below w id false is () short
+id_below w id false is h short = absurd (cc)
 
 kept : {E : Type 0} (id : ℕ) (r : Result ℕ E) → id < 2 ^ 32 → OkIff r (id < 4294967296) id → result_ok r ≡ Some id
 kept id (Ok x) fits h = ap Some h.1

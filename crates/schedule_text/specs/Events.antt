@@ -2,10 +2,12 @@
 use Rattle.std.specs.Prelude.{ℕ, ◌==◌, Bool, not, ◌&&◌, if◌then◌else◌, List, [], ◌∷◌, length, Option, Some, None, Result, Ok, Err}
 use Rattle.std.specs.List.{list_all, join_with_byte}
 use Rattle.cl_base.specs.declared.header.Header.{Header}
+use Rattle.cl_base.specs.declared.method.Method.{Method}
+use Rattle.cl_base.specs.declared.method.Outcome.{Outcome}
 use Rattle.schedule_text.specs.declared.event.Event.{Event}
 use Rattle.schedule_text.specs.declared.event.Event.TheVariants as event
 use Rattle.schedule_text.specs.declared.event_name.EventName.{EventName}
-use Rattle.schedule_text.specs.declared.event_name.EventName.TheVariants.{Boot, Crash, CrashAt, Tick, Deliver, Lose, Repeat, Next, Drop, Again, Disk, Fault, Write, Command, Outcome, Probe, Clock, Rounds}
+use Rattle.schedule_text.specs.declared.event_name.EventName.TheVariants as name
 use Rattle.schedule_text.specs.declared.kind.Kind.{Kind}
 use Rattle.schedule_text.specs.declared.kind.Kind.TheVariants.{Line}
 use Rattle.schedule_text.specs.declared.line.SoFar.{SoFar}
@@ -59,11 +61,14 @@ command h (node ∷ first ∷ words) =
     if is_word first && list_all is_word words then made (λ n. event.Command n (join_with_byte 32 (first ∷ words))) (node_in h node) else Err Line
 command h _ = Err Line
 
--- N R METHOD and `success`, `failure` or `timeout`
+-- METHOD and `success`, `failure` or `timeout`
+unfoldable pub call_in : List ℕ → List ℕ → Result (Method × Outcome) Kind
+call_in method ending = both (one_of (method_in method)) (one_of (outcome_in ending))
+
+-- N R and a call
 abbrev pub outcome : Header → List (List ℕ) → Result Event Kind
 outcome h (node ∷ resource ∷ method ∷ ending ∷ []) =
-    made (λ f. event.Outcome f.0.0 f.0.1 f.1.0 f.1.1)
-        (both (both (node_in h node) (resource_in resource)) (both (one_of (method_in method)) (one_of (outcome_in ending))))
+    made (λ f. event.Outcome f.0 f.1.0 f.1.1.0 f.1.1.1) (both (node_in h node) (both (resource_in resource) (call_in method ending)))
 outcome h _ = Err Line
 
 -- N R `ok` or `fail`
@@ -86,28 +91,28 @@ rounds h s (count ∷ nodes) =
 
 -- the event of this name and these fields
 abbrev pub event_of : Header → SoFar → EventName → List (List ℕ) → Result Event Kind
-event_of h s Boot fields = made event.Boot (one_node h fields)
-event_of h s Crash fields = made event.Crash (one_node h fields)
-event_of h s CrashAt fields = crash_at h fields
-event_of h s Tick fields = made event.Tick (one_node h fields)
-event_of h s Deliver fields = made event.Deliver (one_packet fields)
-event_of h s Lose fields = made event.Lose (one_packet fields)
-event_of h s Repeat fields = made event.Repeat (one_packet fields)
-event_of h s Next fields = made (λ f. event.Next f.0 f.1) (two_nodes h fields)
-event_of h s Drop fields = made (λ f. event.Drop f.0 f.1) (two_nodes h fields)
-event_of h s Again fields = made (λ f. event.Again f.0 f.1) (two_nodes h fields)
-event_of h s Disk fields = made event.Disk (one_node h fields)
-event_of h s Fault fields = fault h fields
-event_of h s Write fields = write h fields
-event_of h s Command fields = command h fields
-event_of h s Outcome fields = outcome h fields
-event_of h s Probe fields = probe h fields
-event_of h s Clock fields = clock s fields
-event_of h s Rounds fields = rounds h s fields
+event_of h s name.Boot fields = made event.Boot (one_node h fields)
+event_of h s name.Crash fields = made event.Crash (one_node h fields)
+event_of h s name.CrashAt fields = crash_at h fields
+event_of h s name.Tick fields = made event.Tick (one_node h fields)
+event_of h s name.Deliver fields = made event.Deliver (one_packet fields)
+event_of h s name.Lose fields = made event.Lose (one_packet fields)
+event_of h s name.Repeat fields = made event.Repeat (one_packet fields)
+event_of h s name.Next fields = made (λ f. event.Next f.0 f.1) (two_nodes h fields)
+event_of h s name.Drop fields = made (λ f. event.Drop f.0 f.1) (two_nodes h fields)
+event_of h s name.Again fields = made (λ f. event.Again f.0 f.1) (two_nodes h fields)
+event_of h s name.Disk fields = made event.Disk (one_node h fields)
+event_of h s name.Fault fields = fault h fields
+event_of h s name.Write fields = write h fields
+event_of h s name.Command fields = command h fields
+event_of h s name.Outcome fields = outcome h fields
+event_of h s name.Probe fields = probe h fields
+event_of h s name.Clock fields = clock s fields
+event_of h s name.Rounds fields = rounds h s fields
 
 abbrev pub named_event : Header → SoFar → Option EventName → List (List ℕ) → Result Event Kind
 named_event h s None fields = Err Line
-named_event h s (Some name) fields = event_of h s name fields
+named_event h s (Some event) fields = event_of h s event fields
 
 -- NAME FIELDS
 abbrev pub event_line : Header → SoFar → List (List ℕ) → Result Event Kind

@@ -1,8 +1,9 @@
-ghost use Rattle.std.specs.Prelude.{◌≡◌, ◌≤◌, ◌<◌, ◌++◌, ◌∷◌, [], ◌==◌, ◌&&◌, not, if◌then◌else◌, length, map, Ok, None, IfOk, IfSome, Result, Option};
+ghost use Rattle.std.specs.Prelude.{◌≡◌, ◌≤◌, ◌<◌, ◌++◌, ◌∷◌, [], ◌==◌, ◌&&◌, not, if◌then◌else◌, length, map, Ok, None, Some, IfOk, IfSome, Result, Option};
 ghost use Rattle.std.specs.List.{list_all, list_any};
 ghost use Rattle.cl_base.specs.declared.header.HeaderDevice.{HeaderDevice};
 ghost use Rattle.schedule_text.specs.Allowed.{IsAllowedState, IsHeader, IsAttached};
 ghost use Rattle.schedule_text.specs.Headers.{cluster_line, cluster_step, nodes_line, nodes_step, device_line, described, numbered, attached, ascending, is_next};
+ghost use Rattle.schedule_text.specs.Choices.{quorum_in};
 ghost use Rattle.schedule_text.specs.HeaderAnswers.{Steps};
 ghost use Rattle.schedule_text.specs.Words.{is_decimal, decimal_in, cluster_in};
 ghost use Rattle.schedule_text.specs.declared.kind.Kind.{Kind};
@@ -81,16 +82,44 @@ fn named_device(
     ensures attached { IfOk result (λ device. IfSome device (IsAttached header.now.nodes)) }
     ensures room { IfOk result (λ device. IfSome device (λ _. length header.now.devices < 16)) }
 {
-    if name != b"device".as_slice() {
-        return Ok(None);
+    if name == b"device".as_slice() {
+        listed_device(header, number, purpose, nodes)
+    } else {
+        Ok(None)
     }
+}
+
+fn listed_device(
+    header: &Header,
+    number: &[u8],
+    purpose: &[u8],
+    nodes: &[&[u8]],
+) -> Result<Option<HeaderDevice>, Kind>
+    ensures value { result ≡ described header.now (decimal_in number.now) (quorum_in purpose.now) (map (λ w. w.now) nodes.now) }
+    ensures attached { IfOk result (λ device. IfSome device (IsAttached header.now.nodes)) }
+    ensures room { IfOk result (λ device. IfSome device (λ _. length header.now.devices < 16)) }
+{
     let (Some(number), Some(quorum)) = (decimal(number), is_quorum(purpose)) else {
         return Ok(None);
     };
     described(header, number, quorum, nodes)
 }
 
+/// The device of this number and kind with these nodes.
 fn described(
+    header: &Header,
+    number: Numeral,
+    quorum: bool,
+    nodes: &[&[u8]],
+) -> Result<Option<HeaderDevice>, Kind>
+    ensures value { result ≡ described header.now (Some number) (Some quorum) (map (λ w. w.now) nodes.now) }
+    ensures attached { IfOk result (λ device. IfSome device (IsAttached header.now.nodes)) }
+    ensures room { IfOk result (λ device. IfSome device (λ _. length header.now.devices < 16)) }
+{
+    numbered(header, number, quorum, nodes)
+}
+
+fn numbered(
     header: &Header,
     number: Numeral,
     quorum: bool,
@@ -140,7 +169,11 @@ pub fn with_device(
     header: &Header,
     device: HeaderDevice,
 ) -> Result<Header, AllocError>
-    ensures { IfOk result (λ h. h ≡ record header.now { devices = header.now.devices ++ (device ∷ []) }) }
+    requires before { IsHeader header.now }
+    requires room { length header.now.devices < 16 }
+    requires attached { IsAttached header.now.nodes device }
+    ensures value { IfOk result (λ h. h ≡ record header.now { devices = header.now.devices ++ (device ∷ []) }) }
+    ensures allowed { IfOk result IsHeader }
 {
     let mut devices = Vec::new(alloc);
     devices.extend_from_slice(header.devices.items())?;

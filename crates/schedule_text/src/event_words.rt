@@ -3,7 +3,7 @@ ghost use Rattle.std.specs.List.{list_all, list_any, join_with_byte};
 ghost use Rattle.schedule_text.specs.Allowed.{IsAllowedEvent, IsNode};
 ghost use Rattle.schedule_text.specs.Answers.{Tells};
 ghost use Rattle.schedule_text.specs.EventNames.{event_in};
-ghost use Rattle.schedule_text.specs.Events.{event_line, named_event, event_of, made, one_node, two_nodes, one_packet, crash_at, fault, write, command, outcome, probe, clock, rounds};
+ghost use Rattle.schedule_text.specs.Events.{event_line, named_event, event_of, made, one_node, two_nodes, one_packet, crash_at, fault, write, command, outcome, call_in, probe, clock, rounds};
 ghost use Rattle.schedule_text.specs.Words.{is_word};
 ghost use Rattle.schedule_text.specs.declared.event.Event.TheVariants as event;
 ghost use Rattle.schedule_text.specs.declared.line.SoFar.{SoFar};
@@ -16,7 +16,7 @@ use crate::field::{both, calls, device, node, nodes, number, one_of, resource, r
 use crate::kind::{Kind, ReadError};
 use crate::line::SoFar;
 use crate::method_name::method;
-use cl_base::{Bytes, Header, NodeId};
+use cl_base::{Bytes, Header, Method, NodeId, Outcome};
 use std::alloc::{AllocError, Global};
 
 /// The event that the words of a line spell, or why there is none.
@@ -198,15 +198,22 @@ fn call_outcome(header: &Header, fields: &[&[u8]]) -> Result<Event, Kind>
     let [number, name, called, ending] = fields else {
         return Err(Kind::Line);
     };
-    let place = both(node(header, number), resource(name));
-    let call = both(one_of(method(called)), one_of(outcome(ending)));
-    let ((node, resource), (method, outcome)) = both(place, call)?;
+    let rest = both(resource(name), call(called, ending));
+    let (node, (resource, (method, outcome))) = both(node(header, number), rest)?;
     Ok(Event::Outcome {
         node,
         resource,
         method,
         outcome,
     })
+}
+
+/// METHOD and how it ends
+#[tactic(auto, unfolding(crate::specs::Events::call_in))]
+fn call(called: &[u8], ending: &[u8]) -> Result<(Method, Outcome), Kind>
+    ensures { result ≡ call_in called.now ending.now }
+{
+    both(one_of(method(called)), one_of(outcome(ending)))
 }
 
 /// N R `ok` or `fail`
