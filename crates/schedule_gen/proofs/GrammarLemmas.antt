@@ -7,7 +7,9 @@ use Rattle.schedule_text.specs.declared.header.HeaderState.TheVariants.{Opening,
 use Rattle.schedule_text.specs.declared.line.Line.{Line}
 use Rattle.schedule_text.specs.declared.line.Line.TheVariants as line
 use Rattle.schedule_text.specs.declared.line.SoFar.{SoFar}
+use Rattle.schedule_text.specs.Choices.{quorum_in}
 use Rattle.schedule_text.specs.EventNames.{event_in}
+use Rattle.schedule_text.specs.Fields.{node_in, rounds_in}
 use Rattle.schedule_text.specs.Headers.{Over, header_step}
 use Rattle.schedule_text.specs.Lines.{line_of, so_far_after}
 use Rattle.schedule_gen.specs.declared.draw.Form.{Form}
@@ -19,7 +21,7 @@ use Rattle.schedule_gen.proofs.EventLemmas.{IsOneOfFour, tick_read, next_read, d
 use Rattle.schedule_gen.proofs.ProgressLemmas.{line_at-event}
 
 pub header_leads : (seed : ℕ) → Leads Opening (lines_from seed 0 5) (Devices four_nodes)
-unfolding set_with
+unfolding set_with quorum_in
 header_leads seed = (_, refl, (_, refl, (_, refl, (_, refl, (_, refl, refl)))))
 
 pub header_over : (seed : ℕ) → header_step (Devices four_nodes) (line_at seed 5) ≡ Over
@@ -82,7 +84,7 @@ events_read seed (suc lines) first i s at later room most =
     (line_read.read, line_read.is, events_read seed lines (first + 1) (i + 1) (so_far_after s line_read.read) (omega arith) line_read.clock_at line_read.rounds_then (omega arith))
 
 opening_read : (seed count : ℕ) → count ≤ 90000 → AreRead (head.Cluster four_nodes) start (lines_from seed 5 (suc (suc (suc (suc (suc count))))))
-unfolding set_with event_in
+unfolding set_with event_in node_in rounds_in
 opening_read seed count most = (
   line.Event (event.Boot 1),
   refl,
