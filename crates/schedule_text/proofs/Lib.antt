@@ -1,3 +1,4 @@
+pub mod EventLemmas
 pub mod EventNameLemmas
 pub mod Find
 pub mod HeaderLemmas

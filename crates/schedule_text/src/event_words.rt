@@ -1,4 +1,4 @@
-ghost use Rattle.std.specs.Prelude.{◌≡◌, ◌==◌, ◌∷◌, ℕ, length, map, IfOk};
+ghost use Rattle.std.specs.Prelude.{◌≡◌, ◌==◌, [], ◌∷◌, ℕ, length, map, IfOk};
 ghost use Rattle.std.specs.List.{list_all, list_any, join_with_byte};
 ghost use Rattle.schedule_text.specs.Allowed.{IsAllowedEvent, IsNode};
 ghost use Rattle.schedule_text.specs.Answers.{Tells};
@@ -195,17 +195,32 @@ fn call_outcome(header: &Header, fields: &[&[u8]]) -> Result<Event, Kind>
     ensures reading { result ≡ outcome header.now (map (λ w. w.now) fields.now) }
     ensures allowed { (s : SoFar) → IfOk result (IsAllowedEvent header.now s) }
 {
-    let [number, name, called, ending] = fields else {
-        return Err(Kind::Line);
-    };
+    match fields {
+        [number, name, called, ending] => ended_call(header, number, name, called, ending),
+        _ => Err(Kind::Line),
+    }
+}
+
+fn ended_call(
+    header: &Header,
+    number: &[u8],
+    name: &[u8],
+    called: &[u8],
+    ending: &[u8],
+) -> Result<Event, Kind>
+    ensures reading { result ≡ outcome header.now (number.now ∷ name.now ∷ called.now ∷ ending.now ∷ []) }
+    ensures allowed { (s : SoFar) → IfOk result (IsAllowedEvent header.now s) }
+{
     let rest = both(resource(name), call(called, ending));
-    let (node, (resource, (method, outcome))) = both(node(header, number), rest)?;
-    Ok(Event::Outcome {
-        node,
-        resource,
-        method,
-        outcome,
-    })
+    match both(node(header, number), rest) {
+        Ok((node, (resource, (method, outcome)))) => Ok(Event::Outcome {
+            node,
+            resource,
+            method,
+            outcome,
+        }),
+        Err(kind) => Err(kind),
+    }
 }
 
 /// METHOD and how it ends
