@@ -1,4 +1,3 @@
-pub mod EventLemmas
 pub mod EventNameLemmas
 pub mod Find
 pub mod HeaderLemmas

@@ -19,6 +19,13 @@ use crate::method_name::method;
 use cl_base::{Bytes, Header, Method, NodeId, Outcome};
 use std::alloc::{AllocError, Global};
 
+/// How a call of a method ends.
+#[derive(Clone, Copy, Debug, PartialEq, Eq)]
+pub struct CallEnd {
+    method: Method,
+    outcome: Outcome,
+}
+
 /// The event that the words of a line spell, or why there is none.
 pub fn event(
     alloc: Global,
@@ -195,40 +202,26 @@ fn call_outcome(header: &Header, fields: &[&[u8]]) -> Result<Event, Kind>
     ensures reading { result ≡ outcome header.now (map (λ w. w.now) fields.now) }
     ensures allowed { (s : SoFar) → IfOk result (IsAllowedEvent header.now s) }
 {
-    match fields {
-        [number, name, called, ending] => ended_call(header, number, name, called, ending),
-        _ => Err(Kind::Line),
-    }
-}
-
-fn ended_call(
-    header: &Header,
-    number: &[u8],
-    name: &[u8],
-    called: &[u8],
-    ending: &[u8],
-) -> Result<Event, Kind>
-    ensures reading { result ≡ outcome header.now (number.now ∷ name.now ∷ called.now ∷ ending.now ∷ []) }
-    ensures allowed { (s : SoFar) → IfOk result (IsAllowedEvent header.now s) }
-{
+    let [number, name, called, ending] = fields else {
+        return Err(Kind::Line);
+    };
     let rest = both(resource(name), call(called, ending));
-    match both(node(header, number), rest) {
-        Ok((node, (resource, (method, outcome)))) => Ok(Event::Outcome {
-            node,
-            resource,
-            method,
-            outcome,
-        }),
-        Err(kind) => Err(kind),
-    }
+    let (node, (resource, end)) = both(node(header, number), rest)?;
+    Ok(Event::Outcome {
+        node,
+        resource,
+        method: end.method,
+        outcome: end.outcome,
+    })
 }
 
 /// METHOD and how it ends
 #[tactic(auto, unfolding(crate::specs::Events::call_in))]
-fn call(called: &[u8], ending: &[u8]) -> Result<(Method, Outcome), Kind>
+fn call(called: &[u8], ending: &[u8]) -> Result<CallEnd, Kind>
     ensures { result ≡ call_in called.now ending.now }
 {
-    both(one_of(method(called)), one_of(outcome(ending)))
+    let (method, outcome) = both(one_of(method(called)), one_of(outcome(ending)))?;
+    Ok(CallEnd { method, outcome })
 }
 
 /// N R `ok` or `fail`
