@@ -29,19 +29,19 @@ one_within set n most m false is h within low high = within m h
 more_within : (set n new most : ℕ) → ((m : ℕ) → has new m ≡ ((m == n) || has set m)) → AreWithin most set → 1 ≤ n → n ≤ most → AreWithin most new
 more_within set n new most members within low high = λ m h. one_within set n most m (m == n) refl (sym (members m) ∙ h) within low high
 
-left_of : Result (ℕ × ℕ) Kind → ℕ
+abbrev left_of : Result (ℕ × ℕ) Kind → ℕ
 left_of (Ok p) = p.0
 left_of (Err kind) = 0
 
-right_of : Result (ℕ × ℕ) Kind → ℕ
+abbrev right_of : Result (ℕ × ℕ) Kind → ℕ
 right_of (Ok p) = p.1
 right_of (Err kind) = 0
 
 pub more_nodes : (x y : Result ℕ Kind) (set n new most : ℕ) → both x y ≡ Ok (set, n) → IfOk x (AreWithin most)
     → IfOk y (λ (n : ℕ). (1 ≤ n) × (n ≤ 16) × (n ≤ most)) → ((m : ℕ) → has new m ≡ ((m == n) || has set m)) → AreNodes most new
 more_nodes (Ok a) (Ok b) set n new most is within node members =
-    let left : a ≡ set = ap left_of is in
-    let right : b ≡ n = ap right_of is in
+    let left : a ≡ set = ap (λ (r : Result (ℕ × ℕ) Kind). left_of r) is in
+    let right : b ≡ n = ap (λ (r : Result (ℕ × ℕ) Kind). right_of r) is in
     (not_empty n new (has_new set n new members),
      more_within set n new most members (subst (AreWithin most) left within) (omega (arith, right, node.0)) (omega (arith, right, node.2)))
 more_nodes (Ok a) (Err kind) set n new most is within node members = absurd (cc)

@@ -8,6 +8,7 @@ use Rattle.schedule_text.specs.declared.event.Event.{Event}
 use Rattle.schedule_text.specs.declared.event.Event.TheVariants as event
 use Rattle.schedule_text.specs.declared.event_name.EventName.{EventName}
 use Rattle.schedule_text.specs.declared.event_name.EventName.TheVariants as name
+use Rattle.schedule_text.specs.declared.event_words.CallEnd.{CallEnd}
 use Rattle.schedule_text.specs.declared.kind.Kind.{Kind}
 use Rattle.schedule_text.specs.declared.kind.Kind.TheVariants.{Line}
 use Rattle.schedule_text.specs.declared.line.SoFar.{SoFar}
@@ -62,13 +63,17 @@ command h (node ∷ first ∷ words) =
 command h _ = Err Line
 
 -- METHOD and `success`, `failure` or `timeout`
-unfoldable pub call_in : List ℕ → List ℕ → Result (Method × Outcome) Kind
-call_in method ending = both (one_of (method_in method)) (one_of (outcome_in ending))
+abbrev pub ended : Result (Method × Outcome) Kind → Result CallEnd Kind
+ended (Ok call) = Ok (record { method = call.0; outcome = call.1 })
+ended (Err kind) = Err kind
+
+unfoldable pub call_in : List ℕ → List ℕ → Result CallEnd Kind
+call_in method ending = ended (both (one_of (method_in method)) (one_of (outcome_in ending)))
 
 -- N R and a call
 abbrev pub outcome : Header → List (List ℕ) → Result Event Kind
 outcome h (node ∷ resource ∷ method ∷ ending ∷ []) =
-    made (λ f. event.Outcome f.0 f.1.0 f.1.1.0 f.1.1.1) (both (node_in h node) (both (resource_in resource) (call_in method ending)))
+    made (λ f. event.Outcome f.0 f.1.0 f.1.1.method f.1.1.outcome) (both (node_in h node) (both (resource_in resource) (call_in method ending)))
 outcome h _ = Err Line
 
 -- N R `ok` or `fail`

@@ -1,4 +1,4 @@
-ghost use Rattle.std.specs.Prelude.{◌≡◌, ◌==◌, ◌∷◌, ℕ, length, map, IfOk};
+ghost use Rattle.std.specs.Prelude.{◌≡◌, ◌==◌, [], ◌∷◌, ℕ, length, map, IfOk};
 ghost use Rattle.std.specs.List.{list_all, list_any, join_with_byte};
 ghost use Rattle.schedule_text.specs.Allowed.{IsAllowedEvent, IsNode};
 ghost use Rattle.schedule_text.specs.Answers.{Tells};
@@ -18,6 +18,13 @@ use crate::line::SoFar;
 use crate::method_name::method;
 use cl_base::{Bytes, Header, Method, NodeId, Outcome};
 use std::alloc::{AllocError, Global};
+
+/// How a call of a method ends.
+#[derive(Clone, Copy, Debug, PartialEq, Eq)]
+pub struct CallEnd {
+    method: Method,
+    outcome: Outcome,
+}
 
 /// The event that the words of a line spell, or why there is none.
 pub fn event(
@@ -199,21 +206,22 @@ fn call_outcome(header: &Header, fields: &[&[u8]]) -> Result<Event, Kind>
         return Err(Kind::Line);
     };
     let rest = both(resource(name), call(called, ending));
-    let (node, (resource, (method, outcome))) = both(node(header, number), rest)?;
+    let (node, (resource, end)) = both(node(header, number), rest)?;
     Ok(Event::Outcome {
         node,
         resource,
-        method,
-        outcome,
+        method: end.method,
+        outcome: end.outcome,
     })
 }
 
 /// METHOD and how it ends
 #[tactic(auto, unfolding(crate::specs::Events::call_in))]
-fn call(called: &[u8], ending: &[u8]) -> Result<(Method, Outcome), Kind>
+fn call(called: &[u8], ending: &[u8]) -> Result<CallEnd, Kind>
     ensures { result ≡ call_in called.now ending.now }
 {
-    both(one_of(method(called)), one_of(outcome(ending)))
+    let (method, outcome) = both(one_of(method(called)), one_of(outcome(ending)))?;
+    Ok(CallEnd { method, outcome })
 }
 
 /// N R `ok` or `fail`
