@@ -16,7 +16,7 @@ use Rattle.schedule_text.specs.EventNames.{event_in}
 use Rattle.schedule_text.specs.Events.{event_line}
 use Rattle.schedule_text.specs.Fields.{node_in, device_in, number_in, second_in, rounds_in}
 use Rattle.schedule_text.specs.Lines.{line_of, is_blank}
-use Rattle.schedule_text.specs.Words.{decimal_in, is_word}
+use Rattle.schedule_text.specs.Words.{is_word}
 use Rattle.schedule_gen.specs.Grammar.{four_nodes}
 use Rattle.schedule_gen.specs.Lines.{spaced, create_words}
 use Rattle.schedule_gen.proofs.WordLemmas.{AreWords, has_no_space, words_of_spaced, decimal_is_word, decimal_in_decimal, decimal_digits, first, second}
