@@ -15,12 +15,13 @@ use Rattle.schedule_text.specs.Allowed.{IsHeader, IsAttached}
 pub header_more : (h : Header) (d : HeaderDevice) (new : Header) → new ≡ record h { devices = h.devices ++ (d ∷ []) }
     → IsHeader h → length h.devices < 16 → IsAttached h.nodes d → IsHeader new
 header_more h d new is given room attached = subst IsHeader (sym is) (record {
-    cluster_low = given.cluster_low;
-    cluster_high = given.cluster_high;
-    nodes_low = given.nodes_low;
-    nodes_high = given.nodes_high;
-    devices = omega (arith, length-append h.devices (d ∷ []), room);
-    attached = All-push (IsAttached h.nodes) h.devices d given.attached attached })
+  cluster_low = given.cluster_low;
+  cluster_high = given.cluster_high;
+  nodes_low = given.nodes_low;
+  nodes_high = given.nodes_high;
+  devices = omega (arith, length-append h.devices (d ∷ []), room);
+  attached = All-push (IsAttached h.nodes) h.devices d given.attached attached;
+})
 
 pub map_twice : (ws : List (Bor (List ℕ))) → map decimal_in (map (λ w. w.now) ws) ≡ map (λ w. decimal_in w.now) ws
 map_twice [] = refl
@@ -28,6 +29,6 @@ map_twice (w ∷ ws) = ap (λ ds. decimal_in w.now ∷ ds) (map_twice ws)
 
 pub numbered_behind : (h : Header) (number : Numeral) (quorum : Bool) (ws : List (Bor (List ℕ)))
     → described h (Some number) (Some quorum) (map (λ w. w.now) ws) ≡ (if not (length ws == 0) && list_all (λ w. is_decimal w.now) ws
-        then (if is_next h number then attached h quorum (ascending 0 0 (map (λ w. decimal_in w.now) ws)) else Err kind.Number)
-        else Ok None)
+    then (if is_next h number then attached h quorum (ascending 0 0 (map (λ w. decimal_in w.now) ws)) else Err kind.Number)
+    else Ok None)
 numbered_behind h number quorum ws = rw (length-map ws (λ (w : Bor (List ℕ)). w.now), all_map is_decimal ws, map_twice ws) refl

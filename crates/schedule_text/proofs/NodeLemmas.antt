@@ -41,9 +41,10 @@ pub more_nodes : (x y : Result ℕ Kind) (set n new most : ℕ) → both x y ≡
     → IfOk y (λ (n : ℕ). (1 ≤ n) × (n ≤ 16) × (n ≤ most)) → ((m : ℕ) → has new m ≡ ((m == n) || has set m)) → AreNodes most new
 more_nodes (Ok a) (Ok b) set n new most is within node members =
     let left : a ≡ set = ap (λ (r : Result (ℕ × ℕ) Kind). left_of r) is in
-    let right : b ≡ n = ap (λ (r : Result (ℕ × ℕ) Kind). right_of r) is in
-    (not_empty n new (has_new set n new members),
-     more_within set n new most members (subst (AreWithin most) left within) (omega (arith, right, node.0)) (omega (arith, right, node.2)))
+    let right : b ≡ n = ap (λ (r : Result (ℕ × ℕ) Kind). right_of r) is in (
+      not_empty n new (has_new set n new members),
+      more_within set n new most members (subst (AreWithin most) left within) (omega (arith, right, node.0)) (omega (arith, right, node.2)),
+    )
 more_nodes (Ok a) (Err kind) set n new most is within node members = absurd (cc)
 more_nodes (Err kind) (Ok b) set n new most is within node members = absurd (cc)
 more_nodes (Err kind) (Err other) set n new most is within node members = absurd (cc)

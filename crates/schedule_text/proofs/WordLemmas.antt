@@ -42,11 +42,12 @@ name_holds w h = rw (le-leb 1 (length w) h.0, le-leb (length w) 32 h.1, h.2, lis
 holds_name : (w : List ℕ) → is_name w ≡ true → IsName w
 holds_name w h =
     let three = left (nat_le 1 (length w) && nat_le (length w) 32 && is_letter (slice_index w 0)) (list_all is_name_byte w) h in
-    let two = left (nat_le 1 (length w) && nat_le (length w) 32) (is_letter (slice_index w 0)) three in
-    (leb-true 1 (length w) (left (nat_le 1 (length w)) (nat_le (length w) 32) two),
-     leb-true (length w) 32 (right (nat_le 1 (length w)) (nat_le (length w) 32) two),
-     right (nat_le 1 (length w) && nat_le (length w) 32) (is_letter (slice_index w 0)) three,
-     AllPass-from_list_all is_name_byte w (right (nat_le 1 (length w) && nat_le (length w) 32 && is_letter (slice_index w 0)) (list_all is_name_byte w) h))
+    let two = left (nat_le 1 (length w) && nat_le (length w) 32) (is_letter (slice_index w 0)) three in (
+      leb-true 1 (length w) (left (nat_le 1 (length w)) (nat_le (length w) 32) two),
+      leb-true (length w) 32 (right (nat_le 1 (length w)) (nat_le (length w) 32) two),
+      right (nat_le 1 (length w) && nat_le (length w) 32) (is_letter (slice_index w 0)) three,
+      AllPass-from_list_all is_name_byte w (right (nat_le 1 (length w) && nat_le (length w) 32 && is_letter (slice_index w 0)) (list_all is_name_byte w) h),
+    )
 
 no_name : (w : List ℕ) (t : Bool) → is_name w ≡ t → (IsName w → ⊥) → t ≡ false
 no_name w true is never = absurd (never (holds_name w is))
@@ -74,7 +75,7 @@ pub joined_more : (x : List ℕ) (ws : List (Bor (List ℕ))) (i : ℕ) (d : Bor
     → new ≡ join_with_byte 32 (x ∷ map (λ w. w.now) (take (i + 1) ws))
 joined_more x ws i d lt text pushed new before space word =
     word ∙ rw (space, before, take_more ws i d lt, map_end (take i ws) (get_or ws i d), join_more x (map (λ w. w.now) (take i ws)) (get_or ws i d).now)
-        (append_assoc (join_with_byte 32 (x ∷ map (λ w. w.now) (take i ws))) (32 ∷ []) (get_or ws i d).now)
+    (append_assoc (join_with_byte 32 (x ∷ map (λ w. w.now) (take i ws))) (32 ∷ []) (get_or ws i d).now)
 
 -- what the words of a command make
 
@@ -82,9 +83,10 @@ no_newline : (w : List ℕ) → list_any (λ b. b == 10) w ≡ false → All (λ
 no_newline w h = λ k d lt is. differ (sym h ∙ list_any_at (λ b. b == 10) w k d lt (ap (λ (b : ℕ). b == 10) is))
 
 clean_word : (w : List ℕ) → is_word w ≡ true → AreWords w
-clean_word w h =
-    (some_byte w (left (not (length w == 0)) (not (list_any (λ b. b == 10) w)) h),
-     no_newline w (false_if (list_any (λ b. b == 10) w) (right (not (length w == 0)) (not (list_any (λ b. b == 10) w)) h)))
+clean_word w h = (
+  some_byte w (left (not (length w == 0)) (not (list_any (λ b. b == 10) w)) h),
+  no_newline w (false_if (list_any (λ b. b == 10) w) (right (not (length w == 0)) (not (list_any (λ b. b == 10) w)) h)),
+)
 
 clean_both : (a b : List ℕ) → AreWords a → AreWords b → AreWords (a ++ (32 ∷ b))
 clean_both a b ca cb = (omega (arith, length-append a (32 ∷ b), ca.0), All-append (λ b. b ≢ 10) a (32 ∷ b) ca.1 (All-cons (λ b. b ≢ 10) 32 b (omega arith) cb.1))

@@ -127,8 +127,8 @@ fn numbered(
 ) -> Result<Option<HeaderDevice>, Kind>
     ensures value { result ≡ (if not (length nodes.now == 0) && list_all (λ w. is_decimal w.now) nodes.now
         then (if is_next header.now number
-            then attached header.now quorum (ascending 0 0 (map (λ w. decimal_in w.now) nodes.now))
-            else Err Kind.Number)
+        then attached header.now quorum (ascending 0 0 (map (λ w. decimal_in w.now) nodes.now))
+        else Err Kind.Number)
         else Ok None) }
     ensures attached { IfOk result (λ device. IfSome device (IsAttached header.now.nodes)) }
     ensures room { IfOk result (λ device. IfSome device (λ _. length header.now.devices < 16)) }

@@ -18,7 +18,10 @@ const MOST_ROUNDS: u64 = 100;
 const ALL_ROUNDS: u64 = 100_000;
 
 /// Two fields of a line, or the first kind of refusal that fits either.
-pub fn both<A: Copy, B: Copy>(first: Result<A, Kind>, second: Result<B, Kind>) -> Result<(A, B), Kind>
+pub fn both<A: Copy, B: Copy>(
+    first: Result<A, Kind>,
+    second: Result<B, Kind>,
+) -> Result<(A, B), Kind>
     ensures { result ≡ both first second }
 {
     match (first, second) {
@@ -32,7 +35,11 @@ pub fn both<A: Copy, B: Copy>(first: Result<A, Kind>, second: Result<B, Kind>) -
 fn first_kind(kind: Kind, other: Kind) -> Kind
     ensures { result ≡ first_kind kind other }
 {
-    if rank(kind) <= rank(other) { kind } else { other }
+    if rank(kind) <= rank(other) {
+        kind
+    } else {
+        other
+    }
 }
 
 fn rank(kind: Kind) -> u64
@@ -185,11 +192,7 @@ pub fn nodes(header: &Header, words: &[&[u8]]) -> Result<NodeSet, Kind>
 }
 
 /// The set and one more node.
-fn with_node(
-    header: &Header,
-    nodes: Result<NodeSet, Kind>,
-    word: &[u8],
-) -> Result<NodeSet, Kind>
+fn with_node(header: &Header, nodes: Result<NodeSet, Kind>, word: &[u8]) -> Result<NodeSet, Kind>
     requires { IfOk nodes (AreWithin header.now.nodes) }
     ensures value { result ≡ with_node nodes (node_in header.now word.now) }
     ensures allowed { IfOk result (AreNodes header.now.nodes) }

@@ -145,9 +145,7 @@ fn next_device(
     ensures allowed { IfOk result (λ next. IfSome next IsAllowedState) }
 {
     match device_line(header, &words(alloc, line)?)? {
-        Some(device) => Ok(Some(HeaderState::Devices(with_device(
-            alloc, header, device,
-        )?))),
+        Some(device) => Ok(Some(HeaderState::Devices(with_device(alloc, header, device)?))),
         None => Ok(None),
     }
 }

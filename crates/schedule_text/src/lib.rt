@@ -17,6 +17,8 @@ mod method_name;
 mod number;
 mod numbers;
 mod reading;
+#[cfg(test)]
+mod tests;
 
 pub use event::{Event, StopChoice};
 pub use header::{Head, HeaderReader, HeaderState};

@@ -21,12 +21,7 @@ use pgr_device::PrCommand;
 use std::alloc::{AllocError, Global};
 
 /// Reads a line after the header, without its newline.
-pub fn read_line(
-    alloc: Global,
-    head: &Head,
-    so_far: SoFar,
-    line: &[u8],
-) -> Result<Line, ReadError>
+pub fn read_line(alloc: Global, head: &Head, so_far: SoFar, line: &[u8]) -> Result<Line, ReadError>
     ensures reading { Tells result (line_of head.now so_far line.now) }
     ensures allowed { IfOk result (IsAllowedLine head.now so_far) }
 {
