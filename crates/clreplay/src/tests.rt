@@ -117,6 +117,30 @@ fn expect_lines(
     expect(rt, alloc, "run", &input, output, status)
 }
 
+/// `check` of a cluster schedule of two nodes and a device, with these lines from line 5 on.
+fn expect_check(
+    rt: &impl Abort,
+    alloc: Global,
+    lines: &[u8],
+    output: &[u8],
+    status: Status,
+) -> Result<(), Fail> {
+    let header = b"schedule cluster 1\ncluster 2a\nnodes 2\ndevice 1 quorum 1 2\n";
+    let mut input = Vec::from_slice(alloc, header.as_slice())?;
+    input.extend_from_slice(lines)?;
+    expect(rt, alloc, "check", &input, output, status)
+}
+
+/// `check` of a cluster schedule of two nodes and a device refuses one of these lines.
+fn expect_refused(rt: &impl Abort, alloc: Global, lines: &[u8], output: &[u8]) -> Result<(), Fail> {
+    expect_check(rt, alloc, lines, output, Status::Refused)
+}
+
+/// `check` of this header alone refuses it.
+fn expect_header(rt: &impl Abort, alloc: Global, lines: &[u8], output: &[u8]) -> Result<(), Fail> {
+    expect(rt, alloc, "check", lines, output, Status::Refused)
+}
+
 /// `run` over the input, with calls that fail and a room.
 fn expect_faults(
     rt: &impl Abort,
@@ -364,6 +388,138 @@ fn lines_are_refused(rt: HostRuntime) -> Result<(), Fail> {
         b"1 keys\xff\n",
         b"refused 3 line\n",
         Status::Refused,
+    )
+}
+
+#[test]
+fn cluster_schedules_are_checked(rt: HostRuntime) -> Result<(), Fail> {
+    let alloc = rt.alloc();
+    expect_check(
+        &rt,
+        alloc,
+        b"boot 1\ncrash 2\ncrashat 1 1000 zero\ntick 2\ndeliver 1\nlose 2\nrepeat 18446744073709551615\nnext 1 2\ndrop 2 1\nagain 1 1\n\n# a comment\ndisk 2\nfault 2 1 undone\nwrite 1 1 18446744073709551615\ncmd 1 clrg status\noutcome 2 web PRENET_START timeout\nprobe 1 web fail\nclock 60\nclock 60\nrounds 100 2 1\n",
+        b"checked 25\n",
+        Status::Done,
+    )?;
+    expect_check(
+        &rt,
+        alloc,
+        b"boot 1\nend\nboot\n",
+        b"checked 6\n",
+        Status::Done,
+    )?;
+    expect_check(&rt, alloc, b"", b"checked 4\n", Status::Done)?;
+    expect_check(&rt, alloc, b"tick 1", b"checked 5\n", Status::Done)?;
+    expect_check(
+        &rt,
+        alloc,
+        b"\n# more\ndevice 2 data 2\nwrite 2 2 0\n",
+        b"checked 8\n",
+        Status::Done,
+    )?;
+    expect(
+        &rt,
+        alloc,
+        "run",
+        b"\nschedule cluster 1\ncluster 2a\nnodes 1\nboot 1\n",
+        b"refused 2 not-built\n",
+        Status::Refused,
+    )?;
+    expect(
+        &rt,
+        alloc,
+        "run",
+        b"schedule pr 1\nschedule cluster 1\n",
+        b"refused 2 header\n",
+        Status::Refused,
+    )
+}
+
+#[test]
+fn cluster_headers_are_refused(rt: HostRuntime) -> Result<(), Fail> {
+    let alloc = rt.alloc();
+    expect_header(&rt, alloc, b"schedule cluster 1\n", b"refused 2 header\n")?;
+    expect_header(&rt, alloc, b"schedule cluster 2\n", b"refused 1 header\n")?;
+    expect_header(
+        &rt,
+        alloc,
+        b"schedule cluster 1\ncluster 0\n",
+        b"refused 2 header\n",
+    )?;
+    expect_header(
+        &rt,
+        alloc,
+        b"schedule cluster 1\ncluster 123456789\n",
+        b"refused 2 header\n",
+    )?;
+    expect_header(
+        &rt,
+        alloc,
+        b"schedule cluster 1\ncluster 2a\nend\n",
+        b"refused 3 header\n",
+    )?;
+    expect_header(
+        &rt,
+        alloc,
+        b"schedule cluster 1\ncluster 2a\nnodes 17\n",
+        b"refused 3 number\n",
+    )?;
+    expect_header(
+        &rt,
+        alloc,
+        b"schedule cluster 1\ncluster 2a\nnodes 2\ndevice 2 data 1\n",
+        b"refused 4 number\n",
+    )?;
+    expect_header(
+        &rt,
+        alloc,
+        b"schedule cluster 1\ncluster 2a\nnodes 2\ndevice 1 data 2 1\n",
+        b"refused 4 number\n",
+    )?;
+    expect_header(
+        &rt,
+        alloc,
+        b"schedule cluster 1\ncluster 2a\nnodes 2\n\ndevice 1 data 3\n",
+        b"refused 5 unknown\n",
+    )?;
+    expect_header(
+        &rt,
+        alloc,
+        b"schedule cluster 1\ncluster 2a\nnodes 2\ndevice 1 server 1\n",
+        b"refused 4 line\n",
+    )
+}
+
+#[test]
+fn cluster_lines_are_refused(rt: HostRuntime) -> Result<(), Fail> {
+    let alloc = rt.alloc();
+    expect_refused(&rt, alloc, b"boot 1\nboot\n", b"refused 6 line\n")?;
+    expect_refused(&rt, alloc, b"1 keys\n", b"refused 5 line\n")?;
+    expect_refused(&rt, alloc, b"power\n", b"refused 5 line\n")?;
+    expect_refused(&rt, alloc, b"cmd 1 clrg  status\n", b"refused 5 line\n")?;
+    expect_refused(&rt, alloc, b"boot 17\n", b"refused 5 number\n")?;
+    expect_refused(&rt, alloc, b"next 3 17\n", b"refused 5 number\n")?;
+    expect_refused(&rt, alloc, b"crashat 1 1001 old\n", b"refused 5 number\n")?;
+    expect_refused(
+        &rt,
+        alloc,
+        b"clock 5\ntick 1\nclock 4\n",
+        b"refused 7 number\n",
+    )?;
+    expect_refused(&rt, alloc, b"rounds 101 1\n", b"refused 5 number\n")?;
+    expect_refused(&rt, alloc, b"boot 3\n", b"refused 5 unknown\n")?;
+    expect_refused(&rt, alloc, b"write 1 2 7\n", b"refused 5 unknown\n")?;
+    expect_refused(
+        &rt,
+        alloc,
+        b"tick 1\ndevice 2 data 1\n",
+        b"refused 6 line\n",
+    )?;
+    expect_header(
+        &rt,
+        alloc,
+        b"schedule pr 1\nsenders 1\nboot 1\n",
+        b"refused 3 line\n",
     )
 }
 

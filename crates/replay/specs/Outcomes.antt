@@ -3,11 +3,12 @@
 use Rattle.std.specs.Prelude.{ℕ, ◌+◌, ◌==◌, nat_lt, nat_le, Bool, ◌||◌, if◌then◌else◌, List, [], ◌∷◌, ◌++◌, length, Option, Some, None, codes}
 use Rattle.std.specs.List.{slice_split}
 use Rattle.std.specs.Fmt.{decimal}
+use Rattle.schedule_text.specs.declared.header.Head.{Head}
 use Rattle.schedule_text.specs.declared.kind.Kind.{Kind}
 use Rattle.schedule_text.specs.declared.kind.Kind.TheVariants as kind
 use Rattle.schedule_text.specs.Headers.{head_of}
 use Rattle.replay.specs.declared.session.State.{State}
-use Rattle.replay.specs.declared.session.State.TheVariants.{Heading, Replaying}
+use Rattle.replay.specs.declared.session.State.TheVariants.{Heading, Checking, Replaying}
 use Rattle.replay.specs.declared.task.Task.{Task}
 use Rattle.replay.specs.declared.task.Task.TheVariants.{Run, Check}
 use Rattle.replay.specs.Sessions.{Step, Goes, Finishes, Refuses, step, start}
@@ -43,9 +44,10 @@ is_too_large read line = nat_le 200000 read || nat_lt 4096 (length line)
 abbrev pub at_end : State → ℕ → Outcome
 at_end (Heading state) read = if_whole (head_of state) read
   where
-    if_whole : Option ℕ → ℕ → Outcome
+    if_whole : Option Head → ℕ → Outcome
     if_whole None read = silent (Refused (read + 1) kind.Header)
-    if_whole (Some senders) read = silent (Ended read)
+    if_whole (Some head) read = silent (Ended read)
+at_end (Checking head so_far) read = silent (Ended read)
 at_end (Replaying device) read = silent (Ended read)
 
 -- a line is answered and what follows goes on from there; or it is the last

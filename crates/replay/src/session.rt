@@ -1,11 +1,12 @@
-ghost use Rattle.std.specs.Prelude.{◌≡◌, ℕ, Some};
-ghost use Rattle.pgr_device.specs.Device.{fresh};
-ghost use Rattle.schedule_text.specs.HeaderAnswers.{IsHead};
-ghost use Rattle.replay.specs.Sessions.{step, body, replayed, Answers};
-ghost use Rattle.schedule_text.specs.Allowed.{IsAllowedLine};
+ghost use Rattle.std.specs.Prelude.{◌≡◌, Some};
+ghost use Rattle.pgr_device.specs.Allowed.{IsAllowed};
+ghost use Rattle.schedule_text.specs.Lines.{line_of};
+ghost use Rattle.schedule_text.specs.declared.header.Head.TheVariants.{Pr};
+ghost use Rattle.replay.specs.Sessions.{step, opened, checked, body, obeyed, powered, start_of_lines, is_not_built, Answers};
 
 use crate::task::Task;
-use pgr_device::Pgr;
+use cl_base::{NodeId, NodeSet};
+use pgr_device::{Pgr, PrCommand};
 use schedule_text::{Head, HeaderReader, Kind, Line, ReadError, SoFar, read_line};
 use status_report::{Entry, print};
 use std::alloc::{AllocError, Global};
@@ -15,7 +16,14 @@ use std::alloc::{AllocError, Global};
 pub enum State {
     /// The header is being read.
     Heading(HeaderReader),
-    /// The header was read; this is the device.
+    /// The header was read; the lines after it are read alone.
+    Checking {
+        /// The header.
+        head: Head,
+        /// What the lines after it have set.
+        so_far: SoFar,
+    },
+    /// The header of a reservation schedule was read; this is the device.
     Replaying(Pgr),
 }
 
@@ -40,6 +48,19 @@ impl From<AllocError> for NoAnswer {
     }
 }
 
+impl From<ReadError> for NoAnswer {
+    ghost use Rattle.replay.specs.Sessions.{unread};
+
+    ghost from_gives = { λ error e. e ≡ unread error };
+
+    fn from(error: ReadError) -> NoAnswer {
+        match error {
+            ReadError::Refused(kind) => NoAnswer::Refused(kind),
+            ReadError::NoMemory => NoAnswer::NoMemory,
+        }
+    }
+}
+
 /// A line was answered: the state that it leads to, and the text to write.
 #[derive(Drop)]
 pub struct Answered {
@@ -52,8 +73,9 @@ pub fn answer(alloc: Global, task: Task, state: State, line: &[u8]) -> Result<An
     ensures { Answers result (step task state line.now) }
 {
     match state {
-        State::Replaying(device) => answer_body(alloc, task, device, line),
         State::Heading(reader) => answer_header(alloc, task, reader, line),
+        State::Checking { head, so_far } => check(alloc, head, so_far, line),
+        State::Replaying(device) => replay(alloc, device, line),
     }
 }
 
@@ -66,74 +88,115 @@ fn answer_header(
     ensures { Answers result (step task (State.Heading reader) line.now) }
 {
     let mut reader = reader;
-    match reader.take(alloc, line) {
-        Ok(true) => Ok(Answered {
-            state: State::Heading(reader),
-            text: Vec::new(alloc),
-        }),
-        Ok(false) => match reader.finish() {
-            Ok(head) => answer_body(alloc, task, first_device(head), line),
+    let taken = reader.take(alloc, line)?;
+    if !taken {
+        return match reader.finish() {
+            Ok(head) => answer_first(alloc, task, head, line),
             Err(kind) => Err(NoAnswer::Refused(kind)),
-        },
-        Err(ReadError::Refused(kind)) => Err(NoAnswer::Refused(kind)),
-        Err(ReadError::NoMemory) => Err(NoAnswer::NoMemory),
+        };
+    }
+    if is_not_built(task, line) {
+        return Err(NoAnswer::Refused(Kind::NotBuilt));
+    }
+    Ok(Answered {
+        state: State::Heading(reader),
+        text: Vec::new(alloc),
+    })
+}
+
+/// Whether the line opens a cluster schedule that is to be replayed.
+fn is_not_built(task: Task, line: &[u8]) -> bool
+    ensures { result ≡ is_not_built task line.now }
+{
+    match task {
+        Task::Run => line == b"schedule cluster 1".as_slice(),
+        Task::Check => false,
     }
 }
 
-/// The device as the lines after the header find it.
-fn first_device(head: Head) -> Pgr
-    ensures { (senders : ℕ) → IsHead (Some senders) head → result ≡ fresh senders }
+/// Answers the first line after the header.
+fn answer_first(
+    alloc: Global,
+    task: Task,
+    head: Head,
+    line: &[u8],
+) -> Result<Answered, NoAnswer>
+    ensures { Answers result (opened task (Some head) line.now) }
+{
+    match task {
+        Task::Check => check(alloc, head, SoFar::new(), line),
+        Task::Run => run_first(alloc, head, line),
+    }
+}
+
+fn run_first(alloc: Global, head: Head, line: &[u8]) -> Result<Answered, NoAnswer>
+    ensures { Answers result (opened Task.Run (Some head) line.now) }
 {
     match head {
-        Head::Pr(senders) => Pgr::new(senders),
+        Head::Pr(senders) => replay(alloc, Pgr::new(senders), line),
+        // The first line of a cluster schedule is refused, so none comes here.
+        Head::Cluster(header) => check(alloc, Head::Cluster(header), SoFar::new(), line),
     }
 }
 
-fn answer_body(alloc: Global, task: Task, device: Pgr, line: &[u8]) -> Result<Answered, NoAnswer>
-    ensures { Answers result (body task device line.now) }
+/// Reads a line after the header, and does nothing.
+fn check(alloc: Global, head: Head, so_far: SoFar, line: &[u8]) -> Result<Answered, NoAnswer>
+    ensures { Answers result (checked head so_far line.now) }
+{
+    let read = read_line(alloc, &head, so_far, line)?;
+    if let Line::End = read {
+        return Err(NoAnswer::Ends);
+    }
+    let so_far = so_far.after(&read);
+    Ok(Answered {
+        state: State::Checking { head, so_far },
+        text: Vec::new(alloc),
+    })
+}
+
+/// Reads a line after the header of a reservation schedule, and replays it.
+fn replay(alloc: Global, device: Pgr, line: &[u8]) -> Result<Answered, NoAnswer>
+    ensures { Answers result (body device line.now) }
 {
     // Nothing of the head or of earlier lines matters to a line of a reservation schedule.
-    let so_far = SoFar {
-        clock: 0,
-        rounds: 0,
-    };
-    let read = match read_line(alloc, &Head::Pr(cl_base::NodeSet::empty()), so_far, line) {
-        Ok(read) => read,
-        Err(ReadError::Refused(kind)) => return Err(NoAnswer::Refused(kind)),
-        Err(ReadError::NoMemory) => return Err(NoAnswer::NoMemory),
-    };
-    match read {
+    let head = Head::Pr(NodeSet::empty());
+    match read_line(alloc, &head, SoFar::new(), line)? {
         Line::End => Err(NoAnswer::Ends),
-        Line::Blank => Ok(Answered {
+        Line::Command { sender, command } => obey(alloc, device, sender, command),
+        Line::Power => lose_power(alloc, device),
+        Line::Blank | Line::Event(_) => Ok(Answered {
             state: State::Replaying(device),
             text: Vec::new(alloc),
         }),
-        _ => match task {
-            Task::Check => Ok(Answered {
-                state: State::Replaying(device),
-                text: Vec::new(alloc),
-            }),
-            Task::Run => replay(alloc, device, read),
-        },
     }
 }
 
-fn replay(alloc: Global, device: Pgr, line: Line) -> Result<Answered, NoAnswer>
-    requires { IsAllowedLine line }
-    ensures { Answers result (replayed device line) }
+/// The device obeys the command.
+fn obey(
+    alloc: Global,
+    device: Pgr,
+    sender: NodeId,
+    command: PrCommand,
+) -> Result<Answered, NoAnswer>
+    requires { IsAllowed command }
+    ensures { Answers result (obeyed device sender command) }
 {
     let mut device = device;
-    let text = match line {
-        Line::Command { sender, command } => {
-            let answer = device.execute(sender, command);
-            print(alloc, &Entry::Answered(answer))?
-        }
-        Line::Power => {
-            device.power_loss();
-            print(alloc, &Entry::Powered)?
-        }
-        _ => Vec::new(alloc),
-    };
+    let answer = device.execute(sender, command);
+    let text = print(alloc, &Entry::Answered(answer))?;
+    Ok(Answered {
+        state: State::Replaying(device),
+        text,
+    })
+}
+
+/// The device loses power and comes back.
+fn lose_power(alloc: Global, device: Pgr) -> Result<Answered, NoAnswer>
+    ensures { Answers result (powered device) }
+{
+    let mut device = device;
+    device.power_loss();
+    let text = print(alloc, &Entry::Powered)?;
     Ok(Answered {
         state: State::Replaying(device),
         text,

@@ -78,7 +78,7 @@ fn end(state: State, lines: u64) -> Stop
     ensures { EndsAt result (at_end state lines) }
 {
     match state {
-        State::Replaying(_) => Stop::Ended(lines),
+        State::Checking { .. } | State::Replaying(_) => Stop::Ended(lines),
         State::Heading(header) => match header.finish() {
             Ok(_) => Stop::Ended(lines),
             Err(kind) => Stop::Refused(lines + 1, kind),

@@ -1,5 +1,6 @@
 -- What a word of digits is as a number.
-use Rattle.std.proofs.Common.{◌≡◌, ◌≢◌, nat_le, ℕ, ◌^◌, ◌<◌, ◌≤◌, ◌==◌, nat_lt, Bool, true, false, not, ◌&&◌, List, [], ◌∷◌, length, slice_index, Some, Err, zero, suc, refl, subst, arith, rules}
+use Rattle.std.proofs.Common.{◌≡◌, ◌≢◌, nat_le, ℕ, ◌^◌, ◌<◌, ◌≤◌, ◌==◌, nat_lt, if◌then◌else◌, Bool, true, false, not, ◌&&◌, List, [], ◌∷◌, length, slice_index, Option, Some, None, unwrap_or, Result, Ok, Err, OkIff, zero, suc, refl, ap, ◌∙◌, subst, arith, rules}
+use Rattle.std.specs.Result.{result_ok}
 use Rattle.std.specs.List.{list_all}
 use Rattle.std.specs.Char.{is_ascii_digit, digit_value}
 use Rattle.std.specs.Str.{IsUtf8}
@@ -9,10 +10,10 @@ use Rattle.std.proofs.lemmas.Fmt.{IsAscii-from_digits}
 use Rattle.std.proofs.lemmas.Str.{IsUtf8-from_ascii}
 use Rattle.std.proofs.lemmas.Int.Digits.{digits_value-lt}
 use Rattle.std.proofs.Math.Nat.{pow-le-pow_right}
-use Rattle.std.proofs.lemmas.Bool.{le-ltb, ltb-false, ltb-true, leb-true}
+use Rattle.std.proofs.lemmas.Bool.{le-ltb, ltb-false, ltb-true, le-leb, leb-true}
 use Rattle.std.proofs.lemmas.Bool.Decides.{nat_tests}
 use Rattle.schedule_text.specs.declared.number.Numeral.TheVariants.{Beyond}
-use Rattle.schedule_text.specs.Words.{is_decimal, numeral_of, decimal_in, has_no_leading_zero, is_key, is_key_digit}
+use Rattle.schedule_text.specs.Words.{is_decimal, numeral_of, decimal_in, has_no_leading_zero, is_key, is_key_digit, key_in, cluster_in}
 
 abbrev Digits : List ℕ → Type 0
 Digits w = list_all is_ascii_digit w ≡ true
@@ -106,3 +107,28 @@ unread_key {E} text w e same h parsed =
     let reads = subst (λ (t : List ℕ). ParsesUnsigned {E = E} 64 16 t (Err e)) same parsed in
     let fails = subst (λ (t : List ℕ). IsNumeral 16 t × (digits_value 16 t < 2 ^ 64) → ⊥) plain reads in
     fails ((key_nonempty w h, key_digits w (digits_of_key w h)), key_value w h)
+
+-- an id of 8 digits fits 32 bits
+
+some_same : (a b : ℕ) → Some a ≡ Some b → a ≡ b
+some_same a b h = ap (λ (o : Option ℕ). unwrap_or o 0) h
+
+id_below : (w : List ℕ) (id : ℕ) (t : Bool) → is_key w ≡ t → (if t then Some (digits_value 16 w) else None) ≡ Some id → length w ≤ 8 → id < 2 ^ 32
+id_below w id true is h short =
+    let below : digits_value 16 w < 16 ^ length w = digits_value-lt 16 w (key_digits w (digits_of_key w is)) in
+    let most : 16 ^ length w ≤ 16 ^ 8 = pow-le-pow_right {n = 16} (omega arith) {i = length w} {j = 8} short in
+    let same : digits_value 16 w ≡ id = some_same (digits_value 16 w) id h in
+    omega arith
+id_below w id false is h short = absurd (cc)
+
+kept : {E : Type 0} (id : ℕ) (r : Result ℕ E) → id < 2 ^ 32 → OkIff r (id < 4294967296) id → result_ok r ≡ Some id
+kept id (Ok x) fits h = ap Some h.1
+kept id (Err e) fits h = absurd (h (omega arith))
+
+not_zero : (id : ℕ) (t : Bool) → (id == 0) ≡ t → (id ≡ 0 → ⊥) → t ≡ false
+not_zero id true is other = absurd (other (grind (arith, nat_tests)))
+not_zero id false is other = refl
+
+pub cluster_known : {E : Type 0} (w : List ℕ) (id : ℕ) (r : Result ℕ E) → length w ≤ 8 → key_in w ≡ Some id → (id ≡ 0 → ⊥) → OkIff r (id < 4294967296) id → result_ok r ≡ cluster_in w
+cluster_known w id r short known other h =
+    kept id r (id_below w id (is_key w) refl known short) h ∙ rw (le-leb (length w) 8 short, known, not_zero id (id == 0) refl other) refl

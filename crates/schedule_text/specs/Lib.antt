@@ -1,8 +1,13 @@
 pub mod Allowed
 pub mod Answers
+pub mod Choices
 pub mod Commands
+pub mod EventNames
+pub mod Events
+pub mod Fields
 pub mod HeaderAnswers
 pub mod Headers
 pub mod Lines
+pub mod MethodNames
 pub mod Names
 pub mod Words

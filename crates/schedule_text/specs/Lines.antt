@@ -1,16 +1,23 @@
--- The lines of a reservation schedule after its header.
-use Rattle.std.specs.Prelude.{ℕ, ◌==◌, nat_le, Bool, ◌&&◌, ◌||◌, if◌then◌else◌, List, ◌∷◌, length, slice_index, Option, Some, None, Result, Ok, Err, codes}
+-- The lines of a schedule after its header.
+use Rattle.std.specs.Prelude.{ℕ, ◌+◌, ◌==◌, nat_le, Bool, ◌&&◌, ◌||◌, if◌then◌else◌, List, ◌∷◌, length, slice_index, Option, Some, None, Result, Ok, Err, codes}
 use Rattle.std.specs.Str.{bytes_eq}
 use Rattle.pgr_device.specs.declared.command.PrCommand.{PrCommand}
+use Rattle.cl_base.specs.declared.header.Header.{Header}
 use Rattle.schedule_text.specs.declared.command_name.CommandName.{CommandName}
+use Rattle.schedule_text.specs.declared.event.Event.{Event}
+use Rattle.schedule_text.specs.declared.event.Event.TheVariants as event
+use Rattle.schedule_text.specs.declared.header.Head.{Head}
+use Rattle.schedule_text.specs.declared.header.Head.TheVariants.{Pr, Cluster}
 use Rattle.schedule_text.specs.declared.line.Line.{Line}
 use Rattle.schedule_text.specs.declared.line.Line.TheVariants as line
+use Rattle.schedule_text.specs.declared.line.SoFar.{SoFar}
 use Rattle.schedule_text.specs.declared.kind.Kind.{Kind}
 use Rattle.schedule_text.specs.declared.kind.Kind.TheVariants as kind
 use Rattle.schedule_text.specs.declared.number.Numeral.{Numeral}
 use Rattle.schedule_text.specs.declared.number.Numeral.TheVariants.{Within, Beyond}
 use Rattle.schedule_text.specs.Words.{words_of, decimal_in}
 use Rattle.schedule_text.specs.Commands.{command_of}
+use Rattle.schedule_text.specs.Events.{event_line}
 use Rattle.schedule_text.specs.Names.{name_in}
 
 -- an empty line, or a comment, which begins with # (35)
@@ -37,10 +44,33 @@ abbrev pub words_line : List (List ℕ) → Result Line Kind
 words_line (sender ∷ name ∷ fields) = command_line (decimal_in sender) (named (name_in name) fields)
 words_line _ = Err kind.Line
 
--- what a line of a reservation schedule is, or the first kind of refusal that fits
-abbrev pub line_of : List ℕ → Result Line Kind
-line_of bytes =
+-- the lines of a reservation schedule are `power` and the commands to the device
+abbrev pub pr_line : List ℕ → Result Line Kind
+pr_line bytes = if bytes_eq bytes (codes "power") then Ok line.Power else words_line (words_of bytes)
+
+abbrev pub happens : Result Event Kind → Result Line Kind
+happens (Ok event) = Ok (line.Event event)
+happens (Err kind) = Err kind
+
+-- those of a cluster schedule are events
+abbrev pub form_line : Head → SoFar → List ℕ → Result Line Kind
+form_line (Pr senders) s bytes = pr_line bytes
+form_line (Cluster h) s bytes = happens (event_line h s (words_of bytes))
+
+-- what a line of a schedule with this header is, or the first kind of refusal that fits
+abbrev pub line_of : Head → SoFar → List ℕ → Result Line Kind
+line_of head s bytes =
     if is_blank bytes then Ok line.Blank
     else if bytes_eq bytes (codes "end") then Ok line.End
-    else if bytes_eq bytes (codes "power") then Ok line.Power
-    else words_line (words_of bytes)
+    else form_line head s bytes
+
+-- the clock and the rounds after an event
+abbrev pub so_far_after_event : SoFar → Event → SoFar
+so_far_after_event s (event.Clock second) = record s { clock = second }
+so_far_after_event s (event.Rounds count nodes) = record s { rounds = s.rounds + count }
+so_far_after_event s _ = s
+
+-- and after a line
+abbrev pub so_far_after : SoFar → Line → SoFar
+so_far_after s (line.Event event) = so_far_after_event s event
+so_far_after s _ = s

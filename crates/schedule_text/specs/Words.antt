@@ -1,6 +1,6 @@
 -- The words of a line, and the numbers and keys among them.
 use Rattle.std.specs.Prelude.{ℕ, ◌^◌, ◌==◌, nat_lt, nat_le, Bool, not, ◌&&◌, ◌||◌, if◌then◌else◌, List, length, slice_index, Option, Some, None}
-use Rattle.std.specs.List.{slice_split, list_all}
+use Rattle.std.specs.List.{slice_split, list_all, list_any}
 use Rattle.std.specs.Char.{is_ascii_digit}
 use Rattle.std.specs.Str.Parse.{digits_value}
 use Rattle.schedule_text.specs.declared.number.Numeral.{Numeral}
@@ -37,3 +37,16 @@ decimal_in word = if is_decimal word then Some (numeral_of (digits_value 10 word
 -- the key that a word is, if it is one
 abbrev pub key_in : List ℕ → Option ℕ
 key_in word = if is_key word then Some (digits_value 16 word) else None
+
+-- what is there, unless it is zero
+abbrev pub unless_zero : Option ℕ → Option ℕ
+unless_zero None = None
+unless_zero (Some n) = if n == 0 then None else Some n
+
+-- the id of a cluster: a key of at most 8 digits that is not zero
+abbrev pub cluster_in : List ℕ → Option ℕ
+cluster_in word = if nat_le (length word) 8 then unless_zero (key_in word) else None
+
+-- a word of a command: any bytes but the space and the newline (10), and at least one; a word of a line has no space
+abbrev pub is_word : List ℕ → Bool
+is_word word = not (length word == 0) && not (list_any (λ b. b == 10) word)

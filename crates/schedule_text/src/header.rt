@@ -1,32 +1,43 @@
-ghost use Rattle.std.specs.Prelude.{◌≡◌, ◌==◌, ◌∷◌, ◌&&◌, not, if◌then◌else◌, length, map, None, MatchResult};
+ghost use Rattle.std.specs.Prelude.{◌≡◌, ◌==◌, ◌∷◌, ◌&&◌, not, if◌then◌else◌, length, map, None, Some, MatchResult, IfOk, IfSome, false};
 ghost use Rattle.std.specs.List.{list_all};
-ghost use Rattle.schedule_text.specs.Headers.{head_of, opening_line, senders_line, senders_step, ascending, Bad};
-ghost use Rattle.schedule_text.specs.HeaderAnswers.{TakesLine, Steps, IsHead};
-ghost use Rattle.schedule_text.specs.Words.{is_decimal, decimal_in};
+ghost use Rattle.schedule_text.specs.Allowed.{IsAllowedHead, IsAllowedState, IsHeader};
+ghost use Rattle.schedule_text.specs.Headers.{header_step, head_of, can_hold_blank, opening_line, senders_line, senders_step, ascending, device_step, device_line, Bad};
+ghost use Rattle.schedule_text.specs.HeaderAnswers.{TakesLine, Steps, Leads};
+ghost use Rattle.schedule_text.specs.Lines.{is_blank};
+ghost use Rattle.schedule_text.specs.Words.{is_decimal, decimal_in, words_of};
 
+use crate::cluster_header::{cluster_line, device_line, nodes_line, with_device};
 use crate::kind::{Kind, ReadError};
-use crate::number::{Numeral, decimal, is_decimal};
+use crate::numbers::{all_decimal, ascending};
 use crate::reading::{is_blank, words};
-use cl_base::{NodeId, NodeSet};
+use cl_base::{Header, NodeSet};
 use std::alloc::Global;
 use std::marker::Model;
 
 /// A whole header.
-#[derive(Clone, Copy, Debug, PartialEq, Eq)]
+#[derive(Debug, Drop)]
 pub enum Head {
     /// That of a reservation schedule, with the nodes that have a path to the device.
     Pr(NodeSet),
+    /// That of a cluster schedule.
+    Cluster(Header),
 }
 
 /// How much of a header was read.
-#[derive(Clone, Copy, Debug, PartialEq, Eq)]
+#[derive(Debug, Drop)]
 pub enum HeaderState {
     /// Nothing.
     Opening,
     /// The first line of a reservation schedule.
     Senders,
-    /// All of it.
+    /// All of a reservation schedule's header.
     Complete(NodeSet),
+    /// The first line of a cluster schedule.
+    Cluster,
+    /// The id of the cluster too.
+    Nodes(u32),
+    /// All that a cluster schedule's header must have; more devices may follow.
+    Devices(Header),
 }
 
 /// Reads the header of a schedule line by line.
@@ -40,7 +51,11 @@ impl Model for HeaderReader {
 
     ghost Value = { HeaderState };
 
+    ghost use Rattle.schedule_text.specs.Allowed.{IsAllowedState};
+
     ghost view = { λ r. r.state };
+
+    ghost invariant = { λ r. IsAllowedState r.state };
 }
 
 impl HeaderReader {
@@ -54,50 +69,96 @@ impl HeaderReader {
     }
 
     /// Takes a line, without its newline: `true` where it belongs to the header, `false` where the
-    /// header can end before it, and then nothing changes.
+    /// header can end before it and it belongs to what follows, and then nothing changes. Empty
+    /// lines and comments before the last line of the header, and among the devices of a cluster
+    /// schedule and right after them, belong to it.
     pub fn take(&mut self, alloc: Global, line: &[u8]) -> Result<bool, ReadError>
         ensures step { TakesLine self.old line.now result self.new }
     {
-        let state = self.state;
-        if let HeaderState::Complete(_) = state {
-            return Ok(false);
-        }
-        if is_blank(line) {
+        if can_hold_blank(&self.state) && is_blank(line) {
             return Ok(true);
         }
-        let next = match state {
-            HeaderState::Opening => opening(line),
-            _ => senders(&words(alloc, line)?),
-        };
-        match next {
-            Ok(state) => {
+        match next_state(alloc, &self.state, line)? {
+            Some(state) => {
                 self.state = state;
                 Ok(true)
             }
-            Err(kind) => Err(ReadError::Refused(kind)),
+            None => Ok(false),
         }
     }
 
     /// The header, where the schedule may end here.
     pub fn finish(self) -> Result<Head, Kind>
-        ensures head { MatchResult result (IsHead (head_of self)) (λ kind. (head_of self ≡ None) × (kind ≡ Kind.Header)) }
+        ensures head { MatchResult result (λ head. head_of self ≡ Some head) (λ kind. (head_of self ≡ None) × (kind ≡ Kind.Header)) }
+        ensures allowed { IfOk result IsAllowedHead }
     {
         let HeaderReader { state } = self;
         match state {
             HeaderState::Complete(senders) => Ok(Head::Pr(senders)),
+            HeaderState::Devices(header) => Ok(Head::Cluster(header)),
             _ => Err(Kind::Header),
         }
     }
 }
 
+/// Whether a line without a word belongs to the header.
+fn can_hold_blank(state: &HeaderState) -> bool
+    ensures { result ≡ can_hold_blank state.now }
+{
+    match state {
+        HeaderState::Complete(_) => false,
+        _ => true,
+    }
+}
+
+/// The state that a line with words leads to, or none where the header can end before the line.
+fn next_state(
+    alloc: Global,
+    state: &HeaderState,
+    line: &[u8],
+) -> Result<Option<HeaderState>, ReadError>
+    requires words { (can_hold_blank state.now && is_blank line.now) ≡ false }
+    requires before { IsAllowedState state.now }
+    ensures step { Leads result (header_step state.now line.now) }
+    ensures allowed { IfOk result (λ next. IfSome next IsAllowedState) }
+{
+    match state {
+        HeaderState::Complete(_) => Ok(None),
+        HeaderState::Opening => Ok(Some(opening(line)?)),
+        HeaderState::Senders => Ok(Some(senders(&words(alloc, line)?)?)),
+        HeaderState::Cluster => Ok(Some(cluster_line(&words(alloc, line)?)?)),
+        HeaderState::Nodes(cluster) => {
+            Ok(Some(nodes_line(alloc, *cluster, &words(alloc, line)?)?))
+        }
+        HeaderState::Devices(header) => next_device(alloc, header, line),
+    }
+}
+
+/// What a line makes of a header whose devices are being read.
+fn next_device(
+    alloc: Global,
+    header: &Header,
+    line: &[u8],
+) -> Result<Option<HeaderState>, ReadError>
+    requires { IsHeader header.now }
+    ensures step { Leads result (device_step header.now (device_line header.now (words_of line.now))) }
+    ensures allowed { IfOk result (λ next. IfSome next IsAllowedState) }
+{
+    match device_line(header, &words(alloc, line)?)? {
+        Some(device) => Ok(Some(HeaderState::Devices(with_device(alloc, header, device)?))),
+        None => Ok(None),
+    }
+}
+
 /// What the first line of a schedule opens.
 fn opening(line: &[u8]) -> Result<HeaderState, Kind>
-    ensures { Steps result (opening_line line.now) }
+    ensures step { Steps result (opening_line line.now) }
+    ensures allowed { IfOk result IsAllowedState }
 {
     if line == b"schedule pr 1".as_slice() {
         Ok(HeaderState::Senders)
     } else if line == b"schedule cluster 1".as_slice() {
-        Err(Kind::NotBuilt)
+        Ok(HeaderState::Cluster)
     } else {
         Err(Kind::Header)
     }
@@ -105,7 +166,8 @@ fn opening(line: &[u8]) -> Result<HeaderState, Kind>
 
 /// What the line that names the senders comes to.
 fn senders(words: &[&[u8]]) -> Result<HeaderState, Kind>
-    ensures { Steps result (senders_line (map (λ w. w.now) words.now)) }
+    ensures step { Steps result (senders_line (map (λ w. w.now) words.now)) }
+    ensures allowed { IfOk result IsAllowedState }
 {
     match words {
         [name, numbers @ ..] => named_senders(name, numbers),
@@ -114,7 +176,8 @@ fn senders(words: &[&[u8]]) -> Result<HeaderState, Kind>
 }
 
 fn named_senders(name: &[u8], numbers: &[&[u8]]) -> Result<HeaderState, Kind>
-    ensures { Steps result (senders_line (name.now ∷ map (λ w. w.now) numbers.now)) }
+    ensures step { Steps result (senders_line (name.now ∷ map (λ w. w.now) numbers.now)) }
+    ensures allowed { IfOk result IsAllowedState }
 {
     if name == b"senders".as_slice() {
         sender_numbers(numbers)
@@ -125,39 +188,15 @@ fn named_senders(name: &[u8], numbers: &[&[u8]]) -> Result<HeaderState, Kind>
 
 /// What the numbers of the senders come to.
 fn sender_numbers(numbers: &[&[u8]]) -> Result<HeaderState, Kind>
-    ensures { Steps result (if not (length numbers.now == 0) && list_all (λ w. is_decimal w.now) numbers.now
+    ensures step { Steps result (if not (length numbers.now == 0) && list_all (λ w. is_decimal w.now) numbers.now
         then senders_step (ascending 0 0 (map (λ w. decimal_in w.now) numbers.now)) else Bad Kind.Header) }
+    ensures allowed { IfOk result IsAllowedState }
 {
     if numbers.is_empty() || !all_decimal(numbers) {
         return Err(Kind::Header);
     }
     match ascending(numbers) {
-        Some(senders) => Ok(HeaderState::Complete(senders)),
+        Some(senders) => Ok(HeaderState::Complete(senders.nodes)),
         None => Err(Kind::Number),
     }
-}
-
-fn all_decimal(words: &[&[u8]]) -> bool
-    ensures { result ≡ list_all (λ w. is_decimal w.now) words.now }
-{
-    words.iter().all(|word| is_decimal(word))
-}
-
-/// The set of these numbers, where they ascend from 1 to at most 16.
-fn ascending(numbers: &[&[u8]]) -> Option<NodeSet>
-    ensures { result ≡ ascending 0 0 (map (λ w. decimal_in w.now) numbers.now) }
-{
-    let mut last = 0;
-    let mut senders = NodeSet::empty();
-    for word in numbers {
-        let Some(Numeral::Within(number)) = decimal(word) else {
-            return None;
-        };
-        if number <= last || number > 16 {
-            return None;
-        }
-        senders = senders.with(NodeId::new(number).ok()?);
-        last = number;
-    }
-    Some(senders)
 }

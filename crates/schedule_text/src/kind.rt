@@ -1,5 +1,5 @@
 ghost use Rattle.std.specs.Prelude.{◌≡◌};
-ghost use Rattle.schedule_text.specs.declared.kind.ReadError.TheVariants.{NoMemory};
+ghost use Rattle.schedule_text.specs.declared.kind.ReadError.TheVariants.{NoMemory, Refused};
 
 use std::alloc::AllocError;
 use thiserror::Error;
@@ -35,5 +35,13 @@ impl From<AllocError> for ReadError {
 
     fn from(_: AllocError) -> ReadError {
         ReadError::NoMemory
+    }
+}
+
+impl From<Kind> for ReadError {
+    ghost from_gives = { λ kind e. e ≡ Refused kind };
+
+    fn from(kind: Kind) -> ReadError {
+        ReadError::Refused(kind)
     }
 }

@@ -2,14 +2,25 @@
 //! one reading, or the first kind of refusal that fits.
 #![tactic(auto)]
 
+mod choice;
+mod cluster_header;
 mod command_name;
 mod command_words;
+mod event;
+mod event_name;
+mod event_words;
+mod field;
 mod header;
 mod kind;
 mod line;
+mod method_name;
 mod number;
+mod numbers;
 mod reading;
+#[cfg(test)]
+mod tests;
 
+pub use event::{Event, StopChoice};
 pub use header::{Head, HeaderReader, HeaderState};
 pub use kind::{Kind, ReadError};
 pub use line::{Line, SoFar};

@@ -1,7 +1,7 @@
 ghost use Rattle.std.specs.Prelude.{◌≡◌};
 ghost use Rattle.std.specs.List.{list_all};
 ghost use Rattle.std.specs.Char.{is_ascii_digit};
-ghost use Rattle.schedule_text.specs.Words.{decimal_in, is_decimal, is_key, is_key_digit, has_no_leading_zero, key_in};
+ghost use Rattle.schedule_text.specs.Words.{decimal_in, cluster_in, is_decimal, is_key, is_key_digit, has_no_leading_zero, key_in};
 
 /// A decimal number of a schedule.
 #[derive(Clone, Copy, Debug, PartialEq, Eq)]
@@ -42,6 +42,20 @@ pub fn key(word: &[u8]) -> Option<u64>
         Ok(key) => Some(key),
         Err(_) => None,
     }
+}
+
+/// The id of a cluster that the word is, if it is one.
+pub fn cluster_id(word: &[u8]) -> Option<u32>
+    ensures { result ≡ cluster_in word.now }
+{
+    if word.len() > 8 {
+        return None;
+    }
+    let id = key(word)?;
+    if id == 0 {
+        return None;
+    }
+    u32::try_from(id).ok()
 }
 
 /// Whether the word is a decimal number without a leading zero.

@@ -1,30 +1,29 @@
-ghost use Rattle.std.specs.Prelude.{◌≡◌, map, IfOk};
+ghost use Rattle.std.specs.Prelude.{◌≡◌, ℕ, map, IfOk};
 ghost use Rattle.schedule_text.specs.Answers.{Tells};
-ghost use Rattle.schedule_text.specs.Lines.{line_of, words_line, is_blank, sent_by, command_line, named};
+ghost use Rattle.schedule_text.specs.Lines.{line_of, pr_line, happens, words_line, is_blank, sent_by, command_line, named};
 ghost use Rattle.schedule_text.specs.Names.{name_in};
 ghost use Rattle.schedule_text.specs.Words.{words_of, decimal_in};
 ghost use Rattle.schedule_text.specs.Allowed.{IsAllowedLine};
 ghost use Rattle.pgr_device.specs.Allowed.{IsAllowed};
+ghost use Rattle.schedule_text.specs.Events.{event_line};
+ghost use Rattle.schedule_text.specs.declared.header.Head.TheVariants.{Pr, Cluster};
+ghost use Rattle.schedule_text.specs.declared.line.SoFar.{SoFar};
 
 use crate::command_name::command_name;
 use crate::command_words::command;
+use crate::event_words::event;
 use crate::header::Head;
 use crate::kind::{Kind, ReadError};
 use crate::line::{Line, SoFar};
 use crate::number::{Numeral, decimal};
-use cl_base::NodeId;
+use cl_base::{Header, NodeId};
 use pgr_device::PrCommand;
 use std::alloc::{AllocError, Global};
 
 /// Reads a line after the header, without its newline.
-pub fn read_line(
-    alloc: Global,
-    _head: &Head,
-    _so_far: SoFar,
-    line: &[u8],
-) -> Result<Line, ReadError>
-    ensures reading { Tells result (line_of line.now) }
-    ensures allowed { IfOk result IsAllowedLine }
+pub fn read_line(alloc: Global, head: &Head, so_far: SoFar, line: &[u8]) -> Result<Line, ReadError>
+    ensures reading { Tells result (line_of head.now so_far line.now) }
+    ensures allowed { IfOk result (IsAllowedLine head.now so_far) }
 {
     if is_blank(line) {
         return Ok(Line::Blank);
@@ -32,14 +31,36 @@ pub fn read_line(
     if line == b"end".as_slice() {
         return Ok(Line::End);
     }
+    match head {
+        Head::Pr(_) => pr_line(alloc, line),
+        Head::Cluster(header) => cluster_line(alloc, header, so_far, line),
+    }
+}
+
+/// A line of a reservation schedule.
+fn pr_line(alloc: Global, line: &[u8]) -> Result<Line, ReadError>
+    ensures reading { Tells result (pr_line line.now) }
+    ensures allowed { (senders : ℕ) (s : SoFar) → IfOk result (IsAllowedLine (Pr senders) s) }
+{
     if line == b"power".as_slice() {
         return Ok(Line::Power);
     }
     let words = words(alloc, line)?;
-    match command_line(&words) {
-        Ok(line) => Ok(line),
-        Err(kind) => Err(ReadError::Refused(kind)),
-    }
+    Ok(command_line(&words)?)
+}
+
+/// A line of a cluster schedule.
+fn cluster_line(
+    alloc: Global,
+    header: &Header,
+    so_far: SoFar,
+    line: &[u8],
+) -> Result<Line, ReadError>
+    ensures reading { Tells result (happens (event_line header.now so_far (words_of line.now))) }
+    ensures allowed { IfOk result (IsAllowedLine (Cluster header.now) so_far) }
+{
+    let words = words(alloc, line)?;
+    Ok(Line::Event(event(alloc, header, so_far, &words)?))
 }
 
 /// Whether the line is empty or a comment.
@@ -61,7 +82,7 @@ pub fn words(alloc: Global, line: &[u8]) -> Result<Vec<&[u8]>, AllocError>
 
 fn command_line(words: &[&[u8]]) -> Result<Line, Kind>
     ensures reading { result ≡ words_line (map (λ w. w.now) words.now) }
-    ensures allowed { IfOk result IsAllowedLine }
+    ensures allowed { (senders : ℕ) (s : SoFar) → IfOk result (IsAllowedLine (Pr senders) s) }
 {
     match words {
         [sender, name, fields @ ..] => sender_line(sender, name, fields),
@@ -71,7 +92,7 @@ fn command_line(words: &[&[u8]]) -> Result<Line, Kind>
 
 fn sender_line(sender: &[u8], name: &[u8], fields: &[&[u8]]) -> Result<Line, Kind>
     ensures reading { result ≡ command_line (decimal_in sender.now) (named (name_in name.now) (map (λ w. w.now) fields.now)) }
-    ensures allowed { IfOk result IsAllowedLine }
+    ensures allowed { (senders : ℕ) (s : SoFar) → IfOk result (IsAllowedLine (Pr senders) s) }
 {
     let Some(sender) = decimal(sender) else {
         return Err(Kind::Line);
@@ -88,7 +109,7 @@ fn sender_line(sender: &[u8], name: &[u8], fields: &[&[u8]]) -> Result<Line, Kin
 fn sent_by(sender: Numeral, command: PrCommand) -> Result<Line, Kind>
     requires { IsAllowed command }
     ensures reading { result ≡ sent_by sender command }
-    ensures allowed { IfOk result IsAllowedLine }
+    ensures allowed { (senders : ℕ) (s : SoFar) → IfOk result (IsAllowedLine (Pr senders) s) }
 {
     let Numeral::Within(number) = sender else {
         return Err(Kind::Number);

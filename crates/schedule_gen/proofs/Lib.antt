@@ -1,0 +1,5 @@
+pub mod DrawLemmas
+pub mod EventLemmas
+pub mod GrammarLemmas
+pub mod ProgressLemmas
+pub mod WordLemmas

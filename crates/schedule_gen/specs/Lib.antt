@@ -1,0 +1,4 @@
+pub mod Draws
+pub mod Grammar
+pub mod Lines
+pub mod Progress

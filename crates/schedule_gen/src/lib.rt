@@ -1,0 +1,12 @@
+//! Schedules made from a number, the seed: the same seed gives the same lines.
+#![tactic(auto)]
+
+mod draw;
+mod event;
+mod generator;
+pub mod law;
+mod opening;
+#[cfg(test)]
+mod tests;
+
+pub use generator::Gen;
