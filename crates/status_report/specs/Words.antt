@@ -30,5 +30,5 @@ numbers_to set zero = []
 numbers_to set (suc k) = if has set (suc k) then numbers_to set k ++ suc k ∷ [] else numbers_to set k
 
 -- the numbers of the set, which are 1 to 32
-abbrev pub set_text : ℕ → List ℕ
+unfoldable pub set_text : ℕ → List ℕ
 set_text set = list_text (numbers_to set 32)

@@ -46,7 +46,9 @@ fn accepted_line(alloc: Global, epoch: Epoch, node: NodeId, device: DevId, value
     let epoch = epoch.number();
     let node = node.number();
     let device = device.number();
-    format!(in alloc; "write {epoch} {node} {device} {value} accepted")
+    let mut text = format!(in alloc; "write {epoch} {node} {device} {value}")?;
+    text.push_str(" accepted")?;
+    Ok(text)
 }
 
 fn refused_line(alloc: Global, node: NodeId, device: DevId, value: u64, cause: WriteRefusal) -> Result<String, AllocError>

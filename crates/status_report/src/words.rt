@@ -31,6 +31,7 @@ pub fn named(alloc: Global, words: &'static str, name: &Name) -> Result<Vec<u8>,
     with_bytes(String::from_str(alloc, words)?, name.bytes())
 }
 
+#[tactic(auto, unfolding(crate::specs::Words::set_text))]
 /// The numbers of the set by commas, or `none`. Bit n - 1 is set for the number n.
 pub fn set_text(alloc: Global, bits: u32) -> Result<String, AllocError>
     ensures { IfOk result (λ text. string_bytes text ≡ set_text bits) }
