@@ -2,6 +2,7 @@ pub mod AttemptLines
 pub mod CallLines
 pub mod CommandLines
 pub mod DeviceLines
+pub mod Entries
 pub mod Lines
 pub mod NodeLines
 pub mod PacketLines
