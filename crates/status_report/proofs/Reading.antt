@@ -74,22 +74,24 @@ digits_are_word : (radix : ℕ) (ds : List ℕ) → radix ≤ 16 → AllDigits r
 digits_are_word radix [] le h = tt
 digits_are_word radix (d ∷ ds) le h = (digit_is_no_stop radix d le h.0, digits_are_word radix ds le h.1)
 
-below_16 : (n : ℕ) → n < 2 ^ 64 → n < 16 ^ 64
+pub below_16 : (n : ℕ) → n < 2 ^ 64 → n < 16 ^ 64
 below_16 n h = omega (arith, h)
+
+pub number_is_word : (n : ℕ) → IsNumber n → IsWord (decimal n)
+number_is_word n h = digits_are_word 10 (decimal n) (omega arith) (decimal_is_IsNumeral n h).0.1
+
+pub key_is_word : (n : ℕ) → IsNumber n → IsWord (hex n)
+key_is_word n h = digits_are_word 16 (hex n) (omega arith) (digits_is_IsNumeral 16 false (omega arith) (omega arith) n (below_16 n h)).0.1
 
 pub number : (n : ℕ) → IsNumber n → Reads number_at (decimal n) n
 unfolding number_at
 number n h =
-    let numeral = decimal_is_IsNumeral n h in
-    let word : IsWord (decimal n) = digits_are_word 10 (decimal n) (omega arith) numeral.0.1 in
-    record { again = λ rest s. rw (word_again (decimal n) rest word s, numeral.1) refl }
+    record { again = λ rest s. rw (word_again (decimal n) rest (number_is_word n h) s, (decimal_is_IsNumeral n h).1) refl }
 
 pub key : (n : ℕ) → IsNumber n → Reads key_at (hex n) n
 unfolding key_at
 key n h =
-    let numeral = digits_is_IsNumeral 16 false (omega arith) (omega arith) n (below_16 n h) in
-    let word : IsWord (hex n) = digits_are_word 16 (hex n) (omega arith) numeral.0.1 in
-    record { again = λ rest s. rw (word_again (hex n) rest word s, numeral.1) refl }
+    record { again = λ rest s. rw (word_again (hex n) rest (key_is_word n h) s, (digits_is_IsNumeral 16 false (omega arith) (omega arith) n (below_16 n h)).1) refl }
 
 -- ---- names
 
