@@ -38,7 +38,7 @@ thing_again : (t : Thing) → IsThing t → thing_of (thing_text t) ≡ t
 thing_again (Named name) h = rw (name_starts name h) refl
 thing_again (Numbered n) h = rw (decimal_alone n h, last (number n h)) refl
 
-unfoldable is_empty : List ℕ → Bool
+unfoldable pub is_empty : List ℕ → Bool
 is_empty [] = true
 is_empty (b ∷ bs) = false
 
@@ -106,11 +106,11 @@ reply_again (answer.Refused refusal.DeviceNotHeld) h = refl
 
 -- ---- lines of tables
 
-unfoldable has_tab : List ℕ → Bool
+unfoldable pub has_tab : List ℕ → Bool
 has_tab [] = false
 has_tab (b ∷ bs) = if b == 9 then true else has_tab bs
 
-unfoldable key_before : List ℕ → List ℕ × List ℕ
+unfoldable pub key_before : List ℕ → List ℕ × List ℕ
 key_before [] = ([], [])
 key_before (b ∷ bs) = if b == 9 then ([], b ∷ bs) else (b ∷ (key_before bs).0, (key_before bs).1)
 
