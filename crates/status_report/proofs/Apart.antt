@@ -24,7 +24,7 @@ cut_same (a ∷ front) (b ∷ bs) x y ha hb e =
 pub apart : (a b : Entry) (x y : List ℕ) → IsEntry a → IsEntry b → printed a ++ x ≡ printed b ++ y → (a ≡ b) × (x ≡ y)
 apart a b x y ha hb e =
     let cut = cut_same (entry_text a) (entry_text b) x y (line_from (entry_text a) (entry_line a ha)) (line_from (entry_text b) (entry_line b hb))
-        (sym (append_assoc (entry_text a) (10 ∷ []) x) ∙ e ∙ append_assoc (entry_text b) (10 ∷ []) y) in
+    (sym (append_assoc (entry_text a) (10 ∷ []) x) ∙ e ∙ append_assoc (entry_text b) (10 ∷ []) y) in
     (sym (entry_again a ha) ∙ ap entry_of cut.0 ∙ entry_again b hb, cut.1)
 
 pub alike : (a b : Entry) → IsEntry a → IsEntry b → printed a ≡ printed b → a ≡ b

@@ -192,7 +192,7 @@ numbers_are_numbers : (set k : ℕ) → k < 2 ^ 64 → AllByRecursion IsNumber (
 numbers_are_numbers set zero low = tt
 numbers_are_numbers set (suc k) low = chosen_numbers k (has set (suc k)) (numbers_to set k) low (numbers_are_numbers set k (omega (arith, low)))
 
-set_numbers : (set : ℕ) → AllByRecursion IsNumber (numbers_to set 32)
+pub set_numbers : (set : ℕ) → AllByRecursion IsNumber (numbers_to set 32)
 set_numbers set = numbers_are_numbers set 32 (omega arith)
 
 abbrev pub set_of : List ℕ → ℕ

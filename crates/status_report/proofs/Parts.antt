@@ -264,9 +264,10 @@ abbrev lack_of : List ℕ → Lack
 lack_of = part number_at (λ d t. record { device = d; cause = cause_of t })
 
 lack_item : (l : Lack) → IsLack l → Item 32 lack_text lack_of l
-lack_item l h =
-    (lacks_append 32 (decimal l.device) (58 ∷ cause_text l.cause) (word_lacks_space (decimal l.device) (number_is_word l.device h.0)) (refl, cause_lacks l.cause h.1),
-    rw ((number l.device h.0).again (58 ∷ cause_text l.cause) refl, cause_again l.cause h.1) refl)
+lack_item l h = (
+  lacks_append 32 (decimal l.device) (58 ∷ cause_text l.cause) (word_lacks_space (decimal l.device) (number_is_word l.device h.0)) (refl, cause_lacks l.cause h.1),
+  rw ((number l.device h.0).again (58 ∷ cause_text l.cause) refl, cause_again l.cause h.1) refl,
+)
 
 abbrev pub lacking_of : List ℕ → List Lack
 lacking_of text = if starts_digit text then items_of 32 lack_of text else []

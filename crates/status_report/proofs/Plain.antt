@@ -282,8 +282,13 @@ letter false l h = refl
 flags_line : (f : AdoptedFlags) → no_newline (flags_text f) ≡ true
 unfolding no_newline
 flags_line f =
-    rw (over (letter_if f.pre (codes "p")) (letter f.pre (codes "p") refl), over (letter_if f.run (codes "r")) (letter f.run (codes "r") refl), over (letter_if f.mon (codes "m")) (letter f.mon (codes "m") refl),
-    over (letter_if f.faulted (codes "f")) (letter f.faulted (codes "f") refl), letter f.stop_failed (codes "s") refl) refl
+    rw (
+      over (letter_if f.pre (codes "p")) (letter f.pre (codes "p") refl),
+      over (letter_if f.run (codes "r")) (letter f.run (codes "r") refl),
+      over (letter_if f.mon (codes "m")) (letter f.mon (codes "m") refl),
+      over (letter_if f.faulted (codes "f")) (letter f.faulted (codes "f") refl),
+      letter f.stop_failed (codes "s") refl,
+    ) refl
 
 method_line : (x : Method) → no_newline (method_text x) ≡ true
 unfolding no_newline

@@ -56,9 +56,12 @@ entry_of = choose entry.Powered
     ∷ (codes "device ", part number_at (λ n. part number_at (λ d. part parts.command_at (λ c t. entry.Device (device.Command n d c (parts.given_of (after (after t))))))))
     ∷ (codes "write ", part number_at (λ a. part number_at (λ b. part number_at (λ c t. write_of a b c t))))
     ∷ (codes "attempt ", part number_at (λ e t. entry.Attempt (attempt.Begun e (set_of t))))
-    ∷ (codes "ended ", part number_at (λ e. choose entry.Powered
-        ((codes "votes ", part number_at (λ have. part number_at (λ need t. entry.Attempt (attempt.Votes e have need (parts.lacking_of t))))) ∷ (codes "superseded ", λ t. entry.Attempt (attempt.Superseded e (number_at t).0))
-        ∷ (codes "silent ", λ t. entry.Attempt (attempt.Silent e (number_at t).0)) ∷ (codes "excluded ", λ t. entry.Attempt (attempt.Excluded e (number_at t).0)) ∷ [])))
+    ∷ (
+      codes "ended ",
+      part number_at (λ e. choose entry.Powered
+          ((codes "votes ", part number_at (λ have. part number_at (λ need t. entry.Attempt (attempt.Votes e have need (parts.lacking_of t))))) ∷ (codes "superseded ", λ t. entry.Attempt (attempt.Superseded e (number_at t).0))
+          ∷ (codes "silent ", λ t. entry.Attempt (attempt.Silent e (number_at t).0)) ∷ (codes "excluded ", λ t. entry.Attempt (attempt.Excluded e (number_at t).0)) ∷ [])),
+    )
     ∷ (codes "start ", part number_at (λ e. part set_at (λ ns. behind (codes "held ") (part set_at (λ ds. behind (codes "base ") (λ t. entry.Start (start.Started e ns ds (number_at t).0)))))))
     ∷ (codes "base ", part number_at (λ e. part number_at (λ v t. entry.Start (start.Base e v t))))
     ∷ (codes "adopt ", part number_at (λ e. part number_at (λ n. part word_at (λ r t. entry.Start (start.Adopted e n r (parts.flags_of t))))))

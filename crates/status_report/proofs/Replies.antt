@@ -153,9 +153,10 @@ hex_lacks_tab : (bytes : List ℕ) → IsBytes bytes → Lacks 9 (encode_lower b
 unfolding encode_with
 hex_lacks_tab [] h = tt
 hex_lacks_tab (b ∷ bytes) h =
-    let fits : b < 256 = h 0 in
-    (hex_digit_no_tab (b / 16) (slice_index lower_digits (b / 16) == 9) refl (omega arith),
-    (hex_digit_no_tab (b % 16) (slice_index lower_digits (b % 16) == 9) refl (omega arith), hex_lacks_tab bytes (λ k. h (suc k))))
+    let fits : b < 256 = h 0 in (
+      hex_digit_no_tab (b / 16) (slice_index lower_digits (b / 16) == 9) refl (omega arith),
+      (hex_digit_no_tab (b % 16) (slice_index lower_digits (b % 16) == 9) refl (omega arith), hex_lacks_tab bytes (λ k. h (suc k))),
+    )
 
 checksum_no_tab : (digest : List ℕ) → IsBytes digest → has_tab (codes "ccr_checksum " ++ encode_lower digest) ≡ false
 unfolding has_tab

@@ -19,7 +19,12 @@ pub fn attempt_line(alloc: Global, entry: &AttemptEntry) -> Result<String, Alloc
             let members = set_text(alloc, members.bits())?;
             format!(in alloc; "attempt {epoch} {members}")
         }
-        AttemptEntry::Votes { epoch, have, need, lacking } => votes_line(alloc, *epoch, *have, *need, lacking.items()),
+        AttemptEntry::Votes {
+            epoch,
+            have,
+            need,
+            lacking,
+        } => votes_line(alloc, *epoch, *have, *need, lacking.items()),
         AttemptEntry::Superseded { epoch, by } => {
             let epoch = epoch.number();
             let by = by.number();
@@ -38,7 +43,13 @@ pub fn attempt_line(alloc: Global, entry: &AttemptEntry) -> Result<String, Alloc
     }
 }
 
-fn votes_line(alloc: Global, epoch: Epoch, have: u64, need: u64, lacking: &[Lack]) -> Result<String, AllocError>
+fn votes_line(
+    alloc: Global,
+    epoch: Epoch,
+    have: u64,
+    need: u64,
+    lacking: &[Lack],
+) -> Result<String, AllocError>
     ensures { IfOk result (λ text. string_bytes text ≡ attempt_text (Votes epoch have need lacking.now)) }
 {
     let epoch = epoch.number();

@@ -12,37 +12,76 @@ pub fn call_line(alloc: Global, entry: &CallEntry) -> Result<Vec<u8>, AllocError
     ensures { IfOk result (λ line. line.items ≡ call_text entry.now) }
 {
     match entry {
-        CallEntry::Called { epoch, node, method, resource } => called_line(alloc, *epoch, *node, *method, resource),
-        CallEntry::Done { epoch, node, method, resource, outcome } => done_line(alloc, *epoch, *node, *method, resource, *outcome),
-        CallEntry::Probed { node, resource, result: outcome } => probed_line(alloc, *node, resource, *outcome),
+        CallEntry::Called {
+            epoch,
+            node,
+            method,
+            resource,
+        } => called_line(alloc, *epoch, *node, *method, resource),
+        CallEntry::Done {
+            epoch,
+            node,
+            method,
+            resource,
+            outcome,
+        } => done_line(alloc, *epoch, *node, *method, resource, *outcome),
+        CallEntry::Probed {
+            node,
+            resource,
+            result: outcome,
+        } => probed_line(alloc, *node, resource, *outcome),
     }
 }
 
 #[tactic(auto, using(crate::proofs::Joins::joined_once))]
-fn called_line(alloc: Global, epoch: Epoch, node: NodeId, method: Method, resource: &Name) -> Result<Vec<u8>, AllocError>
+fn called_line(
+    alloc: Global,
+    epoch: Epoch,
+    node: NodeId,
+    method: Method,
+    resource: &Name,
+) -> Result<Vec<u8>, AllocError>
     ensures { IfOk result (λ line. line.items ≡ call_text (Called epoch node method resource.now)) }
 {
     let epoch = epoch.number();
     let node = node.number();
     let method = method_word(method);
-    with_bytes(format!(in alloc; "call {epoch} {node} {method} ")?, resource.bytes())
+    with_bytes(
+        format!(in alloc; "call {epoch} {node} {method} ")?,
+        resource.bytes(),
+    )
 }
 
 #[tactic(auto, using(crate::proofs::Joins::joined_once))]
-fn done_line(alloc: Global, epoch: Epoch, node: NodeId, method: Method, resource: &Name, outcome: Outcome) -> Result<Vec<u8>, AllocError>
+fn done_line(
+    alloc: Global,
+    epoch: Epoch,
+    node: NodeId,
+    method: Method,
+    resource: &Name,
+    outcome: Outcome,
+) -> Result<Vec<u8>, AllocError>
     ensures { IfOk result (λ line. line.items ≡ call_text (Done epoch node method resource.now outcome)) }
 {
     let epoch = epoch.number();
     let node = node.number();
     let method = method_word(method);
-    let mut line = with_bytes(format!(in alloc; "done {epoch} {node} {method} ")?, resource.bytes())?;
+    let mut line = with_bytes(
+        format!(in alloc; "done {epoch} {node} {method} ")?,
+        resource.bytes(),
+    )?;
     line.push(b' ')?;
     line.extend_from_slice(outcome_word(outcome).as_bytes())?;
     Ok(line)
 }
 
 #[tactic(auto, using(crate::proofs::Joins::joined_once))]
-fn probed_line(alloc: Global, node: NodeId, resource: &Name, outcome: ProbeResult) -> Result<Vec<u8>, AllocError>
+fn probed_line(
+    alloc: Global,
+    node: NodeId,
+    resource: &Name,
+    outcome: ProbeResult,
+) -> Result<Vec<u8>, AllocError>
     ensures { IfOk result (λ line. line.items ≡ call_text (Probed node resource.now outcome)) }
 {
     let node = node.number();

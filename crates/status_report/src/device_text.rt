@@ -14,13 +14,34 @@ pub fn device_line(alloc: Global, entry: DeviceEntry) -> Result<String, AllocErr
     ensures { IfOk result (λ text. string_bytes text ≡ device_text entry) }
 {
     match entry {
-        DeviceEntry::Command { node, device, command, answer } => command_line(alloc, node, device, command, answer),
-        DeviceEntry::Accepted { epoch, node, device, value } => accepted_line(alloc, epoch, node, device, value),
-        DeviceEntry::Refused { node, device, value, cause } => refused_line(alloc, node, device, value, cause),
+        DeviceEntry::Command {
+            node,
+            device,
+            command,
+            answer,
+        } => command_line(alloc, node, device, command, answer),
+        DeviceEntry::Accepted {
+            epoch,
+            node,
+            device,
+            value,
+        } => accepted_line(alloc, epoch, node, device, value),
+        DeviceEntry::Refused {
+            node,
+            device,
+            value,
+            cause,
+        } => refused_line(alloc, node, device, value, cause),
     }
 }
 
-fn command_line(alloc: Global, node: NodeId, device: DevId, command: PrCommand, answer: DeviceAnswer) -> Result<String, AllocError>
+fn command_line(
+    alloc: Global,
+    node: NodeId,
+    device: DevId,
+    command: PrCommand,
+    answer: DeviceAnswer,
+) -> Result<String, AllocError>
     ensures { IfOk result (λ text. string_bytes text ≡ device_text (Command node device command answer)) }
 {
     let node = node.number();
@@ -40,7 +61,13 @@ fn given_text(alloc: Global, answer: DeviceAnswer) -> Result<String, AllocError>
 }
 
 #[tactic(auto, using(crate::proofs::Joins::joined_once))]
-fn accepted_line(alloc: Global, epoch: Epoch, node: NodeId, device: DevId, value: u64) -> Result<String, AllocError>
+fn accepted_line(
+    alloc: Global,
+    epoch: Epoch,
+    node: NodeId,
+    device: DevId,
+    value: u64,
+) -> Result<String, AllocError>
     ensures { IfOk result (λ text. string_bytes text ≡ device_text (Accepted epoch node device value)) }
 {
     let epoch = epoch.number();
@@ -51,7 +78,13 @@ fn accepted_line(alloc: Global, epoch: Epoch, node: NodeId, device: DevId, value
     Ok(text)
 }
 
-fn refused_line(alloc: Global, node: NodeId, device: DevId, value: u64, cause: WriteRefusal) -> Result<String, AllocError>
+fn refused_line(
+    alloc: Global,
+    node: NodeId,
+    device: DevId,
+    value: u64,
+    cause: WriteRefusal,
+) -> Result<String, AllocError>
     ensures { IfOk result (λ text. string_bytes text ≡ device_text (Refused node device value cause)) }
 {
     let node = node.number();

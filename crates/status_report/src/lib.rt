@@ -43,3 +43,6 @@ pub use schedule_entry::{ScheduleEntry, SkipCause};
 pub use start_entry::{AdoptedFlags, StartEntry};
 pub use status_entry::{QuorumState, StatusEntry, TableLine};
 pub use update_entry::UpdateEntry;
+
+#[cfg(test)]
+mod tests;

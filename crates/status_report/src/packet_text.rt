@@ -12,7 +12,13 @@ pub fn packet_line(alloc: Global, entry: &PacketEntry) -> Result<String, AllocEr
     ensures { IfOk result (λ text. string_bytes text ≡ packet_text entry.now) }
 {
     match entry {
-        PacketEntry::Sent { number, from, to, message, bytes } => sent_line(alloc, *number, *from, *to, *message, bytes),
+        PacketEntry::Sent {
+            number,
+            from,
+            to,
+            message,
+            bytes,
+        } => sent_line(alloc, *number, *from, *to, *message, bytes),
         PacketEntry::Delivered { number, from, to } => delivered_line(alloc, *number, *from, *to),
         PacketEntry::Lost(number) => format!(in alloc; "lost {number}"),
         PacketEntry::Repeated { number, copy } => format!(in alloc; "repeated {number} {copy}"),
@@ -23,7 +29,14 @@ pub fn packet_line(alloc: Global, entry: &PacketEntry) -> Result<String, AllocEr
     }
 }
 
-fn sent_line(alloc: Global, number: u64, from: NodeId, to: NodeId, message: MessageName, bytes: &Bytes) -> Result<String, AllocError>
+fn sent_line(
+    alloc: Global,
+    number: u64,
+    from: NodeId,
+    to: NodeId,
+    message: MessageName,
+    bytes: &Bytes,
+) -> Result<String, AllocError>
     ensures { IfOk result (λ text. string_bytes text ≡ packet_text (Sent number from to message bytes.now)) }
 {
     let from = from.number();
@@ -33,7 +46,12 @@ fn sent_line(alloc: Global, number: u64, from: NodeId, to: NodeId, message: Mess
     format!(in alloc; "sent {number} {from} {to} {message} {digits}")
 }
 
-fn delivered_line(alloc: Global, number: u64, from: NodeId, to: NodeId) -> Result<String, AllocError>
+fn delivered_line(
+    alloc: Global,
+    number: u64,
+    from: NodeId,
+    to: NodeId,
+) -> Result<String, AllocError>
     ensures { IfOk result (λ text. string_bytes text ≡ packet_text (Delivered number from to)) }
 {
     let from = from.number();

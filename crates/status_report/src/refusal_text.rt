@@ -34,8 +34,12 @@ pub fn refused_text(alloc: Global, refusal: &Refusal) -> Result<Vec<u8>, AllocEr
         Refusal::NoMark => plain(alloc, "no-mark"),
         Refusal::NodeIsMember => plain(alloc, "node-is-member"),
         Refusal::DeviceNotHeld => plain(alloc, "device-not-held"),
-        Refusal::LoseQuorum { have, need } => Ok(format!(in alloc; "lose-quorum {have} {need}")?.into_bytes()),
-        Refusal::RecordFull { length } => Ok(format!(in alloc; "record-full {length}")?.into_bytes()),
+        Refusal::LoseQuorum { have, need } => Ok(format!(in alloc;
+            "lose-quorum {have} {need}"
+        )?.into_bytes()),
+        Refusal::RecordFull { length } => Ok(format!(in alloc;
+            "record-full {length}"
+        )?.into_bytes()),
     }
 }
 

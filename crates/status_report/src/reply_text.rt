@@ -17,17 +17,29 @@ pub fn command_line(alloc: Global, entry: &CommandEntry) -> Result<Vec<u8>, Allo
             let node = node.number();
             Ok(format!(in alloc; "asked {node} {number}")?.into_bytes())
         }
-        CommandEntry::Answered { node, number, answer } => answered_line(alloc, *node, *number, answer),
+        CommandEntry::Answered {
+            node,
+            number,
+            answer,
+        } => answered_line(alloc, *node, *number, answer),
     }
 }
 
 #[tactic(auto, using(crate::proofs::Joins::joined_once))]
-fn answered_line(alloc: Global, node: NodeId, number: u64, answer: &Answer) -> Result<Vec<u8>, AllocError>
+fn answered_line(
+    alloc: Global,
+    node: NodeId,
+    number: u64,
+    answer: &Answer,
+) -> Result<Vec<u8>, AllocError>
     ensures { IfOk result (λ line. line.items ≡ asked_text (Answered node number answer.now)) }
 {
     let node = node.number();
     let reply = answer_text(alloc, answer)?;
-    with_bytes(format!(in alloc; "answer {node} {number} ")?, reply.as_slice())
+    with_bytes(
+        format!(in alloc; "answer {node} {number} ")?,
+        reply.as_slice(),
+    )
 }
 
 /// The answer to a command in words, as they stand behind the command's number in its `answer` line.

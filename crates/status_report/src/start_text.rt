@@ -13,13 +13,33 @@ pub fn start_line(alloc: Global, entry: &StartEntry) -> Result<Vec<u8>, AllocErr
     ensures { IfOk result (λ line. line.items ≡ start_text entry.now) }
 {
     match entry {
-        StartEntry::Started { epoch, members, held, base } => started_line(alloc, *epoch, *members, *held, *base),
-        StartEntry::Base { epoch, place, words } => base_line(alloc, *epoch, *place, words),
-        StartEntry::Adopted { epoch, node, resource, flags } => adopted_line(alloc, *epoch, *node, resource, *flags),
+        StartEntry::Started {
+            epoch,
+            members,
+            held,
+            base,
+        } => started_line(alloc, *epoch, *members, *held, *base),
+        StartEntry::Base {
+            epoch,
+            place,
+            words,
+        } => base_line(alloc, *epoch, *place, words),
+        StartEntry::Adopted {
+            epoch,
+            node,
+            resource,
+            flags,
+        } => adopted_line(alloc, *epoch, *node, resource, *flags),
     }
 }
 
-fn started_line(alloc: Global, epoch: Epoch, members: NodeSet, held: DevSet, base: u64) -> Result<Vec<u8>, AllocError>
+fn started_line(
+    alloc: Global,
+    epoch: Epoch,
+    members: NodeSet,
+    held: DevSet,
+    base: u64,
+) -> Result<Vec<u8>, AllocError>
     ensures { IfOk result (λ line. line.items ≡ start_text (Started epoch members held base)) }
 {
     let epoch = epoch.number();
@@ -36,12 +56,21 @@ fn base_line(alloc: Global, epoch: Epoch, place: u64, words: &Bytes) -> Result<V
     with_bytes(format!(in alloc; "base {epoch} {place} ")?, words.items())
 }
 
-fn adopted_line(alloc: Global, epoch: Epoch, node: NodeId, resource: &Name, flags: AdoptedFlags) -> Result<Vec<u8>, AllocError>
+fn adopted_line(
+    alloc: Global,
+    epoch: Epoch,
+    node: NodeId,
+    resource: &Name,
+    flags: AdoptedFlags,
+) -> Result<Vec<u8>, AllocError>
     ensures { IfOk result (λ line. line.items ≡ start_text (Adopted epoch node resource.now flags)) }
 {
     let epoch = epoch.number();
     let node = node.number();
-    let mut line = with_bytes(format!(in alloc; "adopt {epoch} {node} ")?, resource.bytes())?;
+    let mut line = with_bytes(
+        format!(in alloc; "adopt {epoch} {node} ")?,
+        resource.bytes(),
+    )?;
     let flags = flags_text(alloc, flags)?;
     line.extend_from_slice(flags.as_bytes())?;
     Ok(line)

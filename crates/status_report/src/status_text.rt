@@ -6,7 +6,9 @@ ghost use Rattle.status_report.specs.declared.status_entry.StatusEntry.TheVarian
 ghost use Rattle.status_report.specs.declared.status_entry.TableLine.TheVariants.{Row};
 
 use crate::status_entry::{QuorumState, StatusEntry, TableLine};
-use crate::status_words::{group_state_word, member_word, quorum_state_word, reason_text, resource_state_word};
+use crate::status_words::{
+    group_state_word, member_word, quorum_state_word, reason_text, resource_state_word,
+};
 use crate::words::{named, with_bytes};
 use cl_base::{Bytes, DevId, Name, NodeId, Reason};
 use std::alloc::{AllocError, Global};
@@ -16,17 +18,45 @@ pub fn status_line(alloc: Global, entry: &StatusEntry) -> Result<Vec<u8>, AllocE
     ensures { IfOk result (λ line. line.items ≡ status_text entry.now) }
 {
     match entry {
-        StatusEntry::Group { group, node, state } => state_line(alloc, "rg", group, *node, group_state_word(*state)),
-        StatusEntry::Why { group, node, reason } => why_line(alloc, group, *node, reason),
-        StatusEntry::Resource { resource, node, state } => state_line(alloc, "rs", resource, *node, resource_state_word(*state)),
-        StatusEntry::QuorumVotes { total, need } => Ok(format!(in alloc; "quorum votes {total} need {need}")?.into_bytes()),
-        StatusEntry::QuorumNode { node, vote, member } => quorum_node_line(alloc, *node, *vote, *member),
-        StatusEntry::QuorumDevice { device, votes, state } => quorum_device_line(alloc, *device, *votes, *state),
+        StatusEntry::Group { group, node, state } => state_line(
+            alloc,
+            "rg",
+            group,
+            *node,
+            group_state_word(*state),
+        ),
+        StatusEntry::Why {
+            group,
+            node,
+            reason,
+        } => why_line(alloc, group, *node, reason),
+        StatusEntry::Resource {
+            resource,
+            node,
+            state,
+        } => state_line(alloc, "rs", resource, *node, resource_state_word(*state)),
+        StatusEntry::QuorumVotes { total, need } => Ok(format!(in alloc;
+            "quorum votes {total} need {need}"
+        )?.into_bytes()),
+        StatusEntry::QuorumNode { node, vote, member } => quorum_node_line(
+            alloc, *node, *vote, *member,
+        ),
+        StatusEntry::QuorumDevice {
+            device,
+            votes,
+            state,
+        } => quorum_device_line(alloc, *device, *votes, *state),
         StatusEntry::Table(line) => table_line(alloc, line),
     }
 }
 
-fn state_line(alloc: Global, kind: &'static str, name: &Name, node: NodeId, state: &'static str) -> Result<Vec<u8>, AllocError>
+fn state_line(
+    alloc: Global,
+    kind: &'static str,
+    name: &Name,
+    node: NodeId,
+    state: &'static str,
+) -> Result<Vec<u8>, AllocError>
     ensures { IfOk result (λ line. line.items ≡ spaced (kind.now ∷ name.now ∷ decimal node ∷ state.now ∷ [])) }
 {
     let node = node.number();
@@ -36,7 +66,12 @@ fn state_line(alloc: Global, kind: &'static str, name: &Name, node: NodeId, stat
     Ok(line)
 }
 
-fn why_line(alloc: Global, group: &Name, node: NodeId, reason: &Reason) -> Result<Vec<u8>, AllocError>
+fn why_line(
+    alloc: Global,
+    group: &Name,
+    node: NodeId,
+    reason: &Reason,
+) -> Result<Vec<u8>, AllocError>
     ensures { IfOk result (λ line. line.items ≡ status_text (Why group.now node reason.now)) }
 {
     let node = node.number();
@@ -48,7 +83,12 @@ fn why_line(alloc: Global, group: &Name, node: NodeId, reason: &Reason) -> Resul
     Ok(line)
 }
 
-fn quorum_node_line(alloc: Global, node: NodeId, vote: u64, member: bool) -> Result<Vec<u8>, AllocError>
+fn quorum_node_line(
+    alloc: Global,
+    node: NodeId,
+    vote: u64,
+    member: bool,
+) -> Result<Vec<u8>, AllocError>
     ensures { IfOk result (λ line. line.items ≡ status_text (QuorumNode node vote member)) }
 {
     let node = node.number();
@@ -56,7 +96,12 @@ fn quorum_node_line(alloc: Global, node: NodeId, vote: u64, member: bool) -> Res
     Ok(format!(in alloc; "quorum node {node} {vote} {member}")?.into_bytes())
 }
 
-fn quorum_device_line(alloc: Global, device: DevId, votes: u64, state: QuorumState) -> Result<Vec<u8>, AllocError>
+fn quorum_device_line(
+    alloc: Global,
+    device: DevId,
+    votes: u64,
+    state: QuorumState,
+) -> Result<Vec<u8>, AllocError>
     ensures { IfOk result (λ line. line.items ≡ status_text (QuorumDevice device votes state)) }
 {
     let device = device.number();
@@ -68,7 +113,9 @@ fn table_line(alloc: Global, line: &TableLine) -> Result<Vec<u8>, AllocError>
     ensures { IfOk result (λ text. text.items ≡ table_text line.now) }
 {
     match line {
-        TableLine::Generation(number) => Ok(format!(in alloc; "table ccr_gennum {number}")?.into_bytes()),
+        TableLine::Generation(number) => Ok(format!(in alloc;
+            "table ccr_gennum {number}"
+        )?.into_bytes()),
         TableLine::Checksum(digest) => {
             let digits = hex::encode(alloc, digest.as_slice())?;
             Ok(format!(in alloc; "table ccr_checksum {digits}")?.into_bytes())

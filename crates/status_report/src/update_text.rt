@@ -11,11 +11,22 @@ pub fn update_line(alloc: Global, entry: &UpdateEntry) -> Result<Vec<u8>, AllocE
     ensures { IfOk result (λ line. line.items ≡ update_text entry.now) }
 {
     match entry {
-        UpdateEntry::Proposed { epoch, place, words } => {
+        UpdateEntry::Proposed {
+            epoch,
+            place,
+            words,
+        } => {
             let epoch = epoch.number();
-            with_bytes(format!(in alloc; "propose {epoch} {place} ")?, words.items())
+            with_bytes(
+                format!(in alloc; "propose {epoch} {place} ")?,
+                words.items(),
+            )
         }
-        UpdateEntry::Acknowledged { epoch, place, words } => {
+        UpdateEntry::Acknowledged {
+            epoch,
+            place,
+            words,
+        } => {
             let epoch = epoch.number();
             with_bytes(format!(in alloc; "ack {epoch} {place} ")?, words.items())
         }
