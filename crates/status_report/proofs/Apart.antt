@@ -1,5 +1,6 @@
 -- Entries are read off bytes, line by line.
 use Rattle.std.proofs.Common.{◌≡◌, ◌≢◌, ℕ, List, [], ◌∷◌, ◌++◌, refl, sym, ap, ◌∙◌, append_assoc}
+use Rattle.std.specs.List.{AllByRecursion, flat_map}
 use Rattle.status_report.specs.declared.entry.Entry.{Entry}
 use Rattle.status_report.specs.Lines.{entry_text, printed}
 use Rattle.status_report.specs.Entries.{IsLine, IsEntry, IsOneLine}
@@ -29,3 +30,17 @@ apart a b x y ha hb e =
 
 pub alike : (a b : Entry) → IsEntry a → IsEntry b → printed a ≡ printed b → a ≡ b
 alike a b ha hb e = (apart a b [] [] ha hb (ap (λ (t : List ℕ). t ++ []) e)).0
+
+no_bytes : (text rest : List ℕ) → [] ≡ (text ++ 10 ∷ []) ++ rest → ⊥
+no_bytes [] rest e = cc e
+no_bytes (b ∷ text) rest e = cc e
+
+pub trace : (es fs : List Entry) → AllByRecursion IsEntry es → AllByRecursion IsEntry fs → flat_map printed es ≡ flat_map printed fs → es ≡ fs
+trace [] [] he hf e = refl
+trace [] (f ∷ fs) he hf e = absurd (no_bytes (entry_text f) (flat_map printed fs) e)
+trace (a ∷ es) [] he hf e = absurd (no_bytes (entry_text a) (flat_map printed es) (sym e))
+trace (a ∷ es) (f ∷ fs) he hf e =
+    let first = apart a f (flat_map printed es) (flat_map printed fs) he.0 hf.0 e in
+    let heads : a ≡ f = first.0 in
+    let tails : es ≡ fs = trace es fs he.1 hf.1 first.1 in
+    cc
