@@ -1,8 +1,8 @@
 -- Reading lists back.
-use Rattle.std.proofs.Common.{◌≡◌, ◌≢◌, ℕ, zero, suc, ◌+◌, ◌-◌, ◌*◌, ◌/◌, ◌%◌, ◌^◌, ◌<◌, ◌≤◌, Bool, true, false, not, eqb, leb, ◌==◌, ◌&&◌, ◌||◌, if◌then◌else◌, List, [], ◌∷◌, ◌++◌, length, slice_index, map, refl, sym, ap, subst, ◌∙◌, append_assoc, append-nil, arith, mod-eq_of_lt}
+use Rattle.std.proofs.Common.{◌≡◌, ℕ, zero, suc, ◌+◌, ◌-◌, ◌*◌, ◌/◌, ◌%◌, ◌^◌, ◌<◌, ◌≤◌, Bool, true, false, leb, ◌==◌, ◌&&◌, ◌||◌, if◌then◌else◌, List, [], ◌∷◌, ◌++◌, length, map, refl, sym, ap, subst, ◌∙◌, append-nil, arith, mod-eq_of_lt}
 use Rattle.std.specs.List.{AllByRecursion, flat_map}
 use Rattle.std.specs.Int.{bit_at}
-use Rattle.std.specs.Fmt.{decimal, digits}
+use Rattle.std.specs.Fmt.{decimal}
 use Rattle.std.specs.Str.Parse.{AllDigits, digits_value}
 use Rattle.std.specs.Char.{digit_value}
 use Rattle.std.proofs.lemmas.Fmt.{digits_is_IsNumeral, decimal_is_IsNumeral}
@@ -11,12 +11,12 @@ use Rattle.std.proofs.lemmas.Bool.{eqb-true, leb-true, le-leb, and_from, and_par
 use Rattle.std.proofs.lemmas.Nat.{mod-pow-add}
 use Rattle.std.proofs.lemmas.Nat.Bits.{bit_at-lt}
 use Rattle.std.proofs.lemmas.Bool.Decides.{nat_tests}
-use Rattle.cl_base.specs.Names.{IsName, is_letter}
+use Rattle.cl_base.specs.Names.{IsName}
 use Rattle.cl_base.specs.Sets.{has}
 use Rattle.cl_base.proofs.SetLemmas.{has_at}
-use Rattle.status_report.specs.Words.{hex, joined, list_text, numbers_to, set_text}
+use Rattle.status_report.specs.Words.{hex, list_text, numbers_to, set_text}
 use Rattle.status_report.specs.Entries.{IsNumber, IsSet}
-use Rattle.status_report.proofs.Reading.{is_stop, IsWord, name_is_word, below_16, number_is_word, key_is_word}
+use Rattle.status_report.proofs.Reading.{IsWord, below_16, number_is_word}
 
 -- ---- texts cut at each c
 

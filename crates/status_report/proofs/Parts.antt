@@ -1,11 +1,9 @@
 -- Reading the parts of lines back.
-use Rattle.std.proofs.Common.{◌≡◌, ℕ, Bool, true, false, ◌==◌, if◌then◌else◌, Option, Some, None, List, [], ◌∷◌, ◌++◌, map, refl, sym, ap, subst, ◌∙◌, append_assoc, append-nil, codes, arith}
+use Rattle.std.proofs.Common.{◌≡◌, ℕ, Bool, true, false, ◌==◌, if◌then◌else◌, Option, Some, None, List, [], ◌∷◌, ◌++◌, refl, ap, append_assoc, codes, arith}
 use Rattle.std.specs.List.{AllByRecursion, flat_map}
-use Rattle.std.specs.Fmt.{decimal, digits}
+use Rattle.std.specs.Fmt.{decimal}
 use Rattle.std.specs.Str.Parse.{digits_value}
-use Rattle.std.proofs.lemmas.Fmt.{digits_is_IsNumeral, decimal_is_IsNumeral}
-use Rattle.cl_base.specs.Names.{IsName}
-use Rattle.cl_base.specs.declared.panic.Panic.{Panic}
+use Rattle.std.proofs.lemmas.Fmt.{digits_is_IsNumeral}
 use Rattle.cl_base.specs.declared.panic.Panic.TheVariants as panic
 use Rattle.cl_base.specs.declared.reason.Reason.{Reason}
 use Rattle.cl_base.specs.declared.reason.Reason.TheVariants as reason
@@ -43,9 +41,9 @@ use Rattle.status_report.specs.declared.schedule_entry.SkipCause.TheVariants as 
 use Rattle.status_report.specs.declared.start_entry.AdoptedFlags.{AdoptedFlags}
 use Rattle.status_report.specs.declared.status_entry.QuorumState.{QuorumState}
 use Rattle.status_report.specs.declared.status_entry.QuorumState.TheVariants.{Held, Lost, Off}
-use Rattle.status_report.specs.Words.{hex, joined}
-use Rattle.status_report.specs.PrAnswers.{kind_text, keys_text, holder_text, answer_text, command_text}
-use Rattle.status_report.specs.NodeLines.{panic_text, down_text}
+use Rattle.status_report.specs.Words.{hex}
+use Rattle.status_report.specs.PrAnswers.{kind_text, answer_text, command_text}
+use Rattle.status_report.specs.NodeLines.{down_text}
 use Rattle.status_report.specs.PacketLines.{message_text, drop_text}
 use Rattle.status_report.specs.DeviceLines.{given_text, write_refusal_text}
 use Rattle.status_report.specs.AttemptLines.{cause_text, lack_text, lacking_text}
@@ -53,7 +51,7 @@ use Rattle.status_report.specs.StartLines.{flags_text}
 use Rattle.status_report.specs.CallLines.{method_text, outcome_text, probe_text}
 use Rattle.status_report.specs.StatusLines.{group_state_text, resource_state_text, reason_text, member_text, quorum_state_text}
 use Rattle.status_report.specs.ScheduleLines.{skip_text}
-use Rattle.status_report.specs.Entries.{IsNumber, IsHeld, IsPrAnswer, IsPrCommand, IsPanic, IsDown, IsMessage, IsDeviceAnswer, IsCause, IsLack, IsReason}
+use Rattle.status_report.specs.Entries.{IsNumber, IsPrAnswer, IsPrCommand, IsDown, IsMessage, IsDeviceAnswer, IsCause, IsLack}
 use Rattle.status_report.proofs.Reading.{after, number_at, key_at, last, more, number, key, number_is_word, key_is_word, below_16}
 use Rattle.status_report.proofs.Lists.{Lacks, Item, items_of, items_again, all_items, lacks_append, word_lacks_space, starts_n, starts_digit, hex_starts, decimal_starts, letter_starts, n_starts}
 

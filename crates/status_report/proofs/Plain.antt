@@ -1,7 +1,7 @@
 -- No text of an entry has a newline.
-use Rattle.std.proofs.Common.{◌≡◌, ◌≢◌, ℕ, suc, ◌/◌, ◌%◌, ◌<◌, ◌≤◌, Bool, true, false, eqb, ◌==◌, if◌then◌else◌, Option, Some, None, List, [], ◌∷◌, ◌++◌, length, slice_index, refl, sym, ap, subst, ◌∙◌, append_assoc, codes, arith}
+use Rattle.std.proofs.Common.{◌≡◌, ◌≢◌, ℕ, suc, ◌/◌, ◌%◌, ◌<◌, ◌≤◌, Bool, true, false, ◌==◌, if◌then◌else◌, Some, None, List, [], ◌∷◌, ◌++◌, slice_index, refl, ap, subst, codes, arith}
 use Rattle.std.specs.List.{AllByRecursion, flat_map}
-use Rattle.std.specs.Fmt.{decimal, digits}
+use Rattle.std.specs.Fmt.{decimal}
 use Rattle.std.specs.Char.{digit_value}
 use Rattle.std.specs.Str.Parse.{AllDigits}
 use Rattle.std.proofs.lemmas.Fmt.{digits_is_IsNumeral, decimal_is_IsNumeral}
@@ -23,7 +23,6 @@ use Rattle.cl_base.specs.declared.method.Outcome.{Outcome}
 use Rattle.cl_base.specs.declared.method.Outcome.TheVariants.{Success, Failure, Timeout}
 use Rattle.cl_base.specs.declared.refusal.Thing.{Thing}
 use Rattle.cl_base.specs.declared.refusal.Thing.TheVariants.{Named, Numbered}
-use Rattle.cl_base.specs.declared.refusal.Refusal.{Refusal}
 use Rattle.cl_base.specs.declared.refusal.Refusal.TheVariants as refusal
 use Rattle.pgr_device.specs.declared.kind.PrKind.{PrKind}
 use Rattle.pgr_device.specs.declared.kind.PrKind.TheVariants.{WriteExclusive, ExclusiveAccess, WriteExclusiveRegistrantsOnly, ExclusiveAccessRegistrantsOnly}

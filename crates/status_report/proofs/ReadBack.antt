@@ -1,16 +1,11 @@
 -- Reading entries back from the text of their lines.
-use Rattle.std.proofs.Common.{◌≡◌, ℕ, Bool, true, false, if◌then◌else◌, Option, Some, None, List, [], ◌∷◌, ◌++◌, refl, sym, ap, ◌∙◌, append_assoc, codes}
-use Rattle.std.specs.Fmt.{decimal, digits}
+use Rattle.std.proofs.Common.{◌≡◌, ℕ, if◌then◌else◌, Some, None, List, [], ◌∷◌, refl, ap, codes}
 use Rattle.hex.specs.Hex.{encode_lower}
-use Rattle.cl_base.specs.Names.{IsName}
-use Rattle.pgr_device.specs.declared.command.PrAnswer.{PrAnswer}
 use Rattle.pgr_device.specs.declared.command.PrAnswer.TheVariants as given
-use Rattle.pgr_device.specs.declared.kind.PrKind.{PrKind}
 use Rattle.status_report.specs.declared.attempt_entry.AttemptEntry.TheVariants as attempt
 use Rattle.status_report.specs.declared.call_entry.CallEntry.TheVariants as call
 use Rattle.status_report.specs.declared.command_entry.CommandEntry.TheVariants as asking
 use Rattle.status_report.specs.declared.device_entry.DeviceEntry.TheVariants as device
-use Rattle.status_report.specs.declared.device_entry.WriteRefusal.TheVariants as refused
 use Rattle.status_report.specs.declared.node_entry.NodeEntry.TheVariants as node
 use Rattle.status_report.specs.declared.packet_entry.PacketEntry.TheVariants as packet
 use Rattle.status_report.specs.declared.schedule_entry.ScheduleEntry.TheVariants as schedule
@@ -20,10 +15,6 @@ use Rattle.status_report.specs.declared.status_entry.TableLine.TheVariants as ta
 use Rattle.status_report.specs.declared.update_entry.UpdateEntry.TheVariants as update
 use Rattle.status_report.specs.declared.entry.Entry.{Entry}
 use Rattle.status_report.specs.declared.entry.Entry.TheVariants as entry
-use Rattle.status_report.specs.Words.{set_text}
-use Rattle.status_report.specs.PrAnswers.{command_text}
-use Rattle.status_report.specs.PacketLines.{message_text}
-use Rattle.status_report.specs.CallLines.{method_text}
 use Rattle.status_report.specs.Lines.{entry_text}
 use Rattle.status_report.specs.Entries.{IsEntry}
 use Rattle.status_report.proofs.Reading.{after, word_at, number_at, last, more, number, name}

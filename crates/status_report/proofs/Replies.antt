@@ -1,7 +1,7 @@
 -- Reading answers to commands and lines of tables back.
-use Rattle.std.proofs.Common.{◌≡◌, ◌≢◌, ℕ, ◌/◌, ◌%◌, ◌<◌, ◌≤◌, suc, Bool, true, false, eqb, ◌==◌, if◌then◌else◌, List, [], ◌∷◌, ◌++◌, length, slice_index, Result, Ok, Err, refl, sym, ap, subst, ◌∙◌, append-nil, codes, arith}
+use Rattle.std.proofs.Common.{◌≡◌, ◌≢◌, ℕ, ◌/◌, ◌%◌, ◌<◌, suc, Bool, true, false, ◌==◌, if◌then◌else◌, List, [], ◌∷◌, ◌++◌, length, slice_index, Result, Ok, Err, refl, ap, subst, append-nil, codes, arith}
 use Rattle.std.specs.List.{AllByRecursion, flat_map}
-use Rattle.std.specs.Fmt.{decimal, digits}
+use Rattle.std.specs.Fmt.{decimal}
 use Rattle.std.specs.Char.{digit_value}
 use Rattle.std.specs.Str.Parse.{AllDigits}
 use Rattle.std.proofs.lemmas.Fmt.{decimal_is_IsNumeral}
@@ -12,7 +12,6 @@ use Rattle.hex.proofs.HexLemmas.{IsDigits-lower_digits, decode_of-encode_lower}
 use Rattle.cl_base.specs.Names.{IsName}
 use Rattle.cl_base.specs.declared.refusal.Thing.{Thing}
 use Rattle.cl_base.specs.declared.refusal.Thing.TheVariants.{Named, Numbered}
-use Rattle.cl_base.specs.declared.refusal.Refusal.{Refusal}
 use Rattle.cl_base.specs.declared.refusal.Refusal.TheVariants as refusal
 use Rattle.status_report.specs.declared.command_entry.Answer.{Answer}
 use Rattle.status_report.specs.declared.command_entry.Answer.TheVariants as answer
@@ -20,7 +19,6 @@ use Rattle.status_report.specs.declared.status_entry.TableLine.{TableLine}
 use Rattle.status_report.specs.declared.status_entry.TableLine.TheVariants.{Generation, Checksum, Row}
 use Rattle.status_report.specs.Words.{joined}
 use Rattle.status_report.specs.CommandLines.{thing_text, reply_text}
-use Rattle.status_report.specs.StatusLines.{table_text}
 use Rattle.status_report.specs.Entries.{IsNumber, IsThing, IsAnswer, IsTableLine, IsKey}
 use Rattle.status_report.proofs.Reading.{after, number_at, last, more, number, name_is_word}
 use Rattle.status_report.proofs.Lists.{Lacks, Item, items_of, items_again, all_items, starts_digit, decimal_starts, name_starts, word_lacks_comma}

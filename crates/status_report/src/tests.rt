@@ -311,6 +311,7 @@ fn device_answers(rt: HostRuntime) -> Result<(), Fail> {
     given(&rt, alloc, PrAnswer::InvalidRelease, "invalid-release")?;
     given(&rt, alloc, PrAnswer::NoPath, "no-path")?;
     given(&rt, alloc, PrAnswer::Keys(KeyList::new(&[])), "keys none")?;
+    let keys = PrAnswer::Keys(KeyList::new(&[161, 178]));
     given(&rt, alloc, keys, "keys a1 b2")?;
     given(&rt, alloc, PrAnswer::Holder(None), "reservation none")?;
     let holder = Some((161, PrKind::ExclusiveAccess));
