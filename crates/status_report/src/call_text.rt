@@ -1,4 +1,4 @@
-ghost use Rattle.std.specs.Prelude.{◌≡◌, ◌++◌, IfOk};
+ghost use Rattle.std.specs.Prelude.{◌≡◌, IfOk};
 ghost use Rattle.status_report.specs.CallLines.{call_text, method_text, outcome_text, probe_text};
 ghost use Rattle.status_report.specs.declared.call_entry.CallEntry.TheVariants.{Called, Done, Probed};
 

@@ -1,4 +1,4 @@
-ghost use Rattle.std.specs.Prelude.{◌≡◌, ◌++◌, IfOk};
+ghost use Rattle.std.specs.Prelude.{◌≡◌, IfOk};
 ghost use Rattle.std.specs.String.{string_bytes};
 ghost use Rattle.status_report.specs.DeviceLines.{device_text, given_text, write_refusal_text};
 ghost use Rattle.status_report.specs.declared.device_entry.DeviceEntry.TheVariants.{Command, Accepted, Refused};

@@ -1,4 +1,4 @@
-ghost use Rattle.std.specs.Prelude.{◌≡◌, ◌++◌, IfOk};
+ghost use Rattle.std.specs.Prelude.{◌≡◌, IfOk};
 ghost use Rattle.status_report.specs.NodeLines.{node_text, down_text, panic_text};
 
 use crate::node_entry::{DownCause, NodeEntry};

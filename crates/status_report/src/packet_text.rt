@@ -1,4 +1,4 @@
-ghost use Rattle.std.specs.Prelude.{◌≡◌, ◌++◌, IfOk};
+ghost use Rattle.std.specs.Prelude.{◌≡◌, IfOk};
 ghost use Rattle.std.specs.String.{string_bytes};
 ghost use Rattle.status_report.specs.PacketLines.{packet_text, message_text, drop_text};
 ghost use Rattle.status_report.specs.declared.packet_entry.PacketEntry.TheVariants.{Sent, Delivered};

@@ -1,4 +1,4 @@
-ghost use Rattle.std.specs.Prelude.{◌≡◌, ◌++◌, IfOk};
+ghost use Rattle.std.specs.Prelude.{◌≡◌, IfOk};
 ghost use Rattle.status_report.specs.CommandLines.{reply_text, asked_text};
 ghost use Rattle.status_report.specs.declared.command_entry.CommandEntry.TheVariants.{Answered};
 
