@@ -1,1 +1,14 @@
+pub mod AttemptLines
+pub mod CallLines
+pub mod CommandLines
+pub mod DeviceLines
+pub mod Entries
 pub mod Lines
+pub mod NodeLines
+pub mod PacketLines
+pub mod PrAnswers
+pub mod ScheduleLines
+pub mod StartLines
+pub mod StatusLines
+pub mod UpdateLines
+pub mod Words
