@@ -27,7 +27,7 @@ Below (n ∷ ns) = (n < 2 ^ 64) × Below ns
 differs : (a b : ℕ) → a ≢ b → (a == b) ≡ false
 differs a b h = grind (arith, nat_tests)
 
-digit : (n i : ℕ) → n < 2 ^ 64 → i < length (decimal n) → IsInRange 48 57 (get_or (decimal n) i 0)
+pub digit : (n i : ℕ) → n < 2 ^ 64 → i < length (decimal n) → IsInRange 48 57 (get_or (decimal n) i 0)
 digit n i fits low = digit_at (decimal n) i (decimal_is_IsNumeral n fits).0.1 low
 
 no_comma : (n : ℕ) → n < 2 ^ 64 → All (λ b. is_comma b ≡ false) (decimal n)
@@ -81,15 +81,23 @@ below_one : (t : Bool) (n : ℕ) → n < 2 ^ 64 → Below (if t then n ∷ [] el
 below_one true n fits = (fits, tt)
 below_one false n fits = tt
 
-below_numbers : (set k : ℕ) → k ≤ 32 → Below (numbers_to set k)
+pub below_numbers : (set k : ℕ) → k ≤ 32 → Below (numbers_to set k)
 below_numbers set zero le = tt
 below_numbers set (suc k) le = below_append (numbers_to set k) (if has set (k + 1) then (k + 1) ∷ [] else []) (below_numbers set k (omega arith)) (below_one (has set (k + 1)) (k + 1) (omega arith))
 
-last_number : (set k m : ℕ) (t : Bool) → has set (k + 1) ≡ t → ((nat_le m k && has set m) || list_any (λ n. n == m) (if t then (k + 1) ∷ [] else [])) ≡ (nat_le m (k + 1) && has set m)
-last_number set k m true is = tests (eqb_tells (k + 1) m) (leb_tells m k) (leb_tells m (k + 1))
+or_none : (b : Bool) → (b || false) ≡ b
+or_none true = refl
+or_none false = refl
+
+and_none : (b : Bool) → false ≡ (b && false)
+and_none true = refl
+and_none false = refl
+
+last_number : (set k m : ℕ) (t : Bool) → has set (k + 1) ≡ t → ((nat_le m k && has set m) || list_any (λ n. n == m) (if t then (k + 1) ∷ [] else [])) ≡ (nat_le m (suc k) && has set m)
+last_number set k m true is = tests (eqb_tells (k + 1) m) (leb_tells m k) (leb_tells m (suc k))
   where
-    tests : ((k + 1 == m) ≡ true) × (k + 1 ≡ m) ⊎ ((k + 1 == m) ≡ false) × (k + 1 ≢ m) → (nat_le m k ≡ true) × (m ≤ k) ⊎ (nat_le m k ≡ false) × (k < m) → (nat_le m (k + 1) ≡ true) × (m ≤ k + 1) ⊎ (nat_le m (k + 1) ≡ false) × (k + 1 < m)
-      → ((nat_le m k && has set m) || ((k + 1 == m) || false)) ≡ (nat_le m (k + 1) && has set m)
+    tests : ((k + 1 == m) ≡ true) × (k + 1 ≡ m) ⊎ ((k + 1 == m) ≡ false) × (k + 1 ≢ m) → (nat_le m k ≡ true) × (m ≤ k) ⊎ (nat_le m k ≡ false) × (k < m) → (nat_le m (suc k) ≡ true) × (m ≤ suc k) ⊎ (nat_le m (suc k) ≡ false) × (suc k < m)
+      → ((nat_le m k && has set m) || ((k + 1 == m) || false)) ≡ (nat_le m (suc k) && has set m)
     tests (inl (test, same)) (inl (le, less)) c = absurd (omega arith)
     tests (inl (test, same)) (inr (le, more)) (inl (next, _)) = let here : has set m ≡ true = subst (λ j. has set j ≡ true) same is in rw (test, le, next, here) refl
     tests (inl (test, same)) (inr (le, more)) (inr (next, far)) = absurd (omega arith)
@@ -97,29 +105,22 @@ last_number set k m true is = tests (eqb_tells (k + 1) m) (leb_tells m k) (leb_t
     tests (inr (test, other)) (inl (le, less)) (inr (next, far)) = absurd (omega arith)
     tests (inr (test, other)) (inr (le, more)) (inl (next, near)) = absurd (omega arith)
     tests (inr (test, other)) (inr (le, more)) (inr (next, far)) = rw (test, le, next) refl
-    or_none : (b : Bool) → (b || false) ≡ b
-    or_none true = refl
-    or_none false = refl
-last_number set k m false is = tests (eqb_tells (k + 1) m) (leb_tells m k) (leb_tells m (k + 1))
+last_number set k m false is = tests (eqb_tells (k + 1) m) (leb_tells m k) (leb_tells m (suc k))
   where
-    tests : ((k + 1 == m) ≡ true) × (k + 1 ≡ m) ⊎ ((k + 1 == m) ≡ false) × (k + 1 ≢ m) → (nat_le m k ≡ true) × (m ≤ k) ⊎ (nat_le m k ≡ false) × (k < m) → (nat_le m (k + 1) ≡ true) × (m ≤ k + 1) ⊎ (nat_le m (k + 1) ≡ false) × (k + 1 < m)
-      → ((nat_le m k && has set m) || false) ≡ (nat_le m (k + 1) && has set m)
+    tests : ((k + 1 == m) ≡ true) × (k + 1 ≡ m) ⊎ ((k + 1 == m) ≡ false) × (k + 1 ≢ m) → (nat_le m k ≡ true) × (m ≤ k) ⊎ (nat_le m k ≡ false) × (k < m) → (nat_le m (suc k) ≡ true) × (m ≤ suc k) ⊎ (nat_le m (suc k) ≡ false) × (suc k < m)
+      → ((nat_le m k && has set m) || false) ≡ (nat_le m (suc k) && has set m)
     tests (inl (test, same)) (inl (le, less)) c = absurd (omega arith)
-    tests (inl (test, same)) (inr (le, more)) c = let here : has set m ≡ false = subst (λ j. has set j ≡ false) same is in rw (le, here) (and_none (nat_le m (k + 1)))
+    tests (inl (test, same)) (inr (le, more)) c = let here : has set m ≡ false = subst (λ j. has set j ≡ false) same is in rw (le, here) (and_none (nat_le m (suc k)))
     tests (inr (test, other)) (inl (le, less)) (inl (next, _)) = rw (le, next) (or_none (has set m))
     tests (inr (test, other)) (inl (le, less)) (inr (next, far)) = absurd (omega arith)
     tests (inr (test, other)) (inr (le, more)) (inl (next, near)) = absurd (omega arith)
     tests (inr (test, other)) (inr (le, more)) (inr (next, far)) = rw (le, next) refl
-    or_none : (b : Bool) → (b || false) ≡ b
-    or_none true = refl
-    or_none false = refl
-    and_none : (b : Bool) → false ≡ (b && false)
-    and_none true = refl
-    and_none false = refl
 
 none_to_zero : (set m : ℕ) → false ≡ (nat_le m 0 && has set m)
 none_to_zero set zero = sym (has_not_zero set)
-none_to_zero set (suc m) = refl
+none_to_zero set (suc m) =
+    let far : nat_le (suc m) 0 ≡ false = grind (arith, nat_tests) in
+    rw far refl
 
 -- the numbers up to k that are in the set are listed
 pub in_numbers : (set k m : ℕ) → list_any (λ n. n == m) (numbers_to set k) ≡ (nat_le m k && has set m)
@@ -135,8 +136,11 @@ abbrev pub Read : List ℕ → ℕ → ℕ → Type 0
 Read text n set = (m : ℕ) → has set m ≡ (nat_lt m n && (nat_le 1 m && is_listed text m))
 
 pub read_none : (text : List ℕ) (set : ℕ) → ((m : ℕ) → has set m ≡ false) → Read text 1 set
-read_none text set none zero = none zero
-read_none text set none (suc m) = none (suc m)
+read_none text set none zero =
+    rw (none zero) (and_none (nat_lt zero 1))
+read_none text set none (suc m) =
+    let far : nat_lt (suc m) 1 ≡ false = grind (arith, nat_tests) in
+    rw (none (suc m), far) refl
 
 next_if : (text : List ℕ) (n set m : ℕ) (t : Bool) → 1 ≤ n → is_listed text n ≡ t → has set m ≡ (nat_lt m n && (nat_le 1 m && is_listed text m)) → (if t then (m == n) || has set m else has set m) ≡ (nat_lt m (n + 1) && (nat_le 1 m && is_listed text m))
 next_if text n set m true low is old = rw old (grind (arith, nat_tests))
@@ -146,14 +150,22 @@ pub read_next : (text : List ℕ) (n set new : ℕ) → 1 ≤ n → Read text n 
 read_next text n set new low old is m = is m ∙ next_if text n set m (is_listed text n) low refl (old m)
 
 within : (set w m : ℕ) → w ≤ 32 → set < 2 ^ w → (nat_le m w ≡ true) × (m ≤ w) ⊎ (nat_le m w ≡ false) × (w < m) → (nat_lt m (w + 1) && (nat_le 1 m && is_listed (by_commas (numbers_to set w)) m)) ≡ has set m
-within set w zero most fits c = sym (has_not_zero set)
+within set w zero most fits c = sym (and_none (nat_lt zero (w + 1))) ∙ sym (has_not_zero set)
 within set w (suc m) most fits (inl (test, le)) =
     let there : is_listed (by_commas (numbers_to set w)) (suc m) ≡ (nat_le (suc m) w && has set (suc m)) = listed (numbers_to set w) (suc m) (below_numbers set w most) (omega arith) ∙ in_numbers set w (suc m) in
     let near : nat_lt (suc m) (w + 1) ≡ true = grind (arith, nat_tests) in
-    rw (there, near, test) refl
+    let some : nat_le 1 (suc m) ≡ true = grind (arith, nat_tests) in
+    rw (there, near, test, some) refl
 within set w (suc m) most fits (inr (test, more)) =
     let far : nat_lt (suc m) (w + 1) ≡ false = grind (arith, nat_tests) in
     rw far (sym (has_not_above set w (suc m) fits more))
+
+-- so a text lists one set at most
+pub list_back : (a b w : ℕ) → w ≤ 32 → a < 2 ^ w → b < 2 ^ w → by_commas (numbers_to a w) ≡ by_commas (numbers_to b w) → a ≡ b
+list_back a b w most fa fb same =
+    let wide : 2 ^ w ≤ 2 ^ 32 = pow_mono {i = w} {j = 32} most in
+    same_set a b (omega arith) (omega arith) (λ m.
+      sym (within a w m most fa (leb_tells m w)) ∙ ap (λ t. nat_lt m (w + 1) && (nat_le 1 m && is_listed t m)) same ∙ within b w m most fb (leb_tells m w))
 
 pub read_back : (set w new : ℕ) (text : List ℕ) → w ≤ 32 → set < 2 ^ w → new < 2 ^ 32 → Read text (w + 1) new → text ≡ by_commas (numbers_to set w) → new ≡ set
 read_back set w new text most fits small all is =

@@ -1,8 +1,9 @@
 -- The rows of a record are those of a table, and its text is that of no other.
-use Rattle.std.proofs.Common.{◌≡◌, ◌≢◌, ℕ, zero, suc, ◌+◌, ◌*◌, ◌<◌, ◌≤◌, ◌^◌, ◌&&◌, ◌⊎◌, inl, inr, List, [], ◌∷◌, ◌++◌, length, get_or, Bool, true, false, refl, ap, sym, subst, ◌∙◌, append-nil, arith}
-use Rattle.std.specs.Prelude.{All, Option, Some, None, codes, flat_map, nat_le, if◌then◌else◌, Result, Ok, Err}
+use Rattle.std.proofs.Common.{◌≡◌, ◌≢◌, ℕ, zero, suc, ◌+◌, ◌*◌, ◌<◌, ◌≤◌, ◌^◌, ◌&&◌, ◌⊎◌, inl, inr, List, [], ◌∷◌, ◌++◌, length, get_or, drop, Bool, true, false, refl, ap, sym, subst, ◌∙◌, length-append, arith}
+use Rattle.std.specs.Prelude.{All, Option, Some, None, codes, flat_map, nat_eq, nat_le, if◌then◌else◌, Result, Ok, Err}
 use Rattle.std.specs.Int.{IsInRange}
 use Rattle.std.specs.Fmt.{decimal}
+use Rattle.std.specs.Cmp.Lexicographic.{pointwise, bytes_decides}
 use Rattle.std.proofs.lemmas.List.{append_cancel_left}
 use Rattle.std.proofs.lemmas.List.Elements.{All-head, All-tail, All-append, All-cons, All-nil, All-weaker, All-from_get_or}
 use Rattle.std.proofs.lemmas.Fmt.{decimal_is_IsNumeral, decimal_injective, decimal_nonempty, length-decimal-le}
@@ -12,7 +13,12 @@ use Rattle.ccr_commit.specs.Entries.{EntryList, listed, texts_of}
 use Rattle.ccr_text.specs.declared.rows.Row.{Row}
 use Rattle.ccr_text.specs.TableText.{AreRows, IsPlain, IsRow, IsTable, MayFollow, MayAllFollow}
 use Rattle.cmm_member.specs.Records.{NodeRecord, IsRecord, IsRowText, numbers_to, by_commas, node_list, device_list, row, update_rows, pending_rows, entry_rows, rows_of}
-use Rattle.cmm_member.proofs.ListLemmas.{Below, digit, below_numbers}
+use Rattle.ccr_text.specs.declared.error.TextError.{TextError}
+use Rattle.ccr_text.specs.declared.error.TextError.TheVariants.{NoMemory}
+use Rattle.ccr_text.proofs.OneAnswer.{one_answer}
+use Rattle.cmm_member.specs.Views.{Widths}
+use Rattle.cmm_member.proofs.ListLemmas.{Below, digit, below_numbers, list_back}
+use Rattle.cmm_member.proofs.EntryLemmas.{entries_same}
 
 -- ---- bytes that are neither tab nor newline
 
@@ -24,12 +30,12 @@ both : (a b : Bool) → (a && b) ≡ true → (a ≡ true) × (b ≡ true)
 both true b e = (refl, e)
 both false b e = absurd (cc)
 
+high_if : (x : ℕ) → nat_le 11 x ≡ true → (nat_le 11 x ≡ true) × (11 ≤ x) ⊎ (nat_le 11 x ≡ false) × (x < 11) → 11 ≤ x
+high_if x e (inl (_, le)) = le
+high_if x e (inr (off, _)) = absurd (cc)
+
 high : (x : ℕ) → nat_le 11 x ≡ true → 11 ≤ x
-high x e = high_if x (leb_tells 11 x)
-  where
-    high_if : (x : ℕ) → (nat_le 11 x ≡ true) × (11 ≤ x) ⊎ (nat_le 11 x ≡ false) × (x < 11) → 11 ≤ x
-    high_if x (inl (_, le)) = le
-    high_if x (inr (no, _)) = absurd (cc)
+high x e = high_if x e (leb_tells 11 x)
 
 plain_byte : (x : ℕ) → 11 ≤ x → (x ≢ 9) × (x ≢ 10)
 plain_byte x le = (λ e. omega arith, λ e. omega arith)
@@ -60,11 +66,11 @@ plain_rest (n ∷ ns) all = All-cons (λ b. (b ≢ 9) × (b ≢ 10)) 44 _ (plain
 
 short_rest : (ns : List ℕ) → Below ns → length (flat_map (λ m. 44 ∷ decimal m) ns) ≤ 21 * length ns
 short_rest [] all = omega arith
-short_rest (n ∷ ns) all = omega (arith, short_decimal n all.0, short_rest ns all.1)
+short_rest (n ∷ ns) all = omega (arith, short_decimal n all.0, short_rest ns all.1, length-append (decimal n) (flat_map (λ m. 44 ∷ decimal m) ns))
 
 text_list : (ns : List ℕ) → Below ns → length ns ≤ 32 → IsRowText (by_commas ns)
 text_list [] all few = (omega arith, plain_if (codes "none") refl)
-text_list (n ∷ ns) all few = (omega (arith, short_decimal n all.0, short_rest ns all.1), plain_append (decimal n) _ (plain_decimal n all.0) (plain_rest ns all.1))
+text_list (n ∷ ns) all few = (omega (arith, short_decimal n all.0, short_rest ns all.1, length-append (decimal n) (flat_map (λ m. 44 ∷ decimal m) ns)), plain_append (decimal n) _ (plain_decimal n all.0) (plain_rest ns all.1))
 
 one_more : (t : Bool) (n : ℕ) → length (if t then n ∷ [] else []) ≤ 1
 one_more true n = omega arith
@@ -72,7 +78,7 @@ one_more false n = omega arith
 
 few_numbers : (set k : ℕ) → length (numbers_to set k) ≤ k
 few_numbers set zero = omega arith
-few_numbers set (suc k) = omega (arith, few_numbers set k, one_more (has set (k + 1)) (k + 1))
+few_numbers set (suc k) = omega (arith, few_numbers set k, one_more (has set (k + 1)) (k + 1), length-append (numbers_to set k) (if has set (k + 1) then (k + 1) ∷ [] else []))
 
 text_set : (set k : ℕ) → k ≤ 32 → IsRowText (by_commas (numbers_to set k))
 text_set set k le = text_list (numbers_to set k) (below_numbers set k le) (omega (arith, few_numbers set k))
@@ -86,6 +92,9 @@ update_key n = codes "update." ++ decimal n
 abbrev pub OldKey : ℕ → List ℕ → Type 0
 OldKey k key = ((n : ℕ) → k < n → n < 2 ^ 64 → key ≢ update_key n) × (key ≢ codes "pending")
 
+differ : (a b : List ℕ) → pointwise nat_eq a b ≡ false → a ≢ b
+differ a b off e = let on : pointwise nat_eq a b ≡ true = (bytes_decides a b).1 e in absurd (cc)
+
 is_row : (key value : List ℕ) → 1 ≤ length key → length key ≤ 80 → IsPlain key → IsRowText value → IsRow (row key value)
 is_row key value some short plain text = record { some = some; short = short; most = text.0; key = plain; value = text.1 }
 
@@ -96,7 +105,7 @@ later : (k : ℕ) (key : List ℕ) → OldKey k key → OldKey (k + 1) key
 later k key old = (λ n more fits. old.0 n (omega arith) fits, old.1)
 
 old_update : (k : ℕ) → k + 1 < 2 ^ 64 → OldKey (k + 1) (update_key (k + 1))
-old_update k low = (λ n more fits e. (let same : k + 1 ≡ n = decimal_injective (k + 1) n low fits (append_cancel_left (codes "update.") _ _ e) in omega (arith, same)), λ e. cc e)
+old_update k low = (λ n more fits e. (let same : k + 1 ≡ n = decimal_injective (k + 1) n low fits (append_cancel_left (codes "update.") _ _ e) in omega (arith, same)), differ (update_key (k + 1)) (codes "pending") refl)
 
 abbrev pub Old : ℕ → List Row → Type 0
 Old k before = All (λ r. OldKey k r.key) before
@@ -125,8 +134,8 @@ entries_follow k before (text ∷ committed) pending low old texts =
 abbrev pub Other : List ℕ → Row → Type 0
 Other key r = r.key ≢ key
 
-head_old : (key : List ℕ) → get_or key 0 0 ≢ 117 → key ≢ codes "pending" → OldKey 0 key
-head_old key first other = (λ n more fits e. first (ap (λ w. get_or w 0 0) e), other)
+head_old : (key : List ℕ) → ((n : ℕ) → pointwise nat_eq key (update_key n) ≡ false) → pointwise nat_eq key (codes "pending") ≡ false → OldKey 0 key
+head_old key updates pending = (λ n more fits. differ key (update_key n) (updates n), differ key (codes "pending") pending)
 
 pub are_rows : (r : NodeRecord) → IsRecord r → All IsRowText (texts_of r.entries) → AreRows (rows_of r)
 are_rows r ok texts =
@@ -135,18 +144,61 @@ are_rows r ok texts =
     let members = row (codes "members") (node_list r.members) in
     let valid = row (codes "valid") (device_list r.valid) in
     let P = λ (x : Row). OldKey 0 x.key in
-    let old : Old 0 (promised ∷ installed ∷ members ∷ valid ∷ []) =
-      All-cons P promised _ (head_old (codes "promised") (λ e. cc e) (λ e. cc e))
-      (All-cons P installed _ (head_old (codes "installed") (λ e. cc e) (λ e. cc e))
-      (All-cons P members _ (head_old (codes "members") (λ e. cc e) (λ e. cc e))
-      (All-cons P valid _ (head_old (codes "valid") (λ e. cc e) (λ e. cc e)) (All-nil P)))) in
-    let before2 : All (Other (codes "installed")) (promised ∷ []) = All-cons (Other (codes "installed")) promised _ (λ e. cc e) (All-nil (Other (codes "installed"))) in
-    let before3 : All (Other (codes "members")) (promised ∷ installed ∷ []) =
-      All-cons (Other (codes "members")) promised _ (λ e. cc e) (All-cons (Other (codes "members")) installed _ (λ e. cc e) (All-nil (Other (codes "members")))) in
-    let before4 : All (Other (codes "valid")) (promised ∷ installed ∷ members ∷ []) =
-      All-cons (Other (codes "valid")) promised _ (λ e. cc e) (All-cons (Other (codes "valid")) installed _ (λ e. cc e) (All-cons (Other (codes "valid")) members _ (λ e. cc e) (All-nil (Other (codes "valid"))))) in
+    let old4 : Old 0 (valid ∷ []) = All-cons P valid [] (head_old (codes "valid") (λ n. refl) refl) (All-nil P) in
+    let old3 : Old 0 (members ∷ valid ∷ []) = All-cons P members (valid ∷ []) (head_old (codes "members") (λ n. refl) refl) old4 in
+    let old2 : Old 0 (installed ∷ members ∷ valid ∷ []) = All-cons P installed (members ∷ valid ∷ []) (head_old (codes "installed") (λ n. refl) refl) old3 in
+    let old : Old 0 (promised ∷ installed ∷ members ∷ valid ∷ []) = All-cons P promised (installed ∷ members ∷ valid ∷ []) (head_old (codes "promised") (λ n. refl) refl) old2 in
+    let second = Other (codes "installed") in
+    let third = Other (codes "members") in
+    let fourth = Other (codes "valid") in
+    let before2 : All second (promised ∷ []) = All-cons second promised [] (differ (codes "promised") (codes "installed") refl) (All-nil second) in
+    let before3 : All third (promised ∷ installed ∷ []) =
+      All-cons third promised (installed ∷ []) (differ (codes "promised") (codes "members") refl) (All-cons third installed [] (differ (codes "installed") (codes "members") refl) (All-nil third)) in
+    let before4 : All fourth (promised ∷ installed ∷ members ∷ []) =
+      All-cons fourth promised (installed ∷ members ∷ []) (differ (codes "promised") (codes "valid") refl) (All-cons fourth installed (members ∷ []) (differ (codes "installed") (codes "valid") refl) (All-cons fourth members [] (differ (codes "members") (codes "valid") refl) (All-nil fourth))) in
     (record { form = is_row (codes "promised") (decimal r.promised) (omega arith) (omega arith) (plain_if (codes "promised") refl) (text_decimal r.promised ok.width); fresh = All-nil (Other (codes "promised")) },
-     record { form = is_row (codes "installed") (decimal r.installed) (omega arith) (omega arith) (plain_if (codes "installed") refl) (text_decimal r.installed (omega (arith, ok.order, ok.width))); fresh = before2 },
-     record { form = is_row (codes "members") (node_list r.members) (omega arith) (omega arith) (plain_if (codes "members") refl) (text_set r.members 32 (omega arith)); fresh = before3 },
-     record { form = is_row (codes "valid") (device_list r.valid) (omega arith) (omega arith) (plain_if (codes "valid") refl) (text_set r.valid 16 (omega arith)); fresh = before4 },
-     entries_follow 0 (promised ∷ installed ∷ members ∷ valid ∷ []) r.entries.committed r.entries.pending (omega (arith, ok.count)) old texts)
+     (record { form = is_row (codes "installed") (decimal r.installed) (omega arith) (omega arith) (plain_if (codes "installed") refl) (text_decimal r.installed (omega (arith, ok.order, ok.width))); fresh = before2 },
+     (record { form = is_row (codes "members") (node_list r.members) (omega arith) (omega arith) (plain_if (codes "members") refl) (text_set r.members 32 (omega arith)); fresh = before3 },
+     (record { form = is_row (codes "valid") (device_list r.valid) (omega arith) (omega arith) (plain_if (codes "valid") refl) (text_set r.valid 16 (omega arith)); fresh = before4 },
+     entries_follow 0 (promised ∷ installed ∷ members ∷ valid ∷ []) r.entries.committed r.entries.pending (omega (arith, ok.count)) old texts))))
+
+pub table_from : (r : NodeRecord) (rows : List Row) → rows ≡ rows_of r → r.installed ≤ r.promised → Widths r → All IsRowText (texts_of r.entries) → AreRows rows
+table_from r rows is order w texts = subst AreRows (sym is) (are_rows r (record { order = order; width = w.width; nodes = w.nodes; devices = w.devices; count = w.count }) texts)
+
+-- ---- a text is the table of one record at most
+
+abbrev pub rows_of_ok : Result (ℕ × List Row) TextError → List Row
+rows_of_ok (Ok found) = found.1
+rows_of_ok (Err e) = []
+
+pub rows_are : (result : Result (ℕ × List Row) TextError) (n saves : ℕ) (rows others : List Row) → result ≡ Ok (n, rows) → (result ≡ Err NoMemory) ⊎ (result ≡ Ok (saves, others)) → rows ≡ others
+rows_are result n saves rows others is (inl e) = absurd (cc)
+rows_are result n saves rows others is (inr e) = ap rows_of_ok (sym is ∙ e)
+
+pub not_bad : (result : Result (ℕ × List Row) TextError) (bad : TextError) (found : ℕ × List Row) → result ≡ Err bad → bad ≢ NoMemory → (result ≡ Err NoMemory) ⊎ (result ≡ Ok found) → ⊥
+not_bad result bad found is other (inl e) = let same : bad ≡ NoMemory = cc in other same
+not_bad result bad found is other (inr e) = absurd (cc)
+
+pub no_table : (saves : ℕ) (rows : List Row) → IsTable [] saves rows → ⊥
+no_table saves rows h = let first : 0 ≡ 99 = ap (λ t. get_or t 0 0) h.spelled in omega (arith, first)
+
+same_rows : (text : List ℕ) (saves others : ℕ) (a b : List Row) → IsTable text saves a → IsTable text others b → a ≡ b
+same_rows text saves others a b ha hb = ap rows_of_ok (one_answer text (Ok (saves, a)) (Ok (others, b)) ha hb)
+
+abbrev pub no_row : Row
+no_row = row [] []
+
+abbrev pub value_at : ℕ → List Row → List ℕ
+value_at i rows = (get_or rows i no_row).value
+
+pub same_record : (a b : NodeRecord) → IsRecord a → IsRecord b → rows_of a ≡ rows_of b → a ≡ b
+same_record a b ha hb same =
+    let promised : a.promised ≡ b.promised = decimal_injective a.promised b.promised ha.width hb.width (ap (value_at 0) same) in
+    let installed : a.installed ≡ b.installed = decimal_injective a.installed b.installed (omega (arith, ha.order, ha.width)) (omega (arith, hb.order, hb.width)) (ap (value_at 1) same) in
+    let members : a.members ≡ b.members = list_back a.members b.members 32 (omega arith) ha.nodes hb.nodes (ap (value_at 2) same) in
+    let valid : a.valid ≡ b.valid = list_back a.valid b.valid 16 (omega arith) ha.devices hb.devices (ap (value_at 3) same) in
+    let entries : a.entries ≡ b.entries = entries_same a.entries b.entries (ap (drop 4) same) in
+    cc
+
+pub one_record : (text : List ℕ) (saves others : ℕ) (a b : NodeRecord) → IsRecord a → IsRecord b → IsTable text saves (rows_of a) → IsTable text others (rows_of b) → a ≡ b
+one_record text saves others a b ha hb ta tb = same_record a b ha hb (same_rows text saves others (rows_of a) (rows_of b) ta tb)

@@ -1,4 +1,4 @@
-ghost use Rattle.std.specs.Prelude.{◌≡◌, ◌⊎◌, ℕ, [], IfOk};
+ghost use Rattle.std.specs.Prelude.{◌≡◌, ◌≤◌, ◌⊎◌, ℕ, [], IfOk};
 ghost use Rattle.ccr_text.specs.TableText.{IsTable};
 ghost use Rattle.membership_machine.specs.State.{Node};
 ghost use Rattle.cmm_member.specs.Records.{NodeRecord, IsRecord, IsRecordText, first_record, rows_of};
@@ -47,11 +47,7 @@ impl DownNode {
         ensures read { IfOk result (λ node. (saves : ℕ) (r : NodeRecord) → IsRecord r → IsTable text.now saves (rows_of r) → node ≡ booted self r) }
         ensures machine { IfOk result (λ node. (n : Node) → ShowsDown node.saved n → ShowsForming node n) }
     {
-        let durable = if text.is_empty() {
-            first_record(alloc, self.first_valid)
-        } else {
-            record_of(alloc, text)?
-        };
+        let durable = record_at(alloc, text, self.first_valid)?;
         Ok(FormingNode::new(Running {
             me: self.me,
             first_valid: self.first_valid,
@@ -60,6 +56,19 @@ impl DownNode {
             joined: DevSet::empty(),
         }))
     }
+}
+
+// The record that a disk with this text stands for.
+fn record_at(alloc: Global, text: &[u8], first_valid: DevSet) -> Result<Record, AllocError>
+    requires { (text.now ≡ []) ⊎ IsRecordText text.now }
+    ensures order { IfOk result (λ found. found.installed ≤ found.promised) }
+    ensures first { IfOk result (λ found. text.now ≡ [] → kept found ≡ first_record first_valid) }
+    ensures read { IfOk result (λ found. (saves : ℕ) (r : NodeRecord) → IsRecord r → IsTable text.now saves (rows_of r) → kept found ≡ r) }
+{
+    if text.is_empty() {
+        return Ok(first_record(alloc, first_valid));
+    }
+    record_of(alloc, text)
 }
 
 fn first_record(alloc: Global, valid: DevSet) -> Record
@@ -77,12 +86,14 @@ fn first_record(alloc: Global, valid: DevSet) -> Record
 // The record whose table has this text.
 fn record_of(alloc: Global, text: &[u8]) -> Result<Record, AllocError>
     requires { IsRecordText text.now }
-    ensures { IfOk result (λ found. (saves : ℕ) (r : NodeRecord) → IsRecord r → IsTable text.now saves (rows_of r) → kept found ≡ r) }
+    ensures order { IfOk result (λ found. found.installed ≤ found.promised) }
+    ensures read { IfOk result (λ found. (saves : ℕ) (r : NodeRecord) → IsRecord r → IsTable text.now saves (rows_of r) → kept found ≡ r) }
 {
     let rows = match read_table(alloc, text) {
         Ok((_, rows)) => rows,
         Err(TextError::NoMemory) => return Err(AllocError),
-        Err(_) => unreachable!(),
+        Err(TextError::BadLine(_)) => unreachable!(),
+        Err(TextError::BadChecksum { .. }) => unreachable!(),
     };
     let Some(record) = read_record(alloc, rows.items())? else {
         unreachable!()

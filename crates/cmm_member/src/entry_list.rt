@@ -1,4 +1,4 @@
-ghost use Rattle.std.specs.Prelude.{◌≡◌, ◌+◌, IfOk, OnOk, option_copied, map, length};
+ghost use Rattle.std.specs.Prelude.{◌≡◌, ◌+◌, IfOk, OnOk, map, length};
 ghost use Rattle.ccr_commit.specs.Entries.{with_next, texts_of};
 ghost use Rattle.cmm_member.specs.Views.{all_next};
 
@@ -10,16 +10,17 @@ use std::alloc::{AllocError, Global};
 pub fn entries_from(
     alloc: Global,
     committed: &[Text],
-    last: Option<&Text>,
+    pending: &Option<Text>,
 ) -> Result<Entries, AllocError>
-    ensures { IfOk result (λ entries. entries ≡ record { committed = committed.now; pending = option_copied last }) }
+    ensures { IfOk result (λ entries. entries ≡ record { committed = committed.now; pending = pending.now }) }
 {
     let mut entries = Entries::new(alloc);
     append_texts(&mut entries, committed)?;
     entries.commit_pending();
-    if let Some(text) = last {
-        append(&mut entries, text.items())?;
-    }
+    let Some(text) = pending else {
+        return Ok(entries);
+    };
+    append(&mut entries, text.items())?;
     Ok(entries)
 }
 

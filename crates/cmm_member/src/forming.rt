@@ -102,7 +102,8 @@ impl FormingNode {
         ensures is_record { IfOk result (λ rows. IsRecord self.now.saved) }
         ensures table { IfOk result (λ rows. All IsRowText (texts_of self.now.saved.entries) → AreRows rows) }
     {
-        record_rows(alloc, &self.running.durable)
+        let rows = record_rows(alloc, &self.running.durable)?;
+        Ok(rows)
     }
 
     /// The node promises p and enters its session. Refused where its promise is p or more: the node as
@@ -138,7 +139,7 @@ impl FormingNode {
         if self.running.durable.installed == i.epoch {
             return Ok(self);
         }
-        let entries = entries_from(alloc, i.committed.items(), i.pending.as_ref())?;
+        let entries = entries_from(alloc, i.committed.items(), &i.pending)?;
         let mut running = self.running;
         running.durable.installed = i.epoch;
         running.durable.members = i.members;

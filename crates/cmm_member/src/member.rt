@@ -100,7 +100,8 @@ impl MemberNode {
         ensures is_record { IfOk result (λ rows. IsRecord self.now.saved) }
         ensures table { IfOk result (λ rows. All IsRowText (texts_of self.now.saved.entries) → AreRows rows) }
     {
-        record_rows(alloc, &self.running.durable)
+        let rows = record_rows(alloc, &self.running.durable)?;
+        Ok(rows)
     }
 
     /// The node promises p, enters its session, and is a member no longer. Refused where its promise

@@ -38,9 +38,10 @@ fn read_entries(alloc: Global, rows: &[Row]) -> Result<Entries, AllocError>
 {
     let mut entries = Entries::new(alloc);
     append_rows(&mut entries, rows)?;
-    if !ends_pending(rows) {
-        entries.commit_pending();
+    if ends_pending(rows) {
+        return Ok(entries);
     }
+    entries.commit_pending();
     Ok(entries)
 }
 

@@ -1,7 +1,6 @@
-ghost use Rattle.std.specs.Prelude.{◌≡◌, ◌++◌, ◌∷◌, [], IfOk, OnOk, All, length};
-ghost use Rattle.ccr_commit.specs.Entries.{texts_of};
-ghost use Rattle.ccr_text.specs.TableText.{AreRows};
-ghost use Rattle.cmm_member.specs.Records.{IsRecord, IsRowText, row, rows_of, update_rows};
+ghost use Rattle.std.specs.Prelude.{◌≡◌, ◌++◌, ◌∷◌, [], IfOk, OnOk, codes};
+ghost use Rattle.std.specs.Fmt.{decimal};
+ghost use Rattle.cmm_member.specs.Records.{row, rows_of, update_rows};
 ghost use Rattle.cmm_member.specs.Views.{kept, Widths};
 
 use crate::numbers::{device_list, node_list, number_text};
@@ -44,9 +43,21 @@ fn push_updates(rows: &mut Vec<Row>, alloc: Global, texts: &[Text]) -> Result<()
     ensures { OnOk result (rows.new.items ≡ rows.old.items ++ update_rows 0 texts.now) }
 {
     for (index, text) in texts.iter().enumerate() {
-        let place = index + 1;
-        let key = format!(in alloc; "update.{place}")?;
-        rows.push(row(alloc, key.as_bytes(), text.items().to_vec(alloc)?)?)?;
+        push_update(rows, alloc, index + 1, text)?;
     }
+    Ok(())
+}
+
+fn push_update(
+    rows: &mut Vec<Row>,
+    alloc: Global,
+    place: usize,
+    text: &Text,
+) -> Result<(), AllocError>
+    ensures { OnOk result (rows.new.items ≡ rows.old.items ++ row (codes "update." ++ decimal place) text.now ∷ []) }
+{
+    let key = format!(in alloc; "update.{place}")?;
+    let value = text.items().to_vec(alloc)?;
+    rows.push(row(alloc, key.as_bytes(), value)?)?;
     Ok(())
 }
