@@ -191,6 +191,9 @@ no_row = row [] []
 abbrev pub value_at : ℕ → List Row → List ℕ
 value_at i rows = (get_or rows i no_row).value
 
+abbrev pub made : ℕ → ℕ → ℕ → ℕ → EntryList → NodeRecord
+made promised installed members valid entries = record { promised = promised; installed = installed; members = members; valid = valid; entries = entries }
+
 pub same_record : (a b : NodeRecord) → IsRecord a → IsRecord b → rows_of a ≡ rows_of b → a ≡ b
 same_record a b ha hb same =
     let promised : a.promised ≡ b.promised = decimal_injective a.promised b.promised ha.width hb.width (ap (value_at 0) same) in
@@ -198,7 +201,11 @@ same_record a b ha hb same =
     let members : a.members ≡ b.members = list_back a.members b.members 32 (omega arith) ha.nodes hb.nodes (ap (value_at 2) same) in
     let valid : a.valid ≡ b.valid = list_back a.valid b.valid 16 (omega arith) ha.devices hb.devices (ap (value_at 3) same) in
     let entries : a.entries ≡ b.entries = entries_same a.entries b.entries (ap (drop 4) same) in
-    cc
+    ap (λ x. made x a.installed a.members a.valid a.entries) promised
+    ∙ ap (λ x. made b.promised x a.members a.valid a.entries) installed
+    ∙ ap (λ x. made b.promised b.installed x a.valid a.entries) members
+    ∙ ap (λ x. made b.promised b.installed b.members x a.entries) valid
+    ∙ ap (made b.promised b.installed b.members b.valid) entries
 
 pub one_record : (text : List ℕ) (saves others : ℕ) (a b : NodeRecord) → IsRecord a → IsRecord b → IsTable text saves (rows_of a) → IsTable text others (rows_of b) → a ≡ b
 one_record text saves others a b ha hb ta tb = same_record a b ha hb (same_rows text saves others (rows_of a) (rows_of b) ta tb)
