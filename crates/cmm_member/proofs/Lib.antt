@@ -2,3 +2,4 @@ pub mod EntryLemmas
 pub mod ListLemmas
 pub mod RowLemmas
 pub mod NodeLemmas
+pub mod DeviceLemmas

@@ -1,5 +1,5 @@
 -- A node's states, and what each transition makes of them.
-use Rattle.std.specs.Prelude.{ℕ, ◌≡◌, ◌≤◌, ◌<◌, ◌^◌, ◌%◌, ◌==◌, ◌&&◌, ◌||◌, ◌⊎◌, Bool, if◌then◌else◌, List, [], ◌∷◌}
+use Rattle.std.specs.Prelude.{ℕ, ◌≡◌, ◌≢◌, ◌≤◌, ◌<◌, ◌^◌, ◌%◌, ◌==◌, ◌&&◌, ◌||◌, ◌⊎◌, Bool, if◌then◌else◌, All, List, [], ◌∷◌}
 use Rattle.std.specs.List.{list_any}
 use Rattle.cl_base.specs.Sets.{has, set_with, set_without}
 use Rattle.cl_base.specs.declared.panic.Panic.{Panic}
@@ -94,6 +94,15 @@ joining_all me d (reading ∷ readings) = joining_all me (joining_one me d readi
 -- the devices after an install: those that were not read stay valid, or not, and are not joined
 abbrev pub devices_after : NodeState → Install → Devices
 devices_after s i = joining_all s.me (record { valid = s.saved.valid; joined = 0 }) i.readings
+
+-- each reading is of a device, and no two are of one
+abbrev pub AreOfDevices : List Reading → Type 0
+AreOfDevices [] = Unit {0}
+AreOfDevices (r ∷ readings) = (1 ≤ r.device) × (r.device ≤ 16) × All (λ other. other.device ≢ r.device) readings × AreOfDevices readings
+
+abbrev pub IsOneOf : Reading → List Reading → Type 0
+IsOneOf r [] = ⊥
+IsOneOf r (first ∷ readings) = (r ≡ first) ⊎ IsOneOf r readings
 
 abbrev pub entries_of : Install → EntryList
 entries_of i = record { committed = i.committed; pending = i.pending }

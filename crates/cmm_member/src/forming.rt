@@ -89,6 +89,13 @@ impl FormingNode {
         self.running.durable.valid
     }
 
+    /// The devices that the node has joined in its session. This takes no memory.
+    pub fn joined_devices(&self) -> DevSet
+        ensures value { result ≡ self.now.joined }
+    {
+        self.running.joined
+    }
+
     /// The updates of the configuration that the node has. This takes no memory.
     pub fn entries(&self) -> &Entries
         ensures value { result.now ≡ self.now.saved.entries }

@@ -19,7 +19,7 @@ pub use down::DownNode;
 pub use error::{InstallError, NotHeld};
 pub use forming::FormingNode;
 pub use halted::HaltedNode;
-pub use laws::{record_is_read_back, rows_are_a_table};
+pub use laws::{install_decides, record_is_read_back, rows_are_a_table};
 pub use member::MemberNode;
 
 #[cfg(test)]
