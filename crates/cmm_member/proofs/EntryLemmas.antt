@@ -42,15 +42,15 @@ update_rows-push : (k : ℕ) (texts : List (List ℕ)) (text : List ℕ) → upd
 update_rows-push k [] text = ap (λ n. row (codes "update." ++ decimal n) text ∷ []) (let e : k + 1 ≡ k + 0 + 1 = omega arith in e)
 update_rows-push k (first ∷ texts) text =
     ap (λ rs. row (codes "update." ++ decimal (k + 1)) first ∷ rs) (update_rows-push (k + 1) texts text
-      ∙ ap (λ n. update_rows (k + 1) texts ++ row (codes "update." ++ decimal n) text ∷ []) (let e : k + 1 + length texts + 1 ≡ k + length (first ∷ texts) + 1 = omega arith in e))
+    ∙ ap (λ n. update_rows (k + 1) texts ++ row (codes "update." ++ decimal n) text ∷ []) (let e : k + 1 + length texts + 1 ≡ k + length (first ∷ texts) + 1 = omega arith in e))
 
 pub update_rows-more : (texts : List (List ℕ)) (i : ℕ) (text : List ℕ) → i < length texts → text ≡ get_or texts i text → update_rows 0 (take (i + 1) texts) ≡ update_rows 0 (take i texts) ++ row (codes "update." ++ decimal (i + 1)) text ∷ []
 update_rows-more texts i text low here =
     let front : length (take i texts) ≡ i = length-take-le i texts (omega arith) in
     let whole : 0 + length (take i texts) ≡ i = omega (arith, front) in
     rw (take_more texts i text low) (update_rows-push 0 (take i texts) (get_or texts i text)
-      ∙ ap (λ n. update_rows 0 (take i texts) ++ row (codes "update." ++ decimal (n + 1)) (get_or texts i text) ∷ []) whole
-      ∙ ap (λ t. update_rows 0 (take i texts) ++ row (codes "update." ++ decimal (i + 1)) t ∷ []) (sym here))
+    ∙ ap (λ n. update_rows 0 (take i texts) ++ row (codes "update." ++ decimal (n + 1)) (get_or texts i text) ∷ []) whole
+    ∙ ap (λ t. update_rows 0 (take i texts) ++ row (codes "update." ++ decimal (i + 1)) t ∷ []) (sym here))
 
 -- ---- entries from rows
 

@@ -97,7 +97,7 @@ last_number : (set k m : ℕ) (t : Bool) → has set (k + 1) ≡ t → ((nat_le 
 last_number set k m true is = tests (eqb_tells (k + 1) m) (leb_tells m k) (leb_tells m (suc k))
   where
     tests : ((k + 1 == m) ≡ true) × (k + 1 ≡ m) ⊎ ((k + 1 == m) ≡ false) × (k + 1 ≢ m) → (nat_le m k ≡ true) × (m ≤ k) ⊎ (nat_le m k ≡ false) × (k < m) → (nat_le m (suc k) ≡ true) × (m ≤ suc k) ⊎ (nat_le m (suc k) ≡ false) × (suc k < m)
-      → ((nat_le m k && has set m) || ((k + 1 == m) || false)) ≡ (nat_le m (suc k) && has set m)
+        → ((nat_le m k && has set m) || ((k + 1 == m) || false)) ≡ (nat_le m (suc k) && has set m)
     tests (inl (test, same)) (inl (le, less)) c = absurd (omega arith)
     tests (inl (test, same)) (inr (le, more)) (inl (next, _)) = let here : has set m ≡ true = subst (λ j. has set j ≡ true) same is in rw (test, le, next, here) refl
     tests (inl (test, same)) (inr (le, more)) (inr (next, far)) = absurd (omega arith)
@@ -108,7 +108,7 @@ last_number set k m true is = tests (eqb_tells (k + 1) m) (leb_tells m k) (leb_t
 last_number set k m false is = tests (eqb_tells (k + 1) m) (leb_tells m k) (leb_tells m (suc k))
   where
     tests : ((k + 1 == m) ≡ true) × (k + 1 ≡ m) ⊎ ((k + 1 == m) ≡ false) × (k + 1 ≢ m) → (nat_le m k ≡ true) × (m ≤ k) ⊎ (nat_le m k ≡ false) × (k < m) → (nat_le m (suc k) ≡ true) × (m ≤ suc k) ⊎ (nat_le m (suc k) ≡ false) × (suc k < m)
-      → ((nat_le m k && has set m) || false) ≡ (nat_le m (suc k) && has set m)
+        → ((nat_le m k && has set m) || false) ≡ (nat_le m (suc k) && has set m)
     tests (inl (test, same)) (inl (le, less)) c = absurd (omega arith)
     tests (inl (test, same)) (inr (le, more)) c = let here : has set m ≡ false = subst (λ j. has set j ≡ false) same is in rw (le, here) (and_none (nat_le m (suc k)))
     tests (inr (test, other)) (inl (le, less)) (inl (next, _)) = rw (le, next) (or_none (has set m))
@@ -165,7 +165,7 @@ pub list_back : (a b w : ℕ) → w ≤ 32 → a < 2 ^ w → b < 2 ^ w → by_co
 list_back a b w most fa fb same =
     let wide : 2 ^ w ≤ 2 ^ 32 = pow_mono {i = w} {j = 32} most in
     same_set a b (omega arith) (omega arith) (λ m.
-      sym (within a w m most fa (leb_tells m w)) ∙ ap (λ t. nat_lt m (w + 1) && (nat_le 1 m && is_listed t m)) same ∙ within b w m most fb (leb_tells m w))
+    sym (within a w m most fa (leb_tells m w)) ∙ ap (λ t. nat_lt m (w + 1) && (nat_le 1 m && is_listed t m)) same ∙ within b w m most fb (leb_tells m w))
 
 pub read_back : (set w new : ℕ) (text : List ℕ) → w ≤ 32 → set < 2 ^ w → new < 2 ^ 32 → Read text (w + 1) new → text ≡ by_commas (numbers_to set w) → new ≡ set
 read_back set w new text most fits small all is =

@@ -113,8 +113,8 @@ Old k before = All (λ r. OldKey k r.key) before
 old_more : (k : ℕ) (before : List Row) (text : List ℕ) → k + 1 < 2 ^ 64 → Old k before → Old (k + 1) (before ++ row (update_key (k + 1)) text ∷ [])
 old_more k before text low old =
     All-append (λ r. OldKey (k + 1) r.key) before (row (update_key (k + 1)) text ∷ [])
-      (All-weaker (λ r. OldKey k r.key) (λ r. OldKey (k + 1) r.key) (λ r h. later k r.key h) before old)
-      (All-cons (λ r. OldKey (k + 1) r.key) (row (update_key (k + 1)) text) [] (old_update k low) (All-nil (λ r. OldKey (k + 1) r.key)))
+    (All-weaker (λ r. OldKey k r.key) (λ r. OldKey (k + 1) r.key) (λ r h. later k r.key h) before old)
+    (All-cons (λ r. OldKey (k + 1) r.key) (row (update_key (k + 1)) text) [] (old_update k low) (All-nil (λ r. OldKey (k + 1) r.key)))
 
 fresh_update : (k : ℕ) (before : List Row) → k + 1 < 2 ^ 64 → Old k before → All (λ other. other.key ≢ update_key (k + 1)) before
 fresh_update k before low old = All-weaker (λ r. OldKey k r.key) (λ other. other.key ≢ update_key (k + 1)) (λ r h. h.0 (k + 1) (omega arith) low) before old
@@ -127,9 +127,10 @@ entries_follow k before [] None low old texts = tt
 entries_follow k before [] (Some text) low old texts =
     (record { form = pending_row text (All-head IsRowText text [] texts); fresh = All-weaker (λ r. OldKey k r.key) (λ other. other.key ≢ codes "pending") (λ r h. h.1) before old }, tt)
 entries_follow k before (text ∷ committed) pending low old texts =
-    let fits : k + 1 < 2 ^ 64 = omega arith in
-    (record { form = update_row (k + 1) text fits (All-head IsRowText text (committed ++ listed pending) texts); fresh = fresh_update k before fits old },
-     entries_follow (k + 1) (before ++ row (update_key (k + 1)) text ∷ []) committed pending (omega arith) (old_more k before text fits old) (All-tail IsRowText text (committed ++ listed pending) texts))
+    let fits : k + 1 < 2 ^ 64 = omega arith in (
+      record { form = update_row (k + 1) text fits (All-head IsRowText text (committed ++ listed pending) texts); fresh = fresh_update k before fits old },
+      entries_follow (k + 1) (before ++ row (update_key (k + 1)) text ∷ []) committed pending (omega arith) (old_more k before text fits old) (All-tail IsRowText text (committed ++ listed pending) texts),
+    )
 
 abbrev pub Other : List ℕ → Row → Type 0
 Other key r = r.key ≢ key
@@ -153,14 +154,21 @@ are_rows r ok texts =
     let fourth = Other (codes "valid") in
     let before2 : All second (promised ∷ []) = All-cons second promised [] (differ (codes "promised") (codes "installed") refl) (All-nil second) in
     let before3 : All third (promised ∷ installed ∷ []) =
-      All-cons third promised (installed ∷ []) (differ (codes "promised") (codes "members") refl) (All-cons third installed [] (differ (codes "installed") (codes "members") refl) (All-nil third)) in
+    All-cons third promised (installed ∷ []) (differ (codes "promised") (codes "members") refl) (All-cons third installed [] (differ (codes "installed") (codes "members") refl) (All-nil third)) in
     let before4 : All fourth (promised ∷ installed ∷ members ∷ []) =
-      All-cons fourth promised (installed ∷ members ∷ []) (differ (codes "promised") (codes "valid") refl) (All-cons fourth installed (members ∷ []) (differ (codes "installed") (codes "valid") refl) (All-cons fourth members [] (differ (codes "members") (codes "valid") refl) (All-nil fourth))) in
-    (record { form = is_row (codes "promised") (decimal r.promised) (omega arith) (omega arith) (plain_if (codes "promised") refl) (text_decimal r.promised ok.width); fresh = All-nil (Other (codes "promised")) },
-     (record { form = is_row (codes "installed") (decimal r.installed) (omega arith) (omega arith) (plain_if (codes "installed") refl) (text_decimal r.installed (omega (arith, ok.order, ok.width))); fresh = before2 },
-     (record { form = is_row (codes "members") (node_list r.members) (omega arith) (omega arith) (plain_if (codes "members") refl) (text_set r.members 32 (omega arith)); fresh = before3 },
-     (record { form = is_row (codes "valid") (device_list r.valid) (omega arith) (omega arith) (plain_if (codes "valid") refl) (text_set r.valid 16 (omega arith)); fresh = before4 },
-     entries_follow 0 (promised ∷ installed ∷ members ∷ valid ∷ []) r.entries.committed r.entries.pending (omega (arith, ok.count)) old texts))))
+    All-cons fourth promised (installed ∷ members ∷ []) (differ (codes "promised") (codes "valid") refl) (All-cons fourth installed (members ∷ []) (differ (codes "installed") (codes "valid") refl) (All-cons fourth members [] (differ (codes "members") (codes "valid") refl) (All-nil fourth))) in (
+      record { form = is_row (codes "promised") (decimal r.promised) (omega arith) (omega arith) (plain_if (codes "promised") refl) (text_decimal r.promised ok.width); fresh = All-nil (Other (codes "promised")) },
+      (
+        record { form = is_row (codes "installed") (decimal r.installed) (omega arith) (omega arith) (plain_if (codes "installed") refl) (text_decimal r.installed (omega (arith, ok.order, ok.width))); fresh = before2 },
+        (
+          record { form = is_row (codes "members") (node_list r.members) (omega arith) (omega arith) (plain_if (codes "members") refl) (text_set r.members 32 (omega arith)); fresh = before3 },
+          (
+            record { form = is_row (codes "valid") (device_list r.valid) (omega arith) (omega arith) (plain_if (codes "valid") refl) (text_set r.valid 16 (omega arith)); fresh = before4 },
+            entries_follow 0 (promised ∷ installed ∷ members ∷ valid ∷ []) r.entries.committed r.entries.pending (omega (arith, ok.count)) old texts,
+          ),
+        ),
+      ),
+    )
 
 pub table_from : (r : NodeRecord) (rows : List Row) → rows ≡ rows_of r → r.installed ≤ r.promised → Widths r → All IsRowText (texts_of r.entries) → AreRows rows
 table_from r rows is order w texts = subst AreRows (sym is) (are_rows r (record { order = order; width = w.width; nodes = w.nodes; devices = w.devices; count = w.count }) texts)

@@ -12,14 +12,18 @@ use std::test::Fail;
 use wire::{Install, Keys, Reading, Readings, Texts};
 
 // Two updates are committed, and one is pending; a greater epoch was promised since.
-const PENDING: &str = "ccr_gennum 3\nccr_checksum b5f35f359e0bb380805a982fdb51c8abd8c1853d1005972d935f8179ecd897cf\npromised\t130\ninstalled\t66\nmembers\t1,2\nvalid\t1,16\nupdate.1\tclrt register t a START,STOP\nupdate.2\tclrg create g 1,2\npending\tclrs create r g t\n";
+const PENDING: &str =
+    "ccr_gennum 3\nccr_checksum b5f35f359e0bb380805a982fdb51c8abd8c1853d1005972d935f8179ecd897cf\npromised\t130\ninstalled\t66\nmembers\t1,2\nvalid\t1,16\nupdate.1\tclrt register t a START,STOP\nupdate.2\tclrg create g 1,2\npending\tclrs create r g t\n";
 
-const GREATEST: &str = "ccr_gennum 0\nccr_checksum 9d516626d891253250a884149250bb852d8bfbc7e3e7e5575a7e406d364733fb\npromised\t18446744073709551615\ninstalled\t0\nmembers\tnone\nvalid\tnone\n";
+const GREATEST: &str =
+    "ccr_gennum 0\nccr_checksum 9d516626d891253250a884149250bb852d8bfbc7e3e7e5575a7e406d364733fb\npromised\t18446744073709551615\ninstalled\t0\nmembers\tnone\nvalid\tnone\n";
 
-const TEN: &str = "ccr_gennum 12\nccr_checksum 0e62cc0b3b6c93ffb55db36d5a323ca279b878f25abce9b3bfaba27986430492\npromised\t66\ninstalled\t65\nmembers\t2,32\nvalid\t1,2,3,4,5,6,7,8,9,10,11,12,13,14,15,16\nupdate.1\tu1\nupdate.2\tu2\nupdate.3\tu3\nupdate.4\tu4\nupdate.5\tu5\nupdate.6\tu6\nupdate.7\tu7\nupdate.8\tu8\nupdate.9\tu9\nupdate.10\tu10\n";
+const TEN: &str =
+    "ccr_gennum 12\nccr_checksum 0e62cc0b3b6c93ffb55db36d5a323ca279b878f25abce9b3bfaba27986430492\npromised\t66\ninstalled\t65\nmembers\t2,32\nvalid\t1,2,3,4,5,6,7,8,9,10,11,12,13,14,15,16\nupdate.1\tu1\nupdate.2\tu2\nupdate.3\tu3\nupdate.4\tu4\nupdate.5\tu5\nupdate.6\tu6\nupdate.7\tu7\nupdate.8\tu8\nupdate.9\tu9\nupdate.10\tu10\n";
 
 // The first update is pending.
-const FIRST: &str = "ccr_gennum 1\nccr_checksum e811ac93f17000bdf5ec21a78545ca2468fd9a56f228245114590de2aaa1c116\npromised\t65\ninstalled\t65\nmembers\t2\nvalid\t3\npending\tx\n";
+const FIRST: &str =
+    "ccr_gennum 1\nccr_checksum e811ac93f17000bdf5ec21a78545ca2468fd9a56f228245114590de2aaa1c116\npromised\t65\ninstalled\t65\nmembers\t2\nvalid\t3\npending\tx\n";
 
 // Devices 1, 2, 4 and 5.
 const VALID: u16 = 0b11011;
@@ -138,25 +142,37 @@ fn expect_entries(rt: &impl Abort, entries: &Entries, counts: [usize; 2]) -> Res
     Ok(())
 }
 
+/// This promise is refused, and shows the one that the node has.
+fn promise_refused(
+    rt: &impl Abort,
+    node: FormingNode,
+    p: u64,
+    shown: u64,
+) -> Result<FormingNode, Fail> {
+    match node.promise(Epoch::from_number(p)) {
+        Err((node, promised)) => {
+            assert_eq!(rt; promised.number(), shown);
+            Ok(node)
+        }
+        Ok(_) => Err("it is not refused".into()),
+    }
+}
+
 #[test]
-fn a_first_boot_and_promises(rt: HostRuntime) -> Result<(), Fail> {
+fn a_first_boot(rt: HostRuntime) -> Result<(), Fail> {
     let node = up(rt.alloc(), VALID)?;
-    expect(&rt, &node, [0, 0, 0], 0, [VALID, 0], [0, 0])?;
-    let Err((node, shown)) = node.promise(Epoch::zero()) else {
-        return Err("a promise of 0".into());
-    };
-    assert_eq!(rt; shown, Epoch::zero());
-    let node = promised(node, 65)?;
-    expect(&rt, &node, [65, 65, 0], 0, [VALID, 0], [0, 0])?;
-    let Err((node, shown)) = node.promise(Epoch::from_number(65)) else {
-        return Err("promised twice".into());
-    };
-    assert_eq!(rt; shown, Epoch::from_number(65));
+    expect(&rt, &node, [0, 0, 0], 0, [VALID, 0], [0, 0])
+}
+
+#[test]
+fn promises(rt: HostRuntime) -> Result<(), Fail> {
+    let node = promise_refused(&rt, up(rt.alloc(), VALID)?, 0, 0)?;
+    let node = promise_refused(&rt, promised(node, 65)?, 65, 65)?;
     expect(&rt, &node, [65, 65, 0], 0, [VALID, 0], [0, 0])
 }
 
 /// The install of this epoch is refused, and shows this promise.
-fn refused(
+fn install_refused(
     rt: &impl Abort,
     alloc: Global,
     node: FormingNode,
@@ -173,44 +189,55 @@ fn refused(
 }
 
 #[test]
-fn installs(rt: HostRuntime) -> Result<(), Fail> {
-    let node = refused(&rt, rt.alloc(), up(rt.alloc(), VALID)?, 0, 0)?;
-    let node = refused(&rt, rt.alloc(), node, 65, 0)?;
-    let node = promised(node, 65)?;
-    let node = refused(&rt, rt.alloc(), node, 1, 65)?;
-    let mut node = installed(rt.alloc(), node, &install(rt.alloc(), 65)?)?;
-    expect(&rt, &node, [65, 65, 65], 7, [0b1111, 0b1101], [2, 1])?;
-    node.joined(DevId::new(5)?);
-    expect(&rt, &node, [65, 65, 65], 7, [0b11111, 0b11101], [2, 1])?;
-    let mut node = installed(rt.alloc(), node, &install(rt.alloc(), 65)?)?;
-    expect(&rt, &node, [65, 65, 65], 7, [0b11111, 0b11101], [2, 1])?;
-    node.invalidate(DevId::new(2)?);
-    let node = promised(node, 129)?;
-    expect(&rt, &node, [129, 129, 65], 7, [0b11101, 0], [2, 1])
+fn installs_outside_the_session(rt: HostRuntime) -> Result<(), Fail> {
+    let node = install_refused(&rt, rt.alloc(), up(rt.alloc(), VALID)?, 0, 0)?;
+    let node = install_refused(&rt, rt.alloc(), node, 65, 0)?;
+    let node = install_refused(&rt, rt.alloc(), promised(node, 65)?, 1, 65)?;
+    expect(&rt, &node, [65, 65, 0], 0, [VALID, 0], [0, 0])
+}
+
+/// Node 2, which has installed in session 65.
+fn ready(alloc: Global) -> Result<FormingNode, Fail> {
+    let node = promised(up(alloc, VALID)?, 65)?;
+    installed(alloc, node, &install(alloc, 65)?)
 }
 
 #[test]
-fn starts_and_a_member(rt: HostRuntime) -> Result<(), Fail> {
-    let node = promised(up(rt.alloc(), VALID)?, 65)?;
-    let Err(node) = node.start(Epoch::from_number(65)) else {
-        return Err("it has not installed".into());
-    };
+fn an_install_and_its_repeat(rt: HostRuntime) -> Result<(), Fail> {
+    let mut node = ready(rt.alloc())?;
+    expect(&rt, &node, [65, 65, 65], 7, [0b1111, 0b1101], [2, 1])?;
+    node.joined(DevId::new(5)?);
+    expect(&rt, &node, [65, 65, 65], 7, [0b11111, 0b11101], [2, 1])?;
     let node = installed(rt.alloc(), node, &install(rt.alloc(), 65)?)?;
-    let Err(node) = node.start(Epoch::from_number(129)) else {
-        return Err("another session".into());
-    };
-    let mut node = started(node, 65)?;
-    expect_entries(&rt, node.entries(), [3, 0])?;
-    assert_eq!(rt; node.may_write(DevId::new(4)?), Ok(Epoch::from_number(65)));
-    assert_eq!(rt; node.may_write(DevId::new(2)?), Err(NotHeld));
-    assert_eq!(rt; node.prepare(5, b"e")?, Prepared::Gap(4));
-    assert_eq!(rt; node.prepare(4, b"d")?, Prepared::Taken);
-    assert_eq!(rt; node.prepare(4, b"d")?, Prepared::Already);
-    expect_entries(&rt, node.entries(), [3, 1])?;
-    assert!(rt; !node.commit(3));
-    assert!(rt; node.commit(4));
-    expect_entries(&rt, node.entries(), [4, 0])?;
-    expect_member(&rt, &node)
+    expect(&rt, &node, [65, 65, 65], 7, [0b11111, 0b11101], [2, 1])
+}
+
+#[test]
+fn a_device_that_is_seized_anew(rt: HostRuntime) -> Result<(), Fail> {
+    let mut node = promised(ready(rt.alloc())?, 129)?;
+    node.invalidate(DevId::new(2)?);
+    expect(&rt, &node, [129, 129, 65], 7, [0b1101, 0], [2, 1])
+}
+
+fn start_refused(node: FormingNode, p: u64) -> Result<FormingNode, Fail> {
+    match node.start(Epoch::from_number(p)) {
+        Err(node) => Ok(node),
+        Ok(_) => Err("it is not refused".into()),
+    }
+}
+
+fn member(alloc: Global) -> Result<MemberNode, Fail> {
+    started(ready(alloc)?, 65)
+}
+
+#[test]
+fn starts(rt: HostRuntime) -> Result<(), Fail> {
+    let node = promised(up(rt.alloc(), VALID)?, 65)?;
+    let node = start_refused(start_refused(node, 65)?, 0)?;
+    expect(&rt, &node, [65, 65, 0], 0, [VALID, 0], [0, 0])?;
+    let node = start_refused(ready(rt.alloc())?, 129)?;
+    expect(&rt, &node, [65, 65, 65], 7, [0b1111, 0b1101], [2, 1])?;
+    expect_member(&rt, &started(node, 65)?)
 }
 
 fn expect_member(rt: &impl Abort, node: &MemberNode) -> Result<(), Fail> {
@@ -220,33 +247,69 @@ fn expect_member(rt: &impl Abort, node: &MemberNode) -> Result<(), Fail> {
     assert_eq!(rt; node.members().bits(), 7);
     assert_eq!(rt; node.valid().bits(), 0b1111);
     assert_eq!(rt; node.joined_devices().bits(), 0b1101);
-    Ok(())
-}
-
-fn member(alloc: Global) -> Result<MemberNode, Fail> {
-    let node = promised(up(alloc, VALID)?, 65)?;
-    started(installed(alloc, node, &install(alloc, 65)?)?, 65)
+    expect_entries(rt, node.entries(), [3, 0])
 }
 
 #[test]
-fn a_member_leaves(rt: HostRuntime) -> Result<(), Fail> {
-    let Err((node, shown)) = member(rt.alloc())?.promise(Epoch::from_number(64)) else {
-        return Err("a smaller promise".into());
+fn writes(rt: HostRuntime) -> Result<(), Fail> {
+    let node = member(rt.alloc())?;
+    assert_eq!(rt; node.may_write(DevId::new(4)?), Ok(Epoch::from_number(65)));
+    assert_eq!(rt; node.may_write(DevId::new(2)?), Err(NotHeld));
+    Ok(())
+}
+
+/// Prepares an update, and looks at the answer and the numbers of updates.
+fn expect_prepared(
+    rt: &impl Abort,
+    node: &mut MemberNode,
+    place: u64,
+    answer: Prepared,
+    counts: [usize; 2],
+) -> Result<(), Fail> {
+    assert_eq!(rt; node.prepare(place, b"words")?, answer);
+    expect_entries(rt, node.entries(), counts)
+}
+
+#[test]
+fn updates(rt: HostRuntime) -> Result<(), Fail> {
+    let mut node = member(rt.alloc())?;
+    expect_prepared(&rt, &mut node, 5, Prepared::Gap(4), [3, 0])?;
+    expect_prepared(&rt, &mut node, 4, Prepared::Taken, [3, 1])?;
+    expect_prepared(&rt, &mut node, 4, Prepared::Already, [3, 1])?;
+    assert!(rt; !node.commit(3));
+    assert!(rt; node.commit(4));
+    expect_entries(&rt, node.entries(), [4, 0])
+}
+
+#[test]
+fn a_member_promises(rt: HostRuntime) -> Result<(), Fail> {
+    let Err((node, shown)) = member(rt.alloc())?.promise(Epoch::from_number(65)) else {
+        return Err("it is not refused".into());
     };
     assert_eq!(rt; shown.number(), 65);
+    expect_member(&rt, &node)?;
     assert_eq!(rt; node.record_rows(rt.alloc())?.items().len(), 7);
     let Ok(node) = node.promise(Epoch::from_number(66)) else {
         return Err("the promise is refused".into());
     };
-    expect(&rt, &node, [66, 66, 65], 7, [0b1111, 0], [3, 0])?;
-    let halted = node.halt(Panic::Disk);
+    expect(&rt, &node, [66, 66, 65], 7, [0b1111, 0], [3, 0])
+}
+
+#[test]
+fn panics(rt: HostRuntime) -> Result<(), Fail> {
+    let halted = ready(rt.alloc())?.halt(Panic::Disk);
     assert_eq!(rt; halted.cause(), Panic::Disk);
     let node = halted.down().boot(rt.alloc(), b"")?;
     expect(&rt, &node, [0, 0, 0], 0, [VALID, 0], [0, 0])?;
-    let node = node.crash().boot(rt.alloc(), b"")?;
+    let halted = member(rt.alloc())?.halt(Panic::Disk);
+    assert_eq!(rt; halted.cause(), Panic::Disk);
+    Ok(())
+}
+
+#[test]
+fn crashes(rt: HostRuntime) -> Result<(), Fail> {
+    let node = ready(rt.alloc())?.crash().boot(rt.alloc(), b"")?;
     expect(&rt, &node, [0, 0, 0], 0, [VALID, 0], [0, 0])?;
-    let halted = member(rt.alloc())?.halt(Panic::Fenced(DevId::new(4)?));
-    assert_eq!(rt; halted.cause(), Panic::Fenced(DevId::new(4)?));
     let node = member(rt.alloc())?.crash().boot(rt.alloc(), b"")?;
     expect(&rt, &node, [0, 0, 0], 0, [VALID, 0], [0, 0])
 }
@@ -301,33 +364,33 @@ fn expect_text(
 }
 
 #[test]
-fn records_as_texts(rt: HostRuntime) -> Result<(), Fail> {
-    let words = texts(
-        rt.alloc(),
-        ["clrt register t a START,STOP", "clrg create g 1,2"].as_slice(),
-    )?;
+fn a_record_with_a_pending_update(rt: HostRuntime) -> Result<(), Fail> {
+    let words = ["clrt register t a START,STOP", "clrg create g 1,2"];
+    let committed = texts(rt.alloc(), words.as_slice())?;
     let last = text(rt.alloc(), "clrs create r g t")?;
-    let i = bare_install(rt.alloc(), 66, 0b11, words, Some(last));
+    let i = bare_install(rt.alloc(), 66, 0b11, committed, Some(last));
     let node = installed(rt.alloc(), promised(up(rt.alloc(), 0x8001)?, 66)?, &i)?;
-    expect_text(&rt, rt.alloc(), &promised(node, 130)?, 3, PENDING)?;
+    expect_text(&rt, rt.alloc(), &promised(node, 130)?, 3, PENDING)
+}
+
+#[test]
+fn the_greatest_promise(rt: HostRuntime) -> Result<(), Fail> {
     let node = promised(up(rt.alloc(), 0)?, u64::MAX)?;
-    expect_text(&rt, rt.alloc(), &node, 0, GREATEST)?;
-    let i = bare_install(
-        rt.alloc(),
-        65,
-        0b10,
-        texts(rt.alloc(), [].as_slice())?,
-        Some(text(rt.alloc(), "x")?),
-    );
+    expect_text(&rt, rt.alloc(), &node, 0, GREATEST)
+}
+
+#[test]
+fn a_first_update(rt: HostRuntime) -> Result<(), Fail> {
+    let none = texts(rt.alloc(), [].as_slice())?;
+    let last = text(rt.alloc(), "x")?;
+    let i = bare_install(rt.alloc(), 65, 0b10, none, Some(last));
     let node = installed(rt.alloc(), promised(up(rt.alloc(), 4)?, 65)?, &i)?;
     expect_text(&rt, rt.alloc(), &node, 1, FIRST)
 }
 
 #[test]
 fn a_record_of_ten_updates(rt: HostRuntime) -> Result<(), Fail> {
-    let words = [
-        "u1", "u2", "u3", "u4", "u5", "u6", "u7", "u8", "u9", "u10",
-    ];
+    let words = ["u1", "u2", "u3", "u4", "u5", "u6", "u7", "u8", "u9", "u10"];
     let committed = texts(rt.alloc(), words.as_slice())?;
     let i = bare_install(rt.alloc(), 65, 0x8000_0002, committed, None);
     let node = installed(rt.alloc(), promised(up(rt.alloc(), u16::MAX)?, 65)?, &i)?;

@@ -9,12 +9,12 @@ use Rattle.cmm_member.proofs.down.record_of.Goals as goal
 pub unreachable-requires : goal.unreachable-requires
 unreachable-requires c =
     not_bad c.read_table.result c.in-Err-BadLine.field-0 (c.requires.saves, rows_of c.requires.kept) c.in-Err-BadLine.is (λ e. absurd (cc (c.in-Err-BadLine.field-0-is, e)))
-      (c.read_table.ensures.only (Ok (c.requires.saves, rows_of c.requires.kept)) c.requires.table)
+    (c.read_table.ensures.only (Ok (c.requires.saves, rows_of c.requires.kept)) c.requires.table)
 
 pub unreachable-requires-in-Err-BadChecksum : goal.unreachable-requires-in-Err-BadChecksum
 unreachable-requires-in-Err-BadChecksum c =
     not_bad c.read_table.result c.in-Err-BadChecksum.field-0 (c.requires.saves, rows_of c.requires.kept) c.in-Err-BadChecksum.is (λ e. absurd (cc (c.in-Err-BadChecksum.field-0-is, e)))
-      (c.read_table.ensures.only (Ok (c.requires.saves, rows_of c.requires.kept)) c.requires.table)
+    (c.read_table.ensures.only (Ok (c.requires.saves, rows_of c.requires.kept)) c.requires.table)
 
 pub unreachable-requires-in_default : goal.unreachable-requires-in_default
 unreachable-requires-in_default c =
