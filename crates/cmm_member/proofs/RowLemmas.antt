@@ -11,8 +11,8 @@ use Rattle.std.proofs.lemmas.Bool.Decides.{leb_tells}
 use Rattle.cl_base.specs.Sets.{has}
 use Rattle.ccr_commit.specs.Entries.{EntryList, listed, texts_of}
 use Rattle.ccr_text.specs.declared.rows.Row.{Row}
-use Rattle.ccr_text.specs.TableText.{AreRows, IsPlain, IsRow, IsTable, MayFollow, MayAllFollow}
-use Rattle.cmm_member.specs.Records.{NodeRecord, IsRecord, IsRowText, numbers_to, by_commas, node_list, device_list, row, update_rows, pending_rows, entry_rows, rows_of}
+use Rattle.ccr_text.specs.TableText.{AreRows, IsPlain, IsRow, IsTable, MayFollow, MayAllFollow, table_text}
+use Rattle.cmm_member.specs.Records.{NodeRecord, IsRecord, IsRecordText, IsRowText, numbers_to, by_commas, node_list, device_list, row, update_rows, pending_rows, entry_rows, rows_of}
 use Rattle.ccr_text.specs.declared.error.TextError.{TextError}
 use Rattle.ccr_text.specs.declared.error.TextError.TheVariants.{NoMemory}
 use Rattle.ccr_text.proofs.OneAnswer.{one_answer}
@@ -217,3 +217,11 @@ same_record a b ha hb same =
 
 pub one_record : (text : List ℕ) (saves others : ℕ) (a b : NodeRecord) → IsRecord a → IsRecord b → IsTable text saves (rows_of a) → IsTable text others (rows_of b) → a ≡ b
 one_record text saves others a b ha hb ta tb = same_record a b ha hb (same_rows text saves others (rows_of a) (rows_of b) ta tb)
+
+-- the text of the rows is a record's
+pub record_text : (text : List ℕ) (saves : ℕ) (r : NodeRecord) (rows : List Row) → IsRecord r → saves < 2 ^ 64 → rows ≡ rows_of r → AreRows rows → text ≡ table_text saves rows → IsRecordText text
+record_text text saves r rows form fits is rows_form spelled =
+    record { saves = saves; kept = r; form = form; table = record { fits = fits; form = subst AreRows is rows_form; spelled = spelled ∙ ap (table_text saves) is } }
+
+pub record_table : (r : NodeRecord) (saves : ℕ) → IsRecord r → saves < 2 ^ 64 → All IsRowText (texts_of r.entries) → IsRecordText (table_text saves (rows_of r))
+record_table r saves form fits texts = record_text (table_text saves (rows_of r)) saves r (rows_of r) form fits refl (are_rows r form texts) refl
