@@ -1,13 +1,13 @@
 -- What an install decides of each device.
-use Rattle.std.proofs.Common.{◌≡◌, ◌≢◌, ℕ, ◌+◌, ◌<◌, ◌≤◌, ◌^◌, ◌==◌, ◌||◌, ◌&&◌, ◌⊎◌, inl, inr, not, List, [], ◌∷◌, Bool, true, false, refl, ap, sym, subst, ◌∙◌, arith}
+use Rattle.std.proofs.Common.{◌≡◌, ◌≢◌, ℕ, ◌<◌, ◌≤◌, ◌^◌, ◌==◌, ◌||◌, ◌&&◌, inl, inr, not, List, [], ◌∷◌, Bool, true, false, refl, ap, sym, subst, ◌∙◌, arith}
 use Rattle.std.specs.Prelude.{All, if◌then◌else◌}
 use Rattle.std.proofs.lemmas.List.Elements.{All-head, All-tail}
-use Rattle.std.proofs.lemmas.Bool.Decides.{eqb_tells, nat_tests}
+use Rattle.std.proofs.lemmas.Bool.Decides.{nat_tests}
 use Rattle.cl_base.specs.Sets.{has, set_with, set_without}
 use Rattle.cl_base.proofs.SetLemmas.{has_with, has_without, or_bit_value, and_bit_value, or_narrow, and_narrow, none_of_zero}
 use Rattle.wire.specs.declared.lists.Reading.{Reading}
 use Rattle.wire.specs.declared.message.Install.{Install}
-use Rattle.cmm_member.specs.Nodes.{NodeState, Devices, AreOfDevices, IsOneOf, has_key_of, joins, joining_one, joining_all, devices_after}
+use Rattle.cmm_member.specs.Nodes.{NodeState, Devices, AreOfDevices, IsOneOf, has_key_of, joins, joining_all, devices_after}
 
 with_at : (s n m : ℕ) → 1 ≤ n → n ≤ 16 → has (set_with s n) m ≡ ((m == n) || has s m)
 with_at s n m low high = ap (λ t. has t m) (sym (or_bit_value s n (omega arith))) ∙ has_with s n low (omega arith) m

@@ -6,13 +6,13 @@ use Rattle.std.specs.Fmt.{decimal}
 use Rattle.std.specs.Cmp.Lexicographic.{pointwise, bytes_decides}
 use Rattle.std.proofs.lemmas.List.{append_cancel_left}
 use Rattle.std.proofs.lemmas.List.Elements.{All-head, All-tail, All-append, All-cons, All-nil, All-weaker, All-from_get_or}
-use Rattle.std.proofs.lemmas.Fmt.{decimal_is_IsNumeral, decimal_injective, decimal_nonempty, length-decimal-le}
+use Rattle.std.proofs.lemmas.Fmt.{decimal_injective, length-decimal-le}
 use Rattle.std.proofs.lemmas.Bool.Decides.{leb_tells}
 use Rattle.cl_base.specs.Sets.{has}
 use Rattle.ccr_commit.specs.Entries.{EntryList, listed, texts_of}
 use Rattle.ccr_text.specs.declared.rows.Row.{Row}
-use Rattle.ccr_text.specs.TableText.{AreRows, IsPlain, IsRow, IsTable, MayFollow, MayAllFollow, table_text}
-use Rattle.cmm_member.specs.Records.{NodeRecord, IsRecord, IsRecordText, IsRowText, numbers_to, by_commas, node_list, device_list, row, update_rows, pending_rows, entry_rows, rows_of}
+use Rattle.ccr_text.specs.TableText.{AreRows, IsPlain, IsRow, IsTable, MayAllFollow, table_text}
+use Rattle.cmm_member.specs.Records.{NodeRecord, IsRecord, IsRecordText, IsRowText, numbers_to, by_commas, node_list, device_list, row, update_rows, pending_rows, rows_of}
 use Rattle.ccr_text.specs.declared.error.TextError.{TextError}
 use Rattle.ccr_text.specs.declared.error.TextError.TheVariants.{NoMemory}
 use Rattle.ccr_text.proofs.OneAnswer.{one_answer}

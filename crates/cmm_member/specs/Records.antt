@@ -1,8 +1,8 @@
 -- What a node keeps durably, and the rows that its table has for it.
-use Rattle.std.specs.Prelude.{ℕ, zero, suc, ◌≡◌, ◌≤◌, ◌<◌, ◌^◌, ◌+◌, if◌then◌else◌, List, [], ◌∷◌, ◌++◌, flat_map, length, All, Option, Some, None, codes}
+use Rattle.std.specs.Prelude.{ℕ, zero, suc, ◌≤◌, ◌<◌, ◌^◌, ◌+◌, if◌then◌else◌, List, [], ◌∷◌, ◌++◌, flat_map, length, Option, Some, None, codes}
 use Rattle.std.specs.Fmt.{decimal}
 use Rattle.cl_base.specs.Sets.{has}
-use Rattle.ccr_commit.specs.Entries.{EntryList, no_entries, texts_of}
+use Rattle.ccr_commit.specs.Entries.{EntryList, no_entries}
 use Rattle.ccr_text.specs.declared.rows.Row.{Row}
 use Rattle.ccr_text.specs.TableText.{IsTable, IsPlain}
 

@@ -1,6 +1,6 @@
 ghost use Rattle.std.specs.Prelude.{◌≡◌};
-ghost use Rattle.cmm_member.specs.Nodes.{Devices, has_key_of, joins, joining_one, joining_all};
-ghost use Rattle.cmm_member.specs.Views.{seen, devices_of, with_devices};
+ghost use Rattle.cmm_member.specs.Nodes.{has_key_of, joins, joining_one, joining_all};
+ghost use Rattle.cmm_member.specs.Views.{devices_of, with_devices};
 
 use crate::running::Running;
 use cl_base::NodeId;

@@ -1,4 +1,4 @@
-ghost use Rattle.std.specs.Prelude.{◌≡◌, ◌<◌, ◌^◌, Bool, IfOk, MatchOption, length};
+ghost use Rattle.std.specs.Prelude.{◌≡◌, ◌<◌, IfOk, MatchOption};
 ghost use Rattle.ccr_commit.specs.Entries.{EntryList};
 ghost use Rattle.cmm_member.specs.Records.{NodeRecord, IsRecord, rows_of, entry_rows};
 ghost use Rattle.cmm_member.specs.Views.{kept, ends_pending};

@@ -1,6 +1,5 @@
-use Rattle.std.proofs.Common.{◌≡◌, ◌≤◌, ◌∙◌, ap, sym, subst}
+use Rattle.std.proofs.Common.{◌≡◌, ◌≤◌, ◌∙◌, sym, subst}
 use Rattle.std.specs.Prelude.{MatchOption, Ok}
-use Rattle.ccr_text.specs.declared.error.TextError.TheVariants.{BadLine, BadChecksum}
 use Rattle.cmm_member.specs.Records.{NodeRecord, rows_of}
 use Rattle.cmm_member.specs.Views.{kept}
 use Rattle.cmm_member.proofs.RowLemmas.{rows_are, not_bad}

@@ -1,6 +1,6 @@
 use Rattle.std.proofs.Common.{◌≡◌, ◌∙◌, ap, sym}
 use Rattle.std.specs.Prelude.{None, Some}
-use Rattle.ccr_commit.specs.Entries.{EntryList, all_committed, with_next}
+use Rattle.ccr_commit.specs.Entries.{EntryList, all_committed}
 use Rattle.cmm_member.specs.Views.{all_next}
 use Rattle.cmm_member.proofs.EntryLemmas.{all_then_commit, next_after_commit}
 use Rattle.cmm_member.proofs.entry_list.entries_from.Goals as goal

@@ -1,5 +1,5 @@
 use Rattle.std.proofs.Common.{ap, sym, ◌∙◌}
-use Rattle.cmm_member.specs.Nodes.{joining_one, joining_all}
+use Rattle.cmm_member.specs.Nodes.{joining_one}
 use Rattle.cmm_member.specs.Views.{devices_of, with_devices}
 use Rattle.cmm_member.proofs.EntryLemmas.{joining_all-more}
 use Rattle.cmm_member.proofs.joining.join_devices.Goals as goal

@@ -1,5 +1,4 @@
-use Rattle.std.proofs.Common.{◌∙◌, ap, sym}
-use Rattle.ccr_commit.specs.Entries.{all_committed}
+use Rattle.std.proofs.Common.{◌∙◌, ap}
 use Rattle.cmm_member.specs.Views.{all_next}
 use Rattle.cmm_member.proofs.EntryLemmas.{read_pending, read_committed, values}
 use Rattle.cmm_member.proofs.reading.read_entries.Goals as goal

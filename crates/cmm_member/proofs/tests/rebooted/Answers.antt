@@ -1,6 +1,5 @@
-use Rattle.std.proofs.Common.{rules, ◌≡◌, ◌<◌, ◌^◌, ◌∙◌, inr, arith}
+use Rattle.std.proofs.Common.{rules, ◌<◌, ◌^◌, ◌∙◌, inr, arith}
 use Rattle.ccr_text.specs.TableText.{AreRows}
-use Rattle.cmm_member.specs.Records.{IsRecord, rows_of}
 use Rattle.cmm_member.proofs.RowLemmas.{record_text}
 use Rattle.cmm_member.proofs.tests.rebooted.Goals as goal
 
