@@ -1,0 +1,5 @@
+pub mod EntryLemmas
+pub mod ListLemmas
+pub mod RowLemmas
+pub mod NodeLemmas
+pub mod DeviceLemmas

@@ -1,0 +1,5 @@
+pub mod Records
+pub mod Nodes
+pub mod Machine
+pub mod Views
+pub mod Lists

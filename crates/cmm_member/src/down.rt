@@ -1,0 +1,102 @@
+ghost use Rattle.std.specs.Prelude.{◌≡◌, ◌≤◌, ◌⊎◌, ℕ, [], IfOk};
+ghost use Rattle.ccr_text.specs.TableText.{IsTable};
+ghost use Rattle.membership_machine.specs.State.{Node};
+ghost use Rattle.cmm_member.specs.Records.{NodeRecord, IsRecord, IsRecordText, first_record, rows_of};
+ghost use Rattle.cmm_member.specs.Nodes.{booted};
+ghost use Rattle.cmm_member.specs.Machine.{ShowsDown, ShowsForming};
+ghost use Rattle.cmm_member.specs.Views.{kept};
+
+use crate::forming::FormingNode;
+use crate::reading::read_record;
+use crate::running::{Record, Running};
+use ccr_commit::Entries;
+use ccr_text::{TextError, read_table};
+use cl_base::{DevSet, Epoch, NodeId, NodeSet};
+use std::alloc::{AllocError, Global};
+use std::marker::Model;
+
+/// A node that is down: it has its number and its local disk. Contracts see it as a `DownState`.
+#[derive(Debug, Drop)]
+pub struct DownNode {
+    me: NodeId,
+    first_valid: DevSet,
+}
+
+impl Model for DownNode {
+    ghost use Rattle.cmm_member.specs.Nodes.{DownState};
+
+    ghost Value = { DownState };
+
+    ghost view = { λ d. record { me = d.me; first_valid = d.first_valid } };
+}
+
+impl DownNode {
+    /// The node `me`. Before its first record the devices in `first_valid` are valid to it. This takes
+    /// no memory.
+    pub fn new(me: NodeId, first_valid: DevSet) -> DownNode
+        ensures value { result ≡ record { me = me; first_valid = first_valid } }
+    {
+        DownNode { me, first_valid }
+    }
+
+    /// The node comes up with the record whose table has this text, in no session. An empty text
+    /// stands for the first record.
+    pub fn boot(self, alloc: Global, text: &[u8]) -> Result<FormingNode, AllocError>
+        requires text { (text.now ≡ []) ⊎ IsRecordText text.now }
+        ensures first { IfOk result (λ node. text.now ≡ [] → node ≡ booted self (first_record self.first_valid)) }
+        ensures read { IfOk result (λ node. (saves : ℕ) (r : NodeRecord) → IsRecord r → IsTable text.now saves (rows_of r) → node ≡ booted self r) }
+        ensures machine { IfOk result (λ node. (n : Node) → ShowsDown node.saved n → ShowsForming node n) }
+    {
+        let durable = record_at(alloc, text, self.first_valid)?;
+        Ok(FormingNode::new(Running {
+            me: self.me,
+            first_valid: self.first_valid,
+            durable,
+            session: Epoch::zero(),
+            joined: DevSet::empty(),
+        }))
+    }
+}
+
+// The record that a disk with this text stands for.
+fn record_at(alloc: Global, text: &[u8], first_valid: DevSet) -> Result<Record, AllocError>
+    requires { (text.now ≡ []) ⊎ IsRecordText text.now }
+    ensures order { IfOk result (λ found. found.installed ≤ found.promised) }
+    ensures first { IfOk result (λ found. text.now ≡ [] → kept found ≡ first_record first_valid) }
+    ensures read { IfOk result (λ found. (saves : ℕ) (r : NodeRecord) → IsRecord r → IsTable text.now saves (rows_of r) → kept found ≡ r) }
+{
+    if text.is_empty() {
+        return Ok(first_record(alloc, first_valid));
+    }
+    record_of(alloc, text)
+}
+
+fn first_record(alloc: Global, valid: DevSet) -> Record
+    ensures { kept result ≡ first_record valid }
+{
+    Record {
+        promised: Epoch::zero(),
+        installed: Epoch::zero(),
+        members: NodeSet::empty(),
+        valid,
+        entries: Entries::new(alloc),
+    }
+}
+
+// The record whose table has this text.
+fn record_of(alloc: Global, text: &[u8]) -> Result<Record, AllocError>
+    requires { IsRecordText text.now }
+    ensures order { IfOk result (λ found. found.installed ≤ found.promised) }
+    ensures read { IfOk result (λ found. (saves : ℕ) (r : NodeRecord) → IsRecord r → IsTable text.now saves (rows_of r) → kept found ≡ r) }
+{
+    let rows = match read_table(alloc, text) {
+        Ok((_, rows)) => rows,
+        Err(TextError::NoMemory) => return Err(AllocError),
+        Err(TextError::BadLine(_)) => unreachable!(),
+        Err(TextError::BadChecksum { .. }) => unreachable!(),
+    };
+    let Some(record) = read_record(alloc, rows.items())? else {
+        unreachable!()
+    };
+    Ok(record)
+}
