@@ -1,0 +1,364 @@
+-- Answers, of attempts: why an attempt begins, and each way in which it ends without a membership.
+use Rattle.std.specs.Prelude.{◌≡◌, ◌^◌, ◌<◌, ℕ, ◌+◌, ◌-◌, ◌==◌, ◌&&◌, ◌||◌, not, nat_lt, nat_le, Bool, true, false, if◌then◌else◌, List, [], ◌∷◌, ◌++◌, length, take, Option, Some, None, option_map, slice_get, IfSome}
+use Rattle.std.specs.List.{list_any, list_all, filter, find, count_by, AllByRecursion}
+use Rattle.std.specs.Option.{option_and_then, option_to_list}
+use Rattle.cl_base.specs.Sets.{has, set_with}
+use Rattle.cl_base.specs.declared.header.Header.{Header}
+use Rattle.pgr_device.specs.declared.command.PrCommand.TheVariants as command
+use Rattle.pgr_device.specs.declared.command.PrAnswer.TheVariants as answer
+use Rattle.quorum_votes.specs.Tables.{VoteTable}
+use Rattle.quorum_votes.specs.Votes.{device_at, state_of, held_of, needed_of}
+use Rattle.quorum_votes.specs.declared.state.DevState.{DevState}
+use Rattle.quorum_votes.specs.declared.state.DevState.TheVariants.{Enabled}
+use Rattle.schedule_text.specs.declared.event.Event.TheVariants.{Tick}
+use Rattle.wire.specs.declared.message.Body.{Body}
+use Rattle.wire.specs.declared.message.Body.TheVariants as body
+use Rattle.status_report.specs.declared.packet_entry.MessageName.{MessageName}
+use Rattle.status_report.specs.declared.packet_entry.MessageName.TheVariants as name
+use Rattle.status_report.specs.declared.device_entry.DeviceAnswer.TheVariants.{Given, Failed}
+use Rattle.status_report.specs.declared.attempt_entry.Lack.{Lack}
+use Rattle.status_report.specs.declared.attempt_entry.LackCause.{LackCause}
+use Rattle.status_report.specs.declared.attempt_entry.LackCause.TheVariants as lack
+use Rattle.history.specs.Moment.{Moment}
+use Rattle.history.specs.Trace.{up, ticked, delivered, device, attempt, ended_votes, ended_superseded, ended_silent, ended_excluded, stopped, disk_failed, sent}
+use Rattle.history.specs.Order.{Always, since, before_last, under_way, somewhere}
+use Rattle.history.specs.Setting.{Setting, coordinator, nodes_of, numbers_to, key_of, paths_of}
+use Rattle.history.specs.Letters.{Letter, letter_of, arriving, passes, reached_since, is_letter, is_exchanged, same_name, says}
+use Rattle.history.specs.Member.{member_of, members_of, number_of, promised_to, is_promise, last_installed}
+use Rattle.history.specs.Starts.{starts, base_of, Start}
+use Rattle.history.specs.Seizing.{is_attempt, is_start, is_members_key}
+use Rattle.history.specs.Validated.{validity, is_valid}
+use Rattle.history.specs.Contact.{is_number, others}
+use Rattle.history.specs.Contents.{shown_of, is_newer, Shown}
+
+-- ---- an attempt begins only in a tick of its coordinator, which is the least of what it sees
+
+-- how many ticks of c ago a packet of m was last delivered to it, since it went up
+abbrev pub age_of : ℕ → ℕ → List Moment → Option ℕ
+age_of c m [] = None
+age_of c m (up n ∷ before) = if n == c then None else age_of c m before
+age_of c m (delivered p a b ∷ before) = if (a == m) && (b == c) then Some 0 else age_of c m before
+age_of c m (ticked n ∷ before) = if n == c then option_map (λ k. k + 1) (age_of c m before) else age_of c m before
+age_of c m (_ ∷ before) = age_of c m before
+
+abbrev pub is_recent : Option ℕ → Bool
+is_recent None = false
+is_recent (Some k) = nat_le k 3
+
+-- the nodes that c sees: itself, and those that it heard at most three ticks ago
+abbrev pub view_of : ℕ → ℕ → List Moment → List ℕ
+view_of nodes c before = filter (λ m. (m == c) || is_recent (age_of c m before)) (numbers_to nodes (2 ^ 32 - 1))
+
+-- the last Heartbeat of m that was delivered to c since it went up
+abbrev pub last_heartbeat : ℕ → ℕ → List Moment → Option Body
+last_heartbeat c m [] = None
+last_heartbeat c m (up n ∷ before) = if n == c then None else last_heartbeat c m before
+last_heartbeat c m (delivered p a b ∷ before) =
+    if passes (is_letter name.Heartbeat m c) (letter_of p before) then option_and_then (λ (l : Letter). says l.bytes) (letter_of p before) else last_heartbeat c m before
+last_heartbeat c m (_ ∷ before) = last_heartbeat c m before
+
+-- a Heartbeat with another session than e, or a greater promise
+abbrev pub breaks : ℕ → Option Body → Bool
+breaks e (Some (body.Heartbeat promised session is_member)) = not (session == e) || nat_lt e promised
+breaks e _ = false
+
+-- c has a reason: it is no member, its members are not these, or a member of its own was heard to be elsewhere
+abbrev pub has_reason : ℕ → ℕ → List Moment → Option ℕ → Bool
+has_reason c members before None = true
+has_reason c members before (Some e) =
+    not (members_of e before == members) || list_any (λ m. not (m == c) && breaks e (last_heartbeat c m before)) (nodes_of (members_of e before))
+
+pub record IsWanted (S : Setting) (before : List Moment) (e members : ℕ) : Type 0 where
+  pub in_a_tick : under_way before ≡ Some (Tick (coordinator e))
+  pub view : nodes_of members ≡ view_of S.header.nodes (coordinator e) before
+  pub least : slice_get (nodes_of members) 0 ≡ Some (coordinator e)
+  pub reason : has_reason (coordinator e) members before (member_of (coordinator e) before) ≡ true
+
+-- ---- results of seizing a device, in the attempt e, and what shows each
+
+-- some member m of e and a moment since the attempt at which m was answered by d
+abbrev pub some_member : ℕ → List Moment → (ℕ → List Moment → Moment → Bool) → Bool
+some_member e before test = list_any (λ m. somewhere (test m) (since (is_attempt e) before)) (nodes_of (members_of e before))
+
+abbrev pub shows_word : ℕ → ℕ → ℕ → List Moment → Moment → Bool
+shows_word d w m before (device n x command.Word (Given (answer.Word v))) = (n == m) && (x == d) && (v == w)
+shows_word d w m before (device n x (command.Swap expect new) (Given (answer.Miscompare v))) = (n == m) && (x == d) && (v == w)
+shows_word d w m before _ = false
+
+abbrev pub lacks_key : Header → ℕ → List ℕ → Bool
+lacks_key h n keys = not (list_any (λ key. key == key_of h n) keys)
+
+abbrev pub reserves : ℕ → ℕ → Moment → Bool
+reserves n d (device m x (command.Reserve kind key) reply) = (m == n) && (x == d)
+reserves n d _ = false
+
+-- a conflict to `swap`, or a reading after `reserve` that lacks the key of m
+abbrev pub shows_expelled : Header → ℕ → ℕ → List Moment → Moment → Bool
+shows_expelled h d m before (device n x (command.Swap expect new) (Given answer.Conflict)) = (n == m) && (x == d)
+shows_expelled h d m before (device n x command.Keys (Given (answer.Keys keys))) = (n == m) && (x == d) && lacks_key h m keys && list_any (reserves m d) before
+shows_expelled h d m before _ = false
+
+abbrev pub reads_keys : ℕ → ℕ → Moment → Bool
+reads_keys n d (device m x command.Keys reply) = (m == n) && (x == d)
+reads_keys n d _ = false
+
+-- the 64th reading since `reserve`, whose first key of no member is this
+abbrev pub shows_contended : Header → ℕ → ℕ → ℕ → ℕ → List Moment → Moment → Bool
+shows_contended h members d key m before (device n x command.Keys (Given (answer.Keys keys))) =
+    (n == m) && (x == d) && is_number key (find (λ k. not (is_members_key h members k)) keys)
+    && (count_by (reads_keys m d) (since (reserves m d) before) == 63)
+shows_contended h members d key m before _ = false
+
+abbrev pub shows_fault : ℕ → ℕ → List Moment → Moment → Bool
+shows_fault d m before (device n x what Failed) = (n == m) && (x == d)
+shows_fault d m before _ = false
+
+-- a reading of a member that lacks the key of m
+abbrev pub reads_without : Header → ℕ → ℕ → ℕ → List Moment → Moment → Bool
+reads_without h d m reader before (device n x command.Keys (Given (answer.Keys keys))) = (n == reader) && (x == d) && lacks_key h m keys
+reads_without h d m reader before _ = false
+
+-- whether m sent a Promise of e while it did not hold d valid
+abbrev pub promised_invalid : Header → ℕ → ℕ → ℕ → List Moment → Bool
+promised_invalid h e d m [] = false
+promised_invalid h e d m (sent p n b called bytes ∷ before) =
+    ((n == m) && is_promise called && is_number e (promised_to before) && not (is_valid (validity h m d before))) || promised_invalid h e d m before
+promised_invalid h e d m (_ ∷ before) = promised_invalid h e d m before
+
+-- m may not seize d for e: it did not hold it valid where it promised e, or began e, or a reading in this attempt lacks its key
+abbrev pub is_unregistered : Header → ℕ → ℕ → List Moment → ℕ → Bool
+is_unregistered h e d before m =
+    (if m == coordinator e then not (is_valid (validity h m d (before_last (is_attempt e) before))) else promised_invalid h e d m before)
+    || some_member e before (reads_without h d m)
+
+-- the attached members
+abbrev pub attached_members : Header → ℕ → ℕ → List ℕ
+attached_members h d members = filter (λ m. has (paths_of h d) m) (nodes_of members)
+
+abbrev pub is_shown : Header → ℕ → ℕ → List Moment → LackCause → Bool
+is_shown h e d before lack.NoPath = length (attached_members h d (members_of e before)) == 0
+is_shown h e d before lack.NotRegistered = list_all (is_unregistered h e d before) (attached_members h d (members_of e before))
+is_shown h e d before (lack.Greater w) = nat_lt e w && some_member e before (shows_word d w)
+is_shown h e d before lack.Expelled = some_member e before (shows_expelled h d)
+is_shown h e d before (lack.Contended key) = some_member e before (shows_contended h (members_of e before) d key)
+is_shown h e d before lack.Fault = some_member e before (shows_fault d)
+
+-- a device for which no member has a path is named so, and no other
+abbrev pub is_no_path : LackCause → Bool
+is_no_path lack.NoPath = true
+is_no_path _ = false
+
+pub record IsLack (h : Header) (before : List Moment) (e : ℕ) (x : Lack) : Type 0 where
+  pub shown : is_shown h e x.device before x.cause ≡ true
+  pub path : is_no_path x.cause ≡ (length (attached_members h x.device (members_of e before)) == 0)
+
+-- ---- `ended e votes`
+
+-- a record as a coordinator may have it in hand: its texts, and how many of them are committed
+pub record Counted : Type 0 where
+  pub shown : Shown
+  pub committed : ℕ
+
+abbrev pub counted_in : Option Body → Option Counted
+counted_in (Some (body.Promise epoch newest members valid flagged committed pending)) =
+    Some (record { shown = record { installed = newest; texts = committed ++ option_to_list pending }; committed = length committed })
+counted_in _ = None
+
+abbrev pub promise_in : ℕ → ℕ → Option Letter → Option Counted
+promise_in e c None = None
+promise_in e c (Some l) = if is_letter name.Promise l.from c l && is_number e (promised_to l.before) then counted_in (says l.bytes) else None
+
+abbrev pub promises_in : ℕ → ℕ → List Moment → List Counted
+promises_in e c [] = []
+promises_in e c (x ∷ before) = if is_attempt e x then [] else option_to_list (promise_in e c (arriving before x)) ++ promises_in e c before
+
+abbrev pub has_promised : ℕ → ℕ → List Moment → ℕ → Bool
+has_promised e c before m = reached_since (is_attempt e) (λ l. is_letter name.Promise m c l && is_number e (promised_to l.before)) before
+
+-- the coordinator's own record, of which the last text may be pending
+abbrev pub own_counted : Option Shown → List Counted
+own_counted None = []
+own_counted (Some r) = record { shown = r; committed = length r.texts } ∷ record { shown = r; committed = length r.texts - 1 } ∷ []
+
+abbrev pub records_in : ℕ → List Moment → List Counted
+records_in e before = own_counted (shown_of (coordinator e) (before_last (is_attempt e) before)) ++ promises_in e (coordinator e) before
+
+abbrev pub is_newest : List Counted → Counted → Bool
+is_newest records r = not (list_any (λ other. is_newer other.shown r.shown) records)
+
+-- the votes of its committed texts, or with the pending one
+abbrev pub votes_of : Setting → Counted → List VoteTable
+votes_of S r = S.votes (take r.committed r.shown.texts) ∷ S.votes r.shown.texts ∷ []
+
+abbrev pub is_enabled : DevState → Bool
+is_enabled Enabled = true
+is_enabled _ = false
+
+abbrev pub is_listed : ℕ → List Lack → Bool
+is_listed d lacking = list_any (λ x. x.device == d) lacking
+
+-- the enabled devices without a listed result, up to k, as a set
+abbrev pub counted_devices : ℕ → VoteTable → List Lack → List ℕ
+counted_devices k v lacking = filter (λ d. is_enabled (state_of (device_at v d)) && not (is_listed d lacking)) (numbers_to k (2 ^ 16 - 1))
+
+abbrev pub set_of : List ℕ → ℕ
+set_of [] = 0
+set_of (d ∷ others) = set_with (set_of others) d
+
+-- what is counted under these votes; an enabled device to which no member is attached is listed
+abbrev pub counts : Header → VoteTable → ℕ → ℕ → ℕ → List Lack → Bool
+counts h v members have need lacking =
+    (held_of v members (set_of (counted_devices 16 v lacking)) == have) && (needed_of v == need)
+    && list_all (λ d. nat_lt 0 (length (attached_members h d members))) (counted_devices 16 v lacking)
+
+pub record IsShort (S : Setting) (before : List Moment) (e have need : ℕ) (lacking : List Lack) : Type 0 where
+  pub too_few : have < need
+  -- every other member sent its Promise
+  pub promised : list_all (has_promised e (coordinator e) before) (others e (members_of e before)) ≡ true
+  -- the counts are those under votes of the newest record, where its own record is known
+  pub counted : IfSome (shown_of (coordinator e) (before_last (is_attempt e) before)) (λ own.
+      list_any (λ r. list_any (λ v. counts S.header v (members_of e before) have need lacking) (votes_of S r)) (filter (is_newest (records_in e before)) (records_in e before)) ≡ true)
+  pub results : AllByRecursion (IsLack S.header before e) lacking
+
+-- ---- `ended e superseded q`
+
+abbrev pub is_nack : ℕ → ℕ → Option Body → Bool
+is_nack e q (Some (body.Nack epoch promised)) = (epoch == e) && (promised == q)
+is_nack e q _ = false
+
+abbrev pub is_collect_of : ℕ → ℕ → Letter → Bool
+is_collect_of c q l = is_letter name.Collect l.from c l && is_number q (number_of l)
+
+abbrev pub is_nack_of : ℕ → ℕ → ℕ → Letter → Bool
+is_nack_of c e q l = is_letter name.Nack l.from c l && is_nack e q (says l.bytes)
+
+abbrev pub is_boot_of : ℕ → Moment → Bool
+is_boot_of n (up m) = m == n
+is_boot_of n _ = false
+
+abbrev pub stops_of : ℕ → Moment → Bool
+stops_of n (stopped m) = m == n
+stops_of n (disk_failed m) = m == n
+stops_of n _ = false
+
+-- e itself may stand against the attempt where a node went up since, and so has promised e in an earlier life
+abbrev pub is_own_nack : ℕ → ℕ → List Moment → Letter → Bool
+is_own_nack c e before l = is_nack_of c e e l && list_any (is_boot_of l.from) (since (is_attempt e) before)
+
+abbrev pub stands_against : ℕ → ℕ → List Moment → Bool
+stands_against e q before =
+    (nat_lt e q && (list_any (is_attempt q) before || list_any (stops_of (coordinator q)) before)
+    && reached_since (is_attempt e) (λ l. is_collect_of (coordinator e) q l || is_nack_of (coordinator e) e q l) before)
+    || ((q == e) && reached_since (is_attempt e) (is_own_nack (coordinator e) e before) before)
+
+-- ---- `ended e silent m`
+
+-- how many ticks of c came after the first message of this name from c to m
+abbrev pub tick_of : ℕ → Moment → ℕ
+tick_of c (ticked n) = if n == c then 1 else 0
+tick_of c _ = 0
+
+abbrev pub sends : ℕ → ℕ → MessageName → Moment → Bool
+sends c m called (sent p a b found bytes) = (a == c) && (b == m) && same_name found called
+sends c m called _ = false
+
+abbrev pub counted_from : Bool → ℕ → Option ℕ → Option ℕ
+counted_from first tick (Some k) = Some (k + tick)
+counted_from first tick None = if first then Some 0 else None
+
+abbrev pub ticks_after : (Moment → Bool) → ℕ → List Moment → Option ℕ
+ticks_after first c [] = None
+ticks_after first c (x ∷ before) = counted_from (first x) (tick_of c x) (ticks_after first c before)
+
+abbrev pub are_eight : Option ℕ → Bool
+are_eight None = false
+are_eight (Some k) = nat_le 8 k
+
+-- a message and what answers it, for each device
+pub record Question : Type 0 where
+  pub ask : MessageName
+  pub reply : MessageName
+
+abbrev pub seize_questions : List ℕ → List Question
+seize_questions [] = []
+seize_questions (d ∷ others) =
+    record { ask = name.SeizeQuorum d; reply = name.Seized d } ∷ record { ask = name.SeizeData d; reply = name.Seized d } ∷ seize_questions others
+
+abbrev pub questions : ℕ → List Question
+questions devices = record { ask = name.Collect; reply = name.Promise } ∷ record { ask = name.Install; reply = name.Ready } ∷ seize_questions (numbers_to devices (2 ^ 16 - 1))
+
+-- c asked m eight ticks ago or more, and no answer that was sent after it came has reached it
+abbrev pub is_overdue : ℕ → ℕ → List Moment → Question → Bool
+is_overdue c m moments q = are_eight (ticks_after (sends c m q.ask) c moments) && not (is_exchanged q.ask q.reply c m moments)
+
+-- the coordinator's own part is its device commands
+abbrev pub is_silent : Setting → ℕ → ℕ → List Moment → Bool
+is_silent S e m before =
+    if m == coordinator e
+    then are_eight (ticks_after (is_attempt e) m before) && nat_lt 0 (length (S.queue before m))
+    else list_any (is_overdue (coordinator e) m (since (is_attempt e) before)) (questions (length S.header.devices))
+
+-- ---- `ended e excluded m` (that m has flags, see the part on resource groups)
+
+-- an earlier attempt below e that m has not installed, without m and with another member of e
+abbrev pub leaves_out : ℕ → ℕ → ℕ → ℕ → Moment → Bool
+leaves_out e members m newest (attempt f others_of) =
+    nat_lt f e && nat_lt newest f && not (has others_of m) && list_any (λ k. has others_of k) (nodes_of members)
+leaves_out e members m newest _ = false
+
+abbrev pub is_left_out : ℕ → ℕ → List Moment → List Moment → Bool
+is_left_out e m here before = list_any (leaves_out e (members_of e before) m (last_installed m here)) before
+
+-- at the place where m sent a Promise of e that was delivered; for the coordinator, here
+abbrev pub is_excluded : ℕ → ℕ → List Moment → Bool
+is_excluded e m before =
+    if m == coordinator e then is_left_out e m before before
+    else reached_since (is_attempt e) (λ l. is_letter name.Promise m (coordinator e) l && is_number e (promised_to l.before) && is_left_out e m l.before before) before
+
+-- ---- a device attached to a member that a start does not hold
+
+-- a word above e, whatever it is
+abbrev pub shows_greater : ℕ → ℕ → ℕ → List Moment → Moment → Bool
+shows_greater e d m before (device n x command.Word (Given (answer.Word v))) = (n == m) && (x == d) && nat_lt e v
+shows_greater e d m before (device n x (command.Swap expect new) (Given (answer.Miscompare v))) = (n == m) && (x == d) && nat_lt e v
+shows_greater e d m before _ = false
+
+-- 64 readings since `reserve`, the last with a key of no member
+abbrev pub shows_contention : Header → ℕ → ℕ → ℕ → List Moment → Moment → Bool
+shows_contention h members d m before (device n x command.Keys (Given (answer.Keys keys))) =
+    (n == m) && (x == d) && not (list_all (is_members_key h members) keys) && (count_by (reads_keys m d) (since (reserves m d) before) == 63)
+shows_contention h members d m before _ = false
+
+-- d has votes by the base of e, committed or with the last update of it pending; which of these, the trace need not tell
+abbrev pub is_enabled_for : Setting → ℕ → List (List ℕ) → Bool
+is_enabled_for S d updates =
+    is_enabled (state_of (device_at (S.votes updates) d)) || is_enabled (state_of (device_at (S.votes (take (length updates - 1) updates)) d))
+
+abbrev pub is_not_held : Setting → ℕ → ℕ → List (List ℕ) → List Moment → Bool
+is_not_held S e d updates before =
+    some_member e before (shows_greater e d) || is_shown S.header e d before lack.Expelled
+    || some_member e before (shows_contention S.header (members_of e before) d) || is_shown S.header e d before lack.Fault
+    || (is_enabled_for S d updates && is_shown S.header e d before lack.NotRegistered)
+
+-- each device is held, or no member is attached to it, or something shows why it is not held
+abbrev pub is_accounted : Setting → List Moment → Start → ℕ → Bool
+is_accounted S moments s d =
+    has s.held d || (length (attached_members S.header d s.members) == 0)
+    || is_not_held S s.epoch d (base_of s.epoch moments) (before_last (is_start s.epoch) moments)
+
+abbrev pub AllAccounted : Setting → List Moment → Type 0
+AllAccounted S moments =
+    AllByRecursion (λ (s : Start). list_all (is_accounted S moments s) (numbers_to (length S.header.devices) (2 ^ 16 - 1)) ≡ true) (starts moments)
+
+-- ---- together
+
+abbrev pub HasCause : Setting → List Moment → Moment → Type 0
+HasCause S before (attempt e members) = IsWanted S before e members
+HasCause S before (ended_votes e have need lacking) = IsShort S before e have need lacking
+HasCause S before (ended_superseded e q) = stands_against e q before ≡ true
+HasCause S before (ended_silent e m) = is_silent S e m before ≡ true
+HasCause S before (ended_excluded e m) = is_excluded e m before ≡ true
+HasCause S before _ = Unit {0}
+
+abbrev pub Attempts : Setting → List Moment → Type 0
+Attempts S moments = Always (HasCause S) moments

@@ -1,0 +1,36 @@
+-- Lineage: each membership stands on the one before it, by number.
+use Rattle.std.specs.Prelude.{◌≡◌, ◌⊎◌, ℕ, ◌+◌, ◌==◌, ◌&&◌, nat_lt, false, if◌then◌else◌, List, [], ◌∷◌, ◌++◌, length, take, map, Option, Some, None}
+use Rattle.std.specs.List.{list_any, AllByRecursion}
+use Rattle.history.specs.Moment.{Moment}
+use Rattle.history.specs.Starts.{starts, base_of, proposed_in, acked_in}
+
+abbrev pub start_numbers : List Moment → List ℕ
+start_numbers moments = map (λ s. s.epoch) (starts moments)
+
+-- none of these numbers comes twice
+abbrev pub AllDiffer : List ℕ → Type 0
+AllDiffer [] = Unit {0}
+AllDiffer (e ∷ others) = (list_any (λ f. f == e) others ≡ false) × AllDiffer others
+
+abbrev pub greater_below : ℕ → ℕ → Option ℕ → Option ℕ
+greater_below e f None = if nat_lt f e then Some f else None
+greater_below e f (Some g) = if nat_lt f e && nat_lt g f then Some f else Some g
+
+-- the greatest of these numbers that is smaller than e
+abbrev pub last_below : ℕ → List ℕ → Option ℕ
+last_below e [] = None
+last_below e (f ∷ others) = greater_below e f (last_below e others)
+
+-- A base is the one before it, and then the first updates that were proposed there: as many as are acknowledged, or one more.
+abbrev pub Continues : List (List ℕ) → List (List ℕ) → ℕ → List (List ℕ) → Type 0
+Continues old proposed acked new = (new ≡ old ++ take acked proposed) ⊎ (new ≡ old ++ take (acked + 1) proposed)
+
+-- The first membership begins with no update. Each other stands on the one with the next smaller number.
+abbrev pub StandsOn : List Moment → ℕ → Option ℕ → Type 0
+StandsOn moments e None = base_of e moments ≡ []
+StandsOn moments e (Some f) = Continues (base_of f moments) (proposed_in f moments) (length (acked_in f moments)) (base_of e moments)
+
+pub record Lineage (moments : List Moment) : Type 0 where
+  -- no two starts have the same number
+  pub once : AllDiffer (start_numbers moments)
+  pub stands : AllByRecursion (λ e. StandsOn moments e (last_below e (start_numbers moments))) (start_numbers moments)

@@ -1,0 +1,240 @@
+//! What the definitions refuse, by small traces: each clause says of one of them that it meets the definition, or that its newest moment
+//! or event does not. A definition that refused nothing would say nothing.
+ghost use Rattle.std.specs.Prelude.{◌≡◌, [], Option, Some, None};
+ghost use Rattle.history.specs.Order.{OfNewest, OfNewestEvent};
+ghost use Rattle.history.specs.DeviceRun.{DeviceRun, IsDeviceLine};
+ghost use Rattle.history.specs.Links.{FollowsLinks};
+ghost use Rattle.history.specs.Member.{member_of};
+ghost use Rattle.history.specs.Starts.{StartLines};
+ghost use Rattle.history.specs.Lineage.{Lineage};
+ghost use Rattle.history.specs.Kept.{Kept};
+ghost use Rattle.history.specs.DiskRule.{IsSafe};
+ghost use Rattle.history.specs.Validated.{validity, Valid, Lapsed, Open};
+ghost use Rattle.history.specs.Contact as contact;
+ghost use Rattle.history.specs.Contents as contents;
+ghost use Rattle.history.specs.Round.{Rounds, KeepsRound};
+ghost use Rattle.history.specs.Lines.{LinesAnswered, HasAnswer};
+ghost use Rattle.history.specs.Attempts.{HasCause, AllAccounted};
+ghost use Rattle.history.specs.Downs.{GoesDown};
+ghost use Rattle.history.specs.Commands.{CommandIsTaken, IsAnswer};
+ghost use Rattle.history.specs.Messages.{Owes};
+ghost use Rattle.history.specs.SampleSplit as split;
+ghost use Rattle.history.specs.SampleSplit.{two_nodes, pair};
+ghost use Rattle.history.specs.SampleAmnesia as amnesia;
+ghost use Rattle.history.specs.SampleMessages as messages;
+ghost use Rattle.history.specs.SampleContents as carried;
+ghost use Rattle.history.specs.SampleValidity as changing;
+ghost use Rattle.history.specs.SampleAnswers as answers;
+
+/// Device: a line ends `failed` exactly where a fault is armed, a later `fault` line stands in the place of an earlier one, and the
+/// device answers by what was done.
+#[tactic(auto, unfolding(cl_base::specs::Sets::has))]
+pub fn device_run()
+    ensures failed_done { DeviceRun two_nodes answers.failed_done }
+    ensures failed_undone { DeviceRun two_nodes answers.failed_undone }
+    ensures failed_unarmed { OfNewest (IsDeviceLine two_nodes) answers.failed_unarmed → ⊥ }
+    ensures armed_and_good { OfNewest (IsDeviceLine two_nodes) answers.armed_and_good → ⊥ }
+    ensures undone_and_read { OfNewest (IsDeviceLine two_nodes) answers.undone_and_read → ⊥ }
+    ensures written_without_key { OfNewest (IsDeviceLine two_nodes) split.written_without_key → ⊥ }
+{}
+
+/// Links: a packet has the next number, arrives once and where it was sent to, and is dropped only for want of room.
+pub fn links()
+    ensures delivered_twice { OfNewest FollowsLinks messages.delivered_twice → ⊥ }
+    ensures delivered_elsewhere { OfNewest FollowsLinks messages.delivered_elsewhere → ⊥ }
+    ensures number_left_out { OfNewest FollowsLinks messages.number_left_out → ⊥ }
+    ensures copied_under_its_own_number { OfNewest FollowsLinks messages.copied_under_its_own_number → ⊥ }
+    ensures dropped_with_room { OfNewest FollowsLinks messages.dropped_with_room → ⊥ }
+    ensures crowded { OfNewest FollowsLinks messages.crowded → ⊥ }
+    ensures crowded_and_dropped { OfNewest FollowsLinks messages.crowded_and_dropped }
+{}
+
+/// A start is followed by the lines of its base.
+pub fn start_lines()
+    ensures base_line_missing { StartLines amnesia.base_line_missing → ⊥ }
+    ensures base_line_misplaced { StartLines amnesia.base_line_misplaced → ⊥ }
+{}
+
+/// Lineage: a number starts once, and each base stands on the one before.
+pub fn lineage()
+    ensures update_lost { Lineage amnesia.update_lost → ⊥ }
+    ensures base_of_nothing { Lineage amnesia.base_of_nothing → ⊥ }
+    ensures first_with_a_base { Lineage amnesia.first_with_a_base → ⊥ }
+    ensures started_twice { Lineage amnesia.started_twice → ⊥ }
+{}
+
+/// Kept: an acknowledged update stands in each greater base, at its place.
+pub fn kept()
+    ensures update_lost { Kept amnesia.update_lost → ⊥ }
+    ensures base_of_nothing { Kept amnesia.base_of_nothing → ⊥ }
+{}
+
+/// Disk rule: who is no member, whose membership does not hold the device, or who is left out by a greater one that holds it, writes
+/// nothing.
+#[tactic(auto, unfolding(cl_base::specs::Sets::has))]
+pub fn disk_rule()
+    ensures written_by_no_member { OfNewest (IsSafe two_nodes) split.written_by_no_member → ⊥ }
+    ensures written_to_what_is_not_held { OfNewest (IsSafe two_nodes) split.written_to_what_is_not_held → ⊥ }
+    ensures written_while_left_out { OfNewest (IsSafe two_nodes) split.write_while_left_out → ⊥ }
+{}
+
+/// Validated: at first, by an install, by joining, and not by reading the word later, or after another promise.
+#[tactic(auto, unfolding(cl_base::specs::Sets::has))]
+pub fn validity()
+    ensures at_first { validity two_nodes 2 1 [] ≡ Valid }
+    ensures seen { validity two_nodes 2 1 split.together ≡ Valid }
+    ensures seizer { validity two_nodes 1 1 changing.unseen ≡ Valid }
+    ensures unseen { validity two_nodes 2 1 changing.unseen ≡ Lapsed }
+    ensures registered { validity two_nodes 2 1 changing.registered_again ≡ Lapsed }
+    ensures joined { validity two_nodes 2 1 changing.joined ≡ Valid }
+    ensures too_late { validity two_nodes 2 1 changing.too_late ≡ Lapsed }
+    ensures moved_on { validity two_nodes 2 1 changing.moved_on ≡ Lapsed }
+    ensures stopped { validity two_nodes 2 1 changing.unknown ≡ Open }
+{}
+
+/// Member: until the node goes down, begins an attempt, or saves at a Collect.
+pub fn member()
+    ensures member { member_of 2 split.together ≡ Some 65 }
+    ensures crashed { member_of 2 changing.crashed ≡ None }
+    ensures promising { member_of 2 changing.promising ≡ None }
+    ensures unmoved { member_of 2 changing.unmoved ≡ Some 65 }
+    ensures begins { member_of 1 changing.unmoved ≡ None }
+{}
+
+/// Contact: a start waits for each Ready, holds what was seized for it, and has a majority; a member was told; an update was asked for,
+/// has its place, and is acknowledged and answered when it is prepared.
+#[tactic(auto, unfolding(cl_base::specs::Sets::has, quorum_votes::specs::Sums::sum_to))]
+pub fn contact()
+    ensures started_without_ready { OfNewest contact.IsReady messages.started_without_ready → ⊥ }
+    ensures ready_before_install { OfNewest contact.IsReady messages.ready_before_install → ⊥ }
+    ensures held_by_another_word { OfNewest (contact.IsHeld two_nodes) split.held_by_another_word → ⊥ }
+    ensures held_by_nobody { OfNewest (contact.IsHeld two_nodes) split.held_by_nobody → ⊥ }
+    ensures started_too_early { OfNewest (contact.IsHeld two_nodes) split.started_too_early → ⊥ }
+    ensures short_of_votes { contact.HasVotes pair split.short_of_votes → ⊥ }
+    ensures acked_unproposed { contact.Placed amnesia.acked_unproposed → ⊥ }
+    ensures acked_elsewhere { contact.Placed amnesia.acked_elsewhere → ⊥ }
+    ensures proposed_elsewhere { contact.Placed amnesia.proposed_elsewhere → ⊥ }
+    ensures proposed_in_nothing { contact.Placed amnesia.proposed_in_nothing → ⊥ }
+    ensures acked_unprepared { OfNewest contact.IsPrepared messages.acked_unprepared → ⊥ }
+    ensures member_untold { OfNewest contact.IsTold messages.member_untold → ⊥ }
+    ensures member_told_too_early { OfNewest contact.IsTold messages.member_told_too_early → ⊥ }
+    ensures proposed_unasked { OfNewest (contact.IsAskedFor pair) amnesia.proposed_unasked → ⊥ }
+    ensures proposed_twice { OfNewest (contact.IsAskedFor pair) amnesia.proposed_twice → ⊥ }
+    ensures answered_too_early { OfNewest (contact.IsAnswered pair) amnesia.answered_too_early → ⊥ }
+{}
+
+/// Contents: the bytes spell a message of the sender and of the kind that the line names.
+pub fn spelled()
+    ensures sent_nothing { contents.Spelled carried.sent_nothing → ⊥ }
+    ensures sent_for_another { contents.Spelled carried.sent_for_another → ⊥ }
+    ensures sent_as_another_kind { contents.Spelled carried.sent_as_another_kind → ⊥ }
+{}
+
+/// Contents: a message carries what its sender has, and nothing else.
+#[tactic(auto, unfolding(cl_base::specs::Sets::has, wire::specs::Reads::number_at, wire::specs::Reads::byte_at, wire::specs::Reads::truth_at, wire::specs::Reads::node_at, wire::specs::Reads::device_at, wire::specs::Reads::text_at, wire::specs::Reads::devices_at, wire::specs::Reads::items_at, wire::specs::Reads::list_at, wire::specs::Reads::at_most_one_at, wire::specs::Reads::method_at, wire::specs::Reads::outcome_at, wire::specs::Reads::kind_at, wire::specs::Reads::marks_at, wire::specs::Reads::failures_at, wire::specs::Reads::reading_at, wire::specs::Reads::resource_at, wire::specs::Reads::group_at, wire::specs::Reads::report_at, wire::specs::Reads::seized_result_at, wire::specs::Reads::heartbeat_at, wire::specs::Reads::collect_at, wire::specs::Reads::promise_at, wire::specs::Reads::nack_at, wire::specs::Reads::install_at, wire::specs::Reads::ready_at, wire::specs::Reads::start_at, wire::specs::Reads::prepare_at, wire::specs::Reads::prepared_at, wire::specs::Reads::request_at, wire::specs::Reads::answer_at, wire::specs::Reads::body_at, wire::specs::Reads::message_at, wire::specs::Reads::whole_of))]
+pub fn contents()
+    ensures installed_otherwise { OfNewest contents.IsSameInstall carried.installed_otherwise → ⊥ }
+    ensures based_otherwise { contents.InstallsTheBase carried.based_otherwise → ⊥ }
+    ensures promised_too_much { OfNewest contents.IsRecord carried.promised_too_much → ⊥ }
+    ensures promised_an_update { OfNewest contents.IsRecord carried.promised_an_update → ⊥ }
+    ensures old_base { contents.NewestBase carried.old_base → ⊥ }
+    ensures held_unknown { OfNewest (contents.IsKnownHeld two_nodes) carried.held_unknown → ⊥ }
+    ensures false_heartbeat { OfNewest contents.IsHeartbeat carried.false_heartbeat → ⊥ }
+    ensures prepared_so { OfNewest (contents.CarriesUpdate pair) carried.prepared_so }
+    ensures prepared_otherwise { OfNewest (contents.CarriesUpdate pair) carried.prepared_otherwise → ⊥ }
+    ensures answered_alone { OfNewest (contents.CarriesUpdate pair) carried.answered_alone → ⊥ }
+{}
+
+/// Round: all packets between its nodes, then all device commands, then the ticks, and nothing between.
+#[tactic(auto, unfolding(cl_base::specs::Sets::has))]
+pub fn rounds()
+    ensures round_done { Rounds pair messages.round_done }
+    ensures round_without_delivery { OfNewest (KeepsRound pair) messages.round_without_delivery → ⊥ }
+    ensures round_cut_short { OfNewest (KeepsRound pair) messages.round_cut_short → ⊥ }
+    ensures line_in_a_round { OfNewest (KeepsRound pair) messages.line_in_a_round → ⊥ }
+{}
+
+/// Answers: a line is skipped exactly where that is due, and else has its entries.
+#[tactic(auto, unfolding(cl_base::specs::Sets::has))]
+pub fn lines()
+    ensures boot_while_up { LinesAnswered pair answers.boot_while_up }
+    ensures skipped_but_down { OfNewestEvent (HasAnswer pair) answers.skipped_but_down → ⊥ }
+    ensures not_skipped { OfNewestEvent (HasAnswer pair) answers.not_skipped → ⊥ }
+    ensures no_entries { OfNewestEvent (HasAnswer pair) answers.no_entries → ⊥ }
+    ensures crash_and_more { OfNewestEvent (HasAnswer pair) answers.crash_and_more → ⊥ }
+    ensures no_packet { OfNewestEvent (HasAnswer pair) answers.no_packet → ⊥ }
+    ensures dropped_by_a_receiver_that_is_up { OfNewestEvent (HasAnswer pair) answers.dropped_by_a_receiver_that_is_up → ⊥ }
+    ensures accepted_unasked { OfNewestEvent (HasAnswer pair) answers.accepted_unasked → ⊥ }
+    ensures refused_as_no_member { OfNewestEvent (HasAnswer pair) answers.refused_as_no_member → ⊥ }
+    ensures refused_as_not_held { OfNewestEvent (HasAnswer pair) answers.refused_as_not_held → ⊥ }
+    ensures fenced_and_up { OfNewestEvent (HasAnswer pair) answers.fenced_and_up → ⊥ }
+{}
+
+/// Answers: an attempt begins in a tick of the least node that its coordinator sees, which has a reason.
+#[tactic(auto, unfolding(cl_base::specs::Sets::has))]
+pub fn attempts_begin()
+    ensures attempt_rightly { OfNewest (HasCause pair) answers.attempt_rightly }
+    ensures attempt_of_the_unheard { OfNewest (HasCause pair) answers.attempt_of_the_unheard → ⊥ }
+    ensures attempt_outside_a_tick { OfNewest (HasCause pair) answers.attempt_outside_a_tick → ⊥ }
+    ensures attempt_of_the_greater { OfNewest (HasCause pair) answers.attempt_of_the_greater → ⊥ }
+    ensures attempt_without_reason { OfNewest (HasCause pair) answers.attempt_without_reason → ⊥ }
+{}
+
+/// Answers: an attempt ends for a reason that stands in the trace.
+#[tactic(auto, unfolding(cl_base::specs::Sets::has, quorum_votes::specs::Sums::sum_to, cl_base::specs::Sets::set_with))]
+pub fn attempts_end()
+    ensures silent_after_eight { OfNewest (HasCause pair) answers.silent_after_eight }
+    ensures superseded_by_a_collect { OfNewest (HasCause pair) answers.superseded_by_a_collect }
+    ensures excluded_rightly { OfNewest (HasCause pair) answers.excluded_rightly }
+    ensures split { OfNewest (HasCause pair) split.split }
+    ensures silent_too_early { OfNewest (HasCause pair) answers.silent_too_early → ⊥ }
+    ensures silent_and_answered { OfNewest (HasCause pair) answers.silent_and_answered → ⊥ }
+    ensures superseded_by_nothing { OfNewest (HasCause pair) answers.superseded_by_nothing → ⊥ }
+    ensures superseded_by_a_smaller { OfNewest (HasCause pair) answers.superseded_by_a_smaller → ⊥ }
+    ensures excluded_without_reason { OfNewest (HasCause pair) answers.excluded_without_reason → ⊥ }
+    ensures miscounted { OfNewest (HasCause pair) answers.miscounted → ⊥ }
+    ensures counted_one_too_few { OfNewest (HasCause pair) answers.counted_one_too_few → ⊥ }
+    ensures enough_votes { OfNewest (HasCause pair) answers.enough_votes → ⊥ }
+    ensures greater_unread { OfNewest (HasCause pair) answers.greater_unread → ⊥ }
+    ensures no_path_with_a_path { OfNewest (HasCause pair) answers.no_path_with_a_path → ⊥ }
+    ensures not_held_without_cause { AllAccounted pair answers.not_held_without_cause → ⊥ }
+{}
+
+/// Answers: a node goes down for a reason that stands in the trace, and stops exactly where an armed stop falls.
+pub fn downs()
+    ensures stopped_in_a_save { OfNewest GoesDown answers.stopped_in_a_save }
+    ensures stopped_in_the_mounting { OfNewest GoesDown answers.stopped_in_the_mounting }
+    ensures stopped_unarmed { OfNewest GoesDown answers.stopped_unarmed → ⊥ }
+    ensures stopped_too_early { OfNewest GoesDown answers.stopped_too_early → ⊥ }
+    ensures saved_past_the_stop { OfNewest GoesDown answers.saved_past_the_stop → ⊥ }
+    ensures mounted_past_the_stop { OfNewest GoesDown answers.mounted_past_the_stop → ⊥ }
+    ensures panic_unfenced { OfNewest GoesDown answers.panic_unfenced → ⊥ }
+    ensures panic_unexcluded { OfNewest GoesDown answers.panic_unexcluded → ⊥ }
+    ensures crash_without_a_line { OfNewest GoesDown answers.crash_without_a_line → ⊥ }
+{}
+
+/// Answers: what a node answers by itself, and that it answers once.
+pub fn commands()
+    ensures told_no_member_rightly { OfNewestEvent (CommandIsTaken pair) answers.told_no_member_rightly }
+    ensures told_no_member { OfNewestEvent (CommandIsTaken pair) answers.told_no_member → ⊥ }
+    ensures taken_by_no_member { OfNewestEvent (CommandIsTaken pair) answers.taken_by_no_member → ⊥ }
+    ensures numbered_twice { OfNewestEvent (CommandIsTaken pair) answers.numbered_twice → ⊥ }
+    ensures full_with_room { OfNewestEvent (CommandIsTaken pair) answers.full_with_room → ⊥ }
+    ensures answered_twice { OfNewest IsAnswer amnesia.answered_twice → ⊥ }
+    ensures unknown_to_a_member { OfNewest IsAnswer amnesia.unknown_to_a_member → ⊥ }
+{}
+
+/// Answers: what is owed is sent in the event that calls for it, and the doings of an event are of one node.
+#[tactic(auto, unfolding(cl_base::specs::Sets::has))]
+pub fn messages()
+    ensures prepare_answered { OfNewestEvent (Owes pair) answers.prepare_answered }
+    ensures install_answered { OfNewestEvent (Owes pair) answers.install_answered }
+    ensures install_stopped { OfNewestEvent (Owes pair) answers.install_stopped }
+    ensures prepare_unanswered { OfNewestEvent (Owes pair) answers.prepare_unanswered → ⊥ }
+    ensures collect_unanswered { OfNewestEvent (Owes pair) answers.collect_unanswered → ⊥ }
+    ensures install_unanswered { OfNewestEvent (Owes pair) answers.install_unanswered → ⊥ }
+    ensures proposed_to_nobody { OfNewestEvent (Owes pair) answers.proposed_to_nobody → ⊥ }
+    ensures request_unsent { OfNewestEvent (Owes pair) answers.request_unsent → ⊥ }
+    ensures doings_of_two { OfNewestEvent (Owes pair) answers.doings_of_two → ⊥ }
+    ensures prepare_not_repeated { OfNewestEvent (Owes pair) answers.prepare_not_repeated → ⊥ }
+{}

@@ -1,0 +1,46 @@
+//! Whole traces that meet the definitions: so they can be met.
+ghost use Rattle.history.specs.Order.{OfPrefixes};
+ghost use Rattle.history.specs.History.{History};
+ghost use Rattle.history.specs.DeviceRun.{DeviceRun};
+ghost use Rattle.history.specs.Starts.{StartLines};
+ghost use Rattle.history.specs.Lineage.{Lineage};
+ghost use Rattle.history.specs.Kept.{Kept};
+ghost use Rattle.history.specs.DiskRule.{DiskRule};
+ghost use Rattle.history.specs.Contact as contact;
+ghost use Rattle.history.specs.SampleOneNode.{alone, writing};
+ghost use Rattle.history.specs.SampleSplit.{two_nodes, pair, split};
+ghost use Rattle.history.specs.SampleAmnesia.{amnesia};
+ghost use Rattle.history.specs.SampleContents.{bare, formed};
+
+/// A node alone seizes its device, forms a membership and writes: this trace is a history.
+#[tactic(auto, unfolding(cl_base::specs::Sets::has, quorum_votes::specs::Sums::sum_to))]
+pub fn one_node_and_its_disk()
+    ensures history { History alone writing }
+{}
+
+/// A cluster is split; the node that the new membership leaves out is fenced, and cannot form one by itself.
+#[tactic(auto, unfolding(cl_base::specs::Sets::has, quorum_votes::specs::Sums::sum_to))]
+pub fn a_split()
+    ensures devices { DeviceRun two_nodes split }
+    ensures start_lines { StartLines split }
+    ensures lineage { OfPrefixes Lineage split }
+    ensures kept { OfPrefixes Kept split }
+    ensures disk_rule { DiskRule two_nodes split }
+    ensures held { contact.Held two_nodes split }
+    ensures votes { OfPrefixes (contact.HasVotes pair) split }
+{}
+
+/// A node that has lost touch comes back, and does not form a membership without the update that it missed.
+pub fn amnesia()
+    ensures start_lines { StartLines amnesia }
+    ensures lineage { OfPrefixes Lineage amnesia }
+    ensures kept { OfPrefixes Kept amnesia }
+    ensures placed { OfPrefixes contact.Placed amnesia }
+    ensures asked { contact.Asked pair amnesia }
+    ensures answered { contact.AnsweredAfterAck pair amnesia }
+{}
+
+/// Two nodes form a membership by messages, whose bytes are all there: this trace is a history.
+pub fn two_nodes_form()
+    ensures history { History bare formed }
+{}
