@@ -1,0 +1,6 @@
+pub mod Attempts
+pub mod Counts
+pub mod Installs
+pub mod Plans
+pub mod Promises
+pub mod Seizings
