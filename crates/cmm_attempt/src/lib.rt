@@ -12,6 +12,8 @@ mod promised;
 mod seizing;
 mod sending;
 mod step;
+#[cfg(test)]
+mod tests;
 
 pub use attached::{AttachedDevice, AttachedDevices};
 pub use attempt::Attempt;

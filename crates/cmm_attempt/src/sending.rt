@@ -110,7 +110,7 @@ fn install_with(
     readings: Readings,
     newest: Option<&Promised>,
 ) -> Result<Install, AllocError>
-    ensures { IfOk result (λ i. i ≡ install_by plan.now readings (option_copied newest)) }
+    ensures { IfOk result (λ i. i ≡ install_by plan.now readings (option_copied newest.entry)) }
 {
     let (epoch, members) = (plan.epoch, plan.members);
     let (committed, pending) = match newest {
