@@ -39,6 +39,8 @@ pub record AttemptState : Type 0 where
   pub votes : Option BothVotes
   -- the devices that are to be seized
   pub devices : List Seizing
+  -- the devices that were held when the votes were found enough
+  pub counted : ℕ
   -- the Readies that were taken, in order
   pub readies : List Readied
   pub own_ready : Bool
@@ -95,8 +97,9 @@ silent_others s = filter (λ n. not (n == s.plan.coordinator) && is_missing s n)
 
 -- Starting: with every Ready, and with the coordinator's own part done.
 
+-- each other member's Ready was taken
 abbrev pub all_ready : AttemptState → Bool
-all_ready s = list_all (λ n. not (is_unready s n)) s.plan.nodes
+all_ready s = list_all (λ n. (n == s.plan.coordinator) || has_readied s.readies n) s.plan.nodes
 
 unfoldable pub starting : AttemptState → Turn
 starting s =
@@ -148,12 +151,12 @@ shortage_under s devices (Some both) = ended_by s devices (first_short both s.pl
 abbrev pub shortage : AttemptState → ℕ → Option AttemptEnd
 shortage s devices = shortage_under s devices s.votes
 
-abbrev pub counted : AttemptState → Option AttemptEnd → Turn
-counted s (Some e) = ends s e
-counted s None = seizing_others s
+abbrev pub counted_by : AttemptState → Option AttemptEnd → Turn
+counted_by s (Some e) = ends s e
+counted_by s None = seizing_others (record s { counted = held_set s.devices })
 
 unfoldable pub counting : AttemptState → Turn
-counting s = counted s (shortage s (held_set s.devices))
+counting s = counted_by s (shortage s (held_set s.devices))
 
 -- what follows where all seizings of the phase have ended
 abbrev pub settled_in : AttemptState → Phase → Turn
@@ -201,12 +204,16 @@ answering_in s d from r Over = waits s
 unfoldable pub asked_votes : AttemptState → Turn
 asked_votes s = if all_settled s.devices then counting s else with_steps s (filter_map (request_for s.plan) s.devices)
 
-abbrev pub seizing_under : AttemptState → Option BothVotes → Turn
-seizing_under s None = waits s
-seizing_under s (Some both) = asked_votes (record s { devices = filter_map (vote_new s.plan s.promises both) s.plan.attached })
+abbrev pub vote_entries_under : AttemptState → Option BothVotes → List Seizing
+vote_entries_under s None = []
+vote_entries_under s (Some both) = filter_map (vote_new s.plan s.promises both) s.plan.attached
+
+-- the seizings of the quorum devices
+abbrev pub vote_entries : AttemptState → List Seizing
+vote_entries s = vote_entries_under s s.votes
 
 unfoldable pub seizing_votes : AttemptState → Turn
-seizing_votes s = seizing_under s s.votes
+seizing_votes s = asked_votes (record s { devices = vote_entries s })
 
 abbrev pub possible : AttemptState → Option AttemptEnd → Turn
 possible s (Some e) = ends s e

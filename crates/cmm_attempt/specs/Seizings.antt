@@ -69,11 +69,13 @@ awaits_from n e = is_none e.result && is_asked e.seizer n
 abbrev pub all_settled : List Seizing → Bool
 all_settled devices = list_all (λ e. is_some e.result) devices
 
+-- the seizing of this device ends so, where its answer is awaited
 abbrev pub with_result : ℕ → SeizeResult → Seizing → Seizing
-with_result d r e = if e.attached.device == d then record e { result = Some r } else e
+with_result d r e = if (e.attached.device == d) && is_none e.result then record e { result = Some r } else e
 
+-- this member is asked next to seize this device
 abbrev pub with_next : ℕ → ℕ → Seizing → Seizing
-with_next d n e = if e.attached.device == d then record e { seizer = Some n; asked = set_with e.asked n } else e
+with_next d n e = if (e.attached.device == d) && is_none e.result then record e { seizer = Some n; asked = set_with e.asked n } else e
 
 -- the member to be asked after this result, if there is one
 abbrev pub next_by : ℕ → List Promised → List ℕ → Seizing → SeizeKind → SeizeResult → Option ℕ

@@ -6,7 +6,7 @@ ghost use Rattle.cmm_attempt.specs.Promises.{has_promised, promised_by, shown_by
 ghost use Rattle.cmm_attempt.specs.Seizings.{awaits, awaits_from, with_result, with_next, result_of};
 ghost use Rattle.cmm_attempt.specs.declared.phase.Phase.TheVariants.{Choosing};
 ghost use Rattle.cmm_attempt.specs.declared.counting.BothVotes.{BothVotes};
-ghost use Rattle.cmm_attempt.specs.Attempts.{ends, has_readied, is_unready, is_missing, silent_others, all_ready, starting, install_in, installs, in_phase, installed, installing, seizing_others, shortage, counting, settled, proceeding, asked_next, answering, answering_in, asked_votes, seizing_votes, voting, chosen_by, choosing, gathered, begun, all_promised, collects, promises_of, beginning, awaits_promise, promising, awaits_ready, readying, is_of, taking, own_readying, own_answering, again_in, ticked, ticking, IsPromiseOf, HasFewKeys, FitsKeys, promise_from, ready_from};
+ghost use Rattle.cmm_attempt.specs.Attempts.{ends, has_readied, is_unready, is_missing, silent_others, all_ready, starting, install_in, installs, in_phase, installed, installing, seizing_others, vote_entries, shortage, counting, settled, proceeding, asked_next, answering, answering_in, asked_votes, seizing_votes, voting, chosen_by, choosing, gathered, begun, all_promised, collects, promises_of, beginning, awaits_promise, promising, awaits_ready, readying, is_of, taking, own_readying, own_answering, again_in, ticked, ticking, IsPromiseOf, HasFewKeys, FitsKeys, promise_from, ready_from};
 
 use crate::attached::AttachedDevices;
 use crate::copying::{copy_promise, copy_ready};
@@ -35,6 +35,8 @@ pub struct Attempt {
     newest: NodeId,
     votes: Option<BothVotes>,
     devices: Vec<Seizing>,
+    // The devices that were held when the votes were found enough.
+    counted: DevSet,
     readies: Vec<Readied>,
     own_ready: bool,
     phase: Phase,
@@ -47,7 +49,7 @@ impl Model for Attempt {
 
     ghost Value = { AttemptState };
 
-    ghost view = { λ a. record { plan = a.plan; promises = a.promises.items; newest = a.newest; votes = a.votes; devices = a.devices.items; readies = a.readies.items; own_ready = a.own_ready; phase = a.phase; ticks = a.ticks } };
+    ghost view = { λ a. record { plan = a.plan; promises = a.promises.items; newest = a.newest; votes = a.votes; devices = a.devices.items; counted = a.counted; readies = a.readies.items; own_ready = a.own_ready; phase = a.phase; ticks = a.ticks } };
 }
 
 impl Attempt {
@@ -82,6 +84,7 @@ impl Attempt {
             newest: coordinator,
             votes: None,
             devices: Vec::new(alloc),
+            counted: DevSet::empty(),
             readies: Vec::new(alloc),
             own_ready: false,
             phase: Phase::Collecting,
@@ -241,7 +244,9 @@ impl Attempt {
     fn are_all_ready(&self) -> bool
         ensures { result ≡ all_ready self.now }
     {
-        self.plan.nodes.items().iter().all(|n| !self.is_unready(*n))
+        let readies = self.readies.as_slice();
+        let mut nodes = self.plan.nodes.items().iter();
+        nodes.all(|n| *n == self.plan.coordinator || has_ready(readies, *n))
     }
 
     fn has_all_promises(&self) -> bool
@@ -256,6 +261,7 @@ impl Attempt {
     }
 
     /// Starts the membership where every member is ready.
+    #[tactic(auto, unfolding(crate::specs::Attempts::starting))]
     fn start(&mut self) -> Result<Steps, AllocError>
         ensures after { IfOk result (λ _. self.new ≡ (starting self.old).after) }
         ensures steps { IfOk result (λ steps. steps ≡ (starting self.old).steps) }
@@ -296,6 +302,7 @@ impl Attempt {
         self.ticks = 0;
     }
 
+    #[tactic(auto, unfolding(crate::specs::Attempts::installing))]
     fn install(&mut self) -> Result<Steps, AllocError>
         ensures after { IfOk result (λ _. self.new ≡ (installing self.old).after) }
         ensures steps { IfOk result (λ steps. steps ≡ (installing self.old).steps) }
@@ -313,6 +320,7 @@ impl Attempt {
     }
 
     /// Begins to seize the devices that have no votes.
+    #[tactic(auto, unfolding(crate::specs::Attempts::seizing_others))]
     fn seize_others(&mut self) -> Result<Steps, AllocError>
         ensures after { IfOk result (λ _. self.new ≡ (seizing_others self.old).after) }
         ensures steps { IfOk result (λ steps. steps ≡ (seizing_others self.old).steps) }
@@ -328,6 +336,7 @@ impl Attempt {
     }
 
     /// Counts the votes of the members and of the devices held.
+    #[tactic(auto, unfolding(crate::specs::Attempts::counting))]
     fn count(&mut self) -> Result<Steps, AllocError>
         ensures after { IfOk result (λ _. self.new ≡ (counting self.old).after) }
         ensures steps { IfOk result (λ steps. steps ≡ (counting self.old).steps) }
@@ -335,7 +344,10 @@ impl Attempt {
         let held = held_of(self.devices.as_slice());
         match self.shortage(held)? {
             Some(end) => self.end(end),
-            None => self.seize_others(),
+            None => {
+                self.counted = held;
+                self.seize_others()
+            }
         }
     }
 
@@ -357,6 +369,7 @@ impl Attempt {
     }
 
     /// Goes on where all seizings of the phase have ended.
+    #[tactic(auto, unfolding(crate::specs::Attempts::proceeding))]
     fn proceed(&mut self) -> Result<Steps, AllocError>
         ensures after { IfOk result (λ _. self.new ≡ (proceeding self.old).after) }
         ensures steps { IfOk result (λ steps. steps ≡ (proceeding self.old).steps) }
@@ -386,6 +399,7 @@ impl Attempt {
         }
     }
 
+    #[tactic(auto, unfolding(crate::specs::Attempts::answering))]
     fn answer(&mut self, d: DevId, from: NodeId, r: SeizeResult) -> Result<Steps, AllocError>
         ensures after { IfOk result (λ _. self.new ≡ (answering self.old d from r).after) }
         ensures steps { IfOk result (λ steps. steps ≡ (answering self.old d from r).steps) }
@@ -401,6 +415,7 @@ impl Attempt {
     }
 
     /// Asks this member next to seize the device.
+    #[tactic(auto, unfolding(crate::specs::Attempts::asked_next))]
     fn ask_next(&mut self, d: DevId, kind: SeizeKind, n: NodeId) -> Result<Steps, AllocError>
         ensures after { IfOk result (λ _. self.new ≡ (asked_next self.old d kind n).after) }
         ensures steps { IfOk result (λ steps. steps ≡ (asked_next self.old d kind n).steps) }
@@ -410,6 +425,7 @@ impl Attempt {
         self.one_step(request(&self.plan, kind, d, n))
     }
 
+    #[tactic(auto, unfolding(crate::specs::Attempts::settled))]
     fn settle(&mut self, d: DevId, r: SeizeResult) -> Result<Steps, AllocError>
         ensures after { IfOk result (λ _. self.new ≡ (settled self.old d r).after) }
         ensures steps { IfOk result (λ steps. steps ≡ (settled self.old d r).steps) }
@@ -418,6 +434,7 @@ impl Attempt {
         self.proceed()
     }
 
+    #[tactic(auto, unfolding(crate::specs::Attempts::voting))]
     fn take_votes(&mut self, both: BothVotes) -> Result<Steps, AllocError>
         ensures after { IfOk result (λ _. self.new ≡ (voting self.old both).after) }
         ensures steps { IfOk result (λ steps. steps ≡ (voting self.old both).steps) }
@@ -433,18 +450,29 @@ impl Attempt {
     }
 
     /// Begins to seize the quorum devices.
+    #[tactic(auto, unfolding(crate::specs::Attempts::seizing_votes))]
     fn seize_votes(&mut self) -> Result<Steps, AllocError>
         ensures after { IfOk result (λ _. self.new ≡ (seizing_votes self.old).after) }
         ensures steps { IfOk result (λ steps. steps ≡ (seizing_votes self.old).steps) }
     {
-        let Some(both) = &self.votes else {
-            return Ok(self.no_steps());
-        };
-        let promises = self.promises.as_slice();
-        self.devices = vote_seizings(self.alloc(), &self.plan, promises, both)?;
+        self.devices = self.vote_entries()?;
         self.ask_votes()
     }
 
+    /// The seizings of the quorum devices, each with the member asked first.
+    fn vote_entries(&self) -> Result<Vec<Seizing>, AllocError>
+        ensures { IfOk result (λ devices. devices.items ≡ vote_entries self.now) }
+    {
+        match &self.votes {
+            Some(both) => {
+                let promises = self.promises.as_slice();
+                vote_seizings(self.alloc(), &self.plan, promises, both)
+            }
+            None => Ok(Vec::new(self.alloc())),
+        }
+    }
+
+    #[tactic(auto, unfolding(crate::specs::Attempts::asked_votes))]
     fn ask_votes(&mut self) -> Result<Steps, AllocError>
         ensures after { IfOk result (λ _. self.new ≡ (asked_votes self.old).after) }
         ensures steps { IfOk result (λ steps. steps ≡ (asked_votes self.old).steps) }
@@ -457,6 +485,7 @@ impl Attempt {
     }
 
     /// Chooses the newest record, with every Promise in hand.
+    #[tactic(auto, unfolding(crate::specs::Attempts::choosing))]
     fn choose(&mut self) -> Result<Steps, AllocError>
         ensures after { IfOk result (λ _. self.new ≡ (choosing self.old).after) }
         ensures steps { IfOk result (λ steps. steps ≡ (choosing self.old).steps) }
@@ -520,6 +549,7 @@ impl Attempt {
             && !has_promise(self.promises.as_slice(), n)
     }
 
+    #[tactic(auto, unfolding(crate::specs::Attempts::promising))]
     fn take_promise(&mut self, from: NodeId, m: &Message) -> Result<Steps, AllocError>
         ensures after { IfOk result (λ _. self.new ≡ (promising self.old from m.now).after) }
         ensures steps { IfOk result (λ steps. steps ≡ (promising self.old from m.now).steps) }
@@ -545,6 +575,7 @@ impl Attempt {
             && !has_ready(self.readies.as_slice(), n)
     }
 
+    #[tactic(auto, unfolding(crate::specs::Attempts::readying))]
     fn take_ready(&mut self, from: NodeId, m: &Message) -> Result<Steps, AllocError>
         ensures after { IfOk result (λ _. self.new ≡ (readying self.old from m.now).after) }
         ensures steps { IfOk result (λ steps. steps ≡ (readying self.old from m.now).steps) }
@@ -597,11 +628,11 @@ impl Attempt {
 }
 
 /// This step before the others.
-fn led_by(alloc: Global, first: Step, more: Vec<Step>) -> Result<Steps, AllocError>
+fn led_by(alloc: Global, first: Step, mut more: Vec<Step>) -> Result<Steps, AllocError>
     ensures { IfOk result (λ steps. steps ≡ first ∷ more.items) }
 {
     let mut steps = vec![in alloc; first]?;
-    steps.extend(more)?;
+    steps.append(&mut more)?;
     Ok(Steps::new(steps))
 }
 

@@ -163,15 +163,14 @@ fn lacks_under(
     v: &Votes,
     plan: &Plan,
     devices: &[Seizing],
-) -> Result<Lacking, AllocError>
-    ensures { IfOk result (λ lacking. lacking ≡ filter_map (lack_under v.now plan.now devices.now) plan.now.attached) }
+) -> Result<Vec<Lack>, AllocError>
+    ensures { IfOk result (λ lacks. lacks.items ≡ filter_map (lack_under v.now plan.now devices.now) plan.now.attached) }
 {
     let attached = plan.attached.items();
-    let lacks: Vec<Lack> = attached
+    attached
         .iter()
         .filter_map(|a| counted_lack(v, plan, devices, a))
-        .collect(alloc)?;
-    Ok(Lacking::new(lacks))
+        .collect(alloc)
 }
 
 /// The end for want of these votes.
@@ -184,9 +183,10 @@ pub fn votes_ended(
 ) -> Result<AttemptEnd, AllocError>
     ensures { IfOk result (λ e. e ≡ votes_end plan.now devices.now set v.now) }
 {
+    let lacks = lacks_under(alloc, v, plan, devices)?;
     Ok(AttemptEnd::Votes {
         have: v.held(plan.members, set),
         need: v.needed(),
-        lacking: lacks_under(alloc, v, plan, devices)?,
+        lacking: Lacking::new(lacks),
     })
 }

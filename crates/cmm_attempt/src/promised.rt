@@ -1,4 +1,4 @@
-ghost use Rattle.std.specs.Prelude.{◌≡◌, ◌+◌, ◌==◌, IfOk, Some, None, if◌then◌else◌};
+ghost use Rattle.std.specs.Prelude.{◌≡◌, IfOk, map, option_map, slice_get};
 ghost use Rattle.cl_base.specs.Sets.{has};
 ghost use Rattle.cmm_attempt.specs.Promises.{shown_by, promised_by, has_promised, holds_valid, is_newer, newest_shown, is_left_out_by, is_left_out};
 
@@ -104,14 +104,31 @@ pub fn is_excluded(newest: &Shown, promises: &[Promised], n: NodeId) -> bool
     promises.iter().any(|p| p.shown.summary.node == n && is_behind(newest, &p.shown))
 }
 
+fn summaries_of(alloc: Global, promises: &[Promised]) -> Result<Vec<Summary>, AllocError>
+    ensures { IfOk result (λ summaries. summaries.items ≡ map (λ p. p.shown.summary) promises.now) }
+{
+    let mut summaries = Vec::new(alloc);
+    for p in promises {
+        summaries.push(p.shown.summary)?;
+    }
+    Ok(summaries)
+}
+
+fn shown_at(promises: &[Promised], index: usize) -> Option<Shown>
+    ensures { result ≡ option_map (λ p. p.shown) (slice_get promises.now index) }
+{
+    promises.get(index).map(|p| p.shown)
+}
+
 /// What the newest of the records shows.
+#[tactic(auto, using(crate::proofs::NewestLemmas::newest_is))]
 pub fn newest_of(alloc: Global, promises: &[Promised]) -> Result<Option<Shown>, AllocError>
     ensures { IfOk result (λ shown. shown ≡ newest_shown promises.now) }
 {
     if promises.is_empty() {
         return Ok(None);
     }
-    let summaries: Vec<Summary> = promises.iter().map(|p| p.shown.summary).collect(alloc)?;
+    let summaries = summaries_of(alloc, promises)?;
     let index = newest(summaries.as_slice()) as usize;
-    Ok(promises.get(index).map(|p| p.shown))
+    Ok(shown_at(promises, index))
 }

@@ -165,11 +165,11 @@ impl Seizing {
         matches!(self.result, Some(SeizeResult::Held(_)))
     }
 
-    /// The same, ended so where it is of this device.
+    /// The same, ended so where it is of this device and has not ended.
     pub fn ended(&self, d: DevId, r: SeizeResult) -> Seizing
         ensures { result ≡ with_result d r self.now }
     {
-        if self.attached.device != d {
+        if self.attached.device != d || self.result.is_some() {
             return *self;
         }
         Seizing {
@@ -178,11 +178,11 @@ impl Seizing {
         }
     }
 
-    /// The same, with this member asked next where it is of this device.
+    /// The same, with this member asked next where it is of this device and has not ended.
     pub fn asking(&self, d: DevId, n: NodeId) -> Seizing
         ensures { result ≡ with_next d n self.now }
     {
-        if self.attached.device != d {
+        if self.attached.device != d || self.result.is_some() {
             return *self;
         }
         Seizing {

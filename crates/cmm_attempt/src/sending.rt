@@ -1,4 +1,4 @@
-ghost use Rattle.std.specs.Prelude.{◌≡◌, IfOk, map, filter, find};
+ghost use Rattle.std.specs.Prelude.{◌≡◌, IfOk, Some, None, map, filter, find};
 ghost use Rattle.std.specs.List.{filter_map};
 ghost use Rattle.std.specs.Option.{option_copied};
 ghost use Rattle.cmm_attempt.specs.Plans.{others_of};
@@ -108,25 +108,31 @@ fn install_with(
     alloc: Global,
     plan: &Plan,
     readings: Readings,
-    newest: Option<&Promised>,
+    newest: &Promised,
 ) -> Result<Install, AllocError>
-    ensures { IfOk result (λ i. i ≡ install_by plan.now readings (option_copied newest.entry)) }
+    ensures { IfOk result (λ i. i ≡ install_by plan.now readings (Some newest.now)) }
 {
-    let (epoch, members) = (plan.epoch, plan.members);
-    let (committed, pending) = match newest {
-        Some(p) => (
-            committed_of(alloc, &p.message)?,
-            pending_of(alloc, &p.message)?,
-        ),
-        None => (Texts::new(Vec::new(alloc)), None),
-    };
+    let committed = committed_of(alloc, &newest.message)?;
+    let pending = pending_of(alloc, &newest.message)?;
     Ok(Install {
-        epoch,
-        members,
+        epoch: plan.epoch,
+        members: plan.members,
         committed,
         pending,
         readings,
     })
+}
+
+fn install_without(alloc: Global, plan: &Plan, readings: Readings) -> Install
+    ensures { result ≡ install_by plan.now readings None }
+{
+    Install {
+        epoch: plan.epoch,
+        members: plan.members,
+        committed: Texts::new(Vec::new(alloc)),
+        pending: None,
+        readings,
+    }
 }
 
 /// The membership with the updates of the newest record, and what was read on the devices held.
@@ -140,7 +146,10 @@ pub fn make_install(
     ensures { IfOk result (λ i. i ≡ install_of plan.now promises.now newest devices.now) }
 {
     let readings = Readings::new(readings_of(alloc, devices, plan.attached.items())?);
-    install_with(alloc, plan, readings, promise_from(promises, newest))
+    match promise_from(promises, newest) {
+        Some(p) => install_with(alloc, plan, readings, p),
+        None => Ok(install_without(alloc, plan, readings)),
+    }
 }
 
 /// What is to be asked for the seizings that have not ended.

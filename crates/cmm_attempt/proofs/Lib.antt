@@ -1,0 +1,4 @@
+pub mod CauseLemmas
+pub mod NewestLemmas
+pub mod QuietLemmas
+pub mod StartLemmas

@@ -1,0 +1,13 @@
+use Rattle.cmm_attempt.proofs.CauseLemmas.{caused_by_call, caused_begun}
+use Rattle.cmm_attempt.proofs.StartLemmas.{starts_are_counted, ends_once}
+use Rattle.cmm_attempt.proofs.laws.attempts_keep.Goals as goal
+
+pub returns : goal.returns
+returns c = record {
+  starts = starts_are_counted;
+  ends = λ s c e h. (caused_by_call s c).end e h;
+  newest = λ s c n h. (caused_by_call s c).wish n h;
+  first = λ p members own attached cluster n h. (caused_begun _).wish n h;
+  over = λ s c e h. (caused_by_call s c).over e h;
+  once = ends_once;
+}

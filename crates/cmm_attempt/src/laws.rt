@@ -1,0 +1,16 @@
+ghost use Rattle.cmm_attempt.specs.Laws.{EndsHaveCauses, StartsAreCounted, WishesAreNewest, FirstWishIsNewest, EndsOnce, IsThenOver};
+
+/// The laws of attempts, over the definitions that the calls' contracts cite.
+///
+/// A start comes only with the coordinator's own part done, with each other member's Ready, and with
+/// a majority under each of the votes that were given. Each end has its cause. The node whose votes
+/// are wished showed a record than which no other is newer. Once an attempt has ended or started,
+/// no call does anything.
+pub fn attempts_keep()
+    ensures starts { StartsAreCounted }
+    ensures ends { EndsHaveCauses }
+    ensures newest { WishesAreNewest }
+    ensures first { FirstWishIsNewest }
+    ensures over { IsThenOver }
+    ensures once { EndsOnce }
+{}
