@@ -1,6 +1,6 @@
 -- The newest of the Promises: what ccr_commit finds among their summaries is what the fold over them leaves.
 use Rattle.std.proofs.Common.{◌≡◌, ℕ, ◌+◌, ◌<◌, ◌≤◌, ◌⊎◌, inl, inr, List, [], ◌∷◌, ◌++◌, length, take, drop, get_or, map, refl, sym, ap, subst, ◌∙◌, arith, rules, add-one, drop-cons}
-use Rattle.std.specs.Prelude.{All, Contains, slice_get, Option, Some, None, IfSome, Bool, true, false, cond, fold, option_map}
+use Rattle.std.specs.Prelude.{All, Contains, ◌==◌, ◌&&◌, ◌||◌, nat_lt, slice_get, Option, Some, None, IfSome, Bool, true, false, cond, fold, option_map}
 use Rattle.std.proofs.lemmas.Option.{slice_get-map, slice_get-get_or}
 use Rattle.std.proofs.lemmas.List.{take-map, take-append-drop}
 use Rattle.std.proofs.lemmas.List.Elements.{All-nil, All-cons, All-head, All-tail, All-drop, Contains-append_right, Contains-get_or}
@@ -9,7 +9,7 @@ use Rattle.ccr_commit.specs.Newest.{IsNewer, IsAsNew}
 use Rattle.cmm_attempt.specs.declared.promised.Shown.{Shown}
 use Rattle.cmm_attempt.specs.declared.promised.Promised.{Promised}
 use Rattle.cmm_attempt.specs.Promises.{is_newer, newer_of, newest_shown}
-use Rattle.cmm_attempt.proofs.QuietLemmas.{none_some, same_some}
+use Rattle.cmm_attempt.proofs.QuietLemmas.{none_some, same_some, or_cases, and_cases, either_of, same_number, less}
 
 abbrev pub IsNotBehind : Summary → Summary → Type 0
 IsNotBehind a b = IsNewer a b ⊎ IsAsNew a b
@@ -103,8 +103,39 @@ itself a = inr (refl, refl, refl, refl)
 not_behind_trans : (a b c : Summary) → IsNotBehind a b → IsNotBehind b c → IsNotBehind a c
 not_behind_trans a b c h k = grind arith
 
+by_epoch : (a b : Summary) → b.installed < a.installed → IsNewer a b
+by_epoch a b h = grind arith
+
+by_all : (a b : Summary) → b.installed ≡ a.installed → b.all < a.all → IsNewer a b
+by_all a b e h = grind arith
+
+by_committed : (a b : Summary) → b.installed ≡ a.installed → b.all ≡ a.all → b.committed < a.committed → IsNewer a b
+by_committed a b e f h = grind arith
+
+by_node : (a b : Summary) → b.installed ≡ a.installed → b.all ≡ a.all → b.committed ≡ a.committed → a.node < b.node → IsNewer a b
+by_node a b e f g h = grind arith
+
+newer_last : (a b : Summary) → b.installed ≡ a.installed → b.all ≡ a.all → (nat_lt b.committed a.committed || ((b.committed == a.committed) && nat_lt a.node b.node)) ≡ true → IsNewer a b
+newer_last a b e f h =
+    either_of (or_cases (nat_lt b.committed a.committed) ((b.committed == a.committed) && nat_lt a.node b.node) h)
+    (λ k. by_committed a b e f (less b.committed a.committed k))
+    (λ k. let two : ((b.committed == a.committed) ≡ true) × (nat_lt a.node b.node ≡ true) = and_cases (b.committed == a.committed) (nat_lt a.node b.node) k in
+    by_node a b e f (same_number b.committed a.committed two.0) (less a.node b.node two.1))
+
+newer_mid : (a b : Summary) → b.installed ≡ a.installed
+    → (nat_lt b.all a.all || ((b.all == a.all) && (nat_lt b.committed a.committed || ((b.committed == a.committed) && nat_lt a.node b.node)))) ≡ true → IsNewer a b
+newer_mid a b e h =
+    let last : Bool = nat_lt b.committed a.committed || ((b.committed == a.committed) && nat_lt a.node b.node) in
+    either_of (or_cases (nat_lt b.all a.all) ((b.all == a.all) && last) h)
+    (λ k. by_all a b e (less b.all a.all k))
+    (λ k. let two : ((b.all == a.all) ≡ true) × (last ≡ true) = and_cases (b.all == a.all) last k in newer_last a b e (same_number b.all a.all two.0) two.1)
+
 true_newer : (a b : Summary) → is_newer a b ≡ true → IsNewer a b
-true_newer a b h = grind arith
+true_newer a b h =
+    let mid : Bool = nat_lt b.all a.all || ((b.all == a.all) && (nat_lt b.committed a.committed || ((b.committed == a.committed) && nat_lt a.node b.node))) in
+    either_of (or_cases (nat_lt b.installed a.installed) ((b.installed == a.installed) && mid) h)
+    (λ k. by_epoch a b (less b.installed a.installed k))
+    (λ k. let two : ((b.installed == a.installed) ≡ true) × (mid ≡ true) = and_cases (b.installed == a.installed) mid k in newer_mid a b (same_number b.installed a.installed two.0) two.1)
 
 false_not_behind : (a b : Summary) → is_newer a b ≡ false → IsNotBehind b a
 false_not_behind a b h = grind arith

@@ -23,7 +23,7 @@ use Rattle.cmm_attempt.specs.declared.step.AttemptEnd.{AttemptEnd}
 use Rattle.cmm_attempt.specs.declared.step.AttemptEnd.TheVariants.{Silent, Superseded, Excluded}
 use Rattle.cmm_attempt.specs.Plans.{others_of}
 use Rattle.cmm_attempt.specs.Promises.{promised_by, shown_by, is_ready, newest_shown, is_left_out}
-use Rattle.cmm_attempt.specs.Seizings.{all_settled, awaits, held_set, next_by, request, request_for, with_next, result_of}
+use Rattle.cmm_attempt.specs.Seizings.{with_result, all_settled, awaits, held_set, next_by, request, request_for, with_next, result_of}
 use Rattle.cmm_attempt.specs.Counts.{is_short, first_short, short_pending, reached_set, votes_end}
 use Rattle.cmm_attempt.specs.Installs.{send_install, send_start, send_collect}
 use Rattle.cmm_attempt.specs.Attempts.{AttemptState, Turn, with_steps, waits, ends, is_over, has_readied, is_unready, is_missing_in, is_missing, silent_others, all_ready, starting, install_in, installs, in_phase, installed, installing, plain_devices, asked_plain, seizing_others, ended_by, shortage_under, shortage, counted_by, counting, settled_in, proceeding, settled, asked_next, next_asked, answered_on, answering, answering_in, asked_votes, vote_entries_under, vote_entries, seizing_votes, possible, voted, voting, chosen, chosen_by, choosing, all_promised, collects, first_state, promises_of, begun, beginning, awaits_promise, gathered, with_promise, promising, awaits_ready, readying, is_of, taken, taking, own_readying_in, own_readying, own_answering, again_in, silenced, ticked, later, ticking, IsPromiseOf, FitsKeys, HasFewKeys, promise_from, ready_from}

@@ -253,6 +253,7 @@ first_state p members own attached cluster promises = record {
   newest = own.sender;
   votes = None;
   devices = [];
+  counted = 0;
   readies = [];
   own_ready = false;
   phase = Collecting;

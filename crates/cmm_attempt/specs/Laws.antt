@@ -1,11 +1,13 @@
 -- What every attempt keeps to: each end has its cause, and a membership starts only with every answer and enough votes.
-use Rattle.std.specs.Prelude.{ℕ, ◌+◌, ◌≡◌, ◌<◌, ◌≤◌, ◌⊎◌, Bool, true, false, List, [], ◌∷◌, Option, Some, None, All, Contains}
-use Rattle.std.specs.List.{find}
+use Rattle.std.specs.Prelude.{ℕ, ◌+◌, ◌≡◌, ◌<◌, ◌≤◌, ◌⊎◌, Bool, true, false, List, [], ◌∷◌, Option, Some, None, IsSome, ◌==◌, ◌&&◌, All, Contains}
+use Rattle.std.specs.List.{find, list_any}
 use Rattle.ccr_commit.specs.Newest.{IsNewer, IsAsNew}
 use Rattle.quorum_votes.specs.Tables.{VoteTable}
 use Rattle.quorum_votes.specs.Votes.{held_of, needed_of}
 use Rattle.quorum_votes.specs.Quorum.{IsMajority}
 use Rattle.seize.specs.declared.kind.SeizeResult.{SeizeResult}
+use Rattle.wire.specs.declared.message.SeizedResult.TheVariants as told
+use Rattle.wire.specs.declared.message.Body.{Body}
 use Rattle.wire.specs.declared.message.Body.TheVariants as body
 use Rattle.wire.specs.declared.message.Message.{Message}
 use Rattle.cmm_attempt.specs.declared.attached.AttachedDevice.{AttachedDevice}
@@ -19,7 +21,8 @@ use Rattle.cmm_attempt.specs.declared.step.Step.TheVariants.{Send, SeizeHere, Ne
 use Rattle.cmm_attempt.specs.declared.step.AttemptEnd.{AttemptEnd}
 use Rattle.cmm_attempt.specs.declared.step.AttemptEnd.TheVariants.{Votes, Superseded, Silent, Excluded}
 use Rattle.cmm_attempt.specs.Promises.{newest_shown, is_left_out}
-use Rattle.cmm_attempt.specs.Seizings.{held_set}
+use Rattle.cmm_attempt.specs.declared.seizing.Seizing.{Seizing}
+use Rattle.cmm_attempt.specs.Seizings.{held_set, is_held_by, awaits}
 use Rattle.cmm_attempt.specs.Counts.{first_short, reached_set, votes_end}
 use Rattle.cmm_attempt.specs.Attempts.{AttemptState, Turn, waits, all_promised, all_ready, is_missing, is_over, beginning, taking, voting, own_answering, own_readying, ticking}
 
@@ -146,6 +149,29 @@ HasCause s c t (Superseded q) = ShowsPromise s c q
 HasCause s c t (Silent n) = FallsSilent s c n
 HasCause s c t (Excluded n) = IsExcluded t n
 
+-- A device is held.
+
+-- the seizing of device d has ended held
+abbrev pub is_held_in : List Seizing → ℕ → Bool
+is_held_in devices d = list_any (λ e. (e.attached.device == d) && is_held_by e.result) devices
+
+-- the answer of this node on device d was awaited
+abbrev pub WasAsked : AttemptState → ℕ → ℕ → Type 0
+WasAsked s d n = IsSome (find (awaits d n) s.devices)
+
+-- a Seized of epoch p says that device d is held
+abbrev pub SaysHeld : ℕ → ℕ → Body → Type 0
+SaysHeld p d (body.Seized epoch device (told.Held keys)) = (epoch ≡ p) × (device ≡ d)
+SaysHeld p d _ = ⊥
+
+-- the call says that device d is held, and comes from the node that was asked to seize it
+abbrev pub TellsHeld : AttemptState → Call → ℕ → Type 0
+TellsHeld s (Take from m) d = SaysHeld s.plan.epoch d m.body × WasAsked s d from
+TellsHeld s (Own_seized device r) d = (device ≡ d) × (is_held_by (Some r) ≡ true) × WasAsked s d s.plan.coordinator
+TellsHeld s (With_votes both) d = ⊥
+TellsHeld s Own_ready d = ⊥
+TellsHeld s Tick d = ⊥
+
 -- The newest record.
 
 -- n is the node of a Promise that was taken, and none shows a newer record
@@ -163,6 +189,10 @@ EndsHaveCauses = (s : AttemptState) (c : Call) (e : AttemptEnd) → end_in (turn
 abbrev pub StartsAreCounted : Type 0
 StartsAreCounted = (p members : ℕ) (own : Message) (attached : List AttachedDevice) (cluster : ℕ) (calls : List Call) (s : AttemptState) (c : Call)
     → Run (beginning p members own attached cluster).after calls s → May s c → starts_in (turn s c).steps ≡ true → IsStarted (turn s c).after
+
+abbrev pub HeldIsTold : Type 0
+HeldIsTold = (s : AttemptState) (c : Call) (d : ℕ) → is_held_in (turn s c).after.devices d ≡ true
+    → (is_held_in s.devices d ≡ true) ⊎ TellsHeld s c d
 
 abbrev pub WishesAreNewest : Type 0
 WishesAreNewest = (s : AttemptState) (c : Call) (n : ℕ) → wish_in (turn s c).steps ≡ Some n → IsNewest (turn s c).after n

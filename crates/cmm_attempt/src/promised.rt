@@ -121,7 +121,6 @@ fn shown_at(promises: &[Promised], index: usize) -> Option<Shown>
 }
 
 /// What the newest of the records shows.
-#[tactic(auto, using(crate::proofs::NewestLemmas::newest_is))]
 pub fn newest_of(alloc: Global, promises: &[Promised]) -> Result<Option<Shown>, AllocError>
     ensures { IfOk result (λ shown. shown ≡ newest_shown promises.now) }
 {

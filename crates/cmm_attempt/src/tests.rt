@@ -30,7 +30,7 @@ enum Short {
     Votes(u64, u64),
 }
 
-fn short(step: &Step) -> Short {
+fn in_short(step: &Step) -> Short {
     match step {
         Step::Send { to, message } => Short::Send(to.number(), message.body.kind()),
         Step::SeizeHere { dev, kind } => Short::SeizeHere(dev.number(), *kind),
@@ -52,7 +52,7 @@ fn expect_one(rt: &impl Abort, steps: &Steps, a: Short) -> Result<(), Fail> {
     let [first] = steps.items() else {
         return Err("not one step".into());
     };
-    assert_eq!(rt; short(first), a);
+    assert_eq!(rt; in_short(first), a);
     Ok(())
 }
 
@@ -60,8 +60,8 @@ fn expect_two(rt: &impl Abort, steps: &Steps, a: Short, b: Short) -> Result<(), 
     let [first, second] = steps.items() else {
         return Err("not two steps".into());
     };
-    assert_eq!(rt; short(first), a);
-    assert_eq!(rt; short(second), b);
+    assert_eq!(rt; in_short(first), a);
+    assert_eq!(rt; in_short(second), b);
     Ok(())
 }
 
@@ -69,9 +69,9 @@ fn expect_three(rt: &impl Abort, steps: &Steps, a: Short, b: Short, c: Short) ->
     let [first, second, third] = steps.items() else {
         return Err("not three steps".into());
     };
-    assert_eq!(rt; short(first), a);
-    assert_eq!(rt; short(second), b);
-    assert_eq!(rt; short(third), c);
+    assert_eq!(rt; in_short(first), a);
+    assert_eq!(rt; in_short(second), b);
+    assert_eq!(rt; in_short(third), c);
     Ok(())
 }
 
