@@ -26,7 +26,7 @@ use Rattle.cmm_attempt.specs.Seizings.{all_settled, awaits, held_set, next_by, r
 use Rattle.cmm_attempt.specs.Counts.{is_short, first_short, short_pending, reached_set, votes_end}
 use Rattle.cmm_attempt.specs.Installs.{send_install, send_start, send_collect}
 use Rattle.cmm_attempt.specs.Attempts.{AttemptState, Turn, with_steps, waits, ends, is_over, has_readied, is_unready, is_missing_in, is_missing, silent_others, all_ready, starting, install_in, installs, in_phase, installed, installing, plain_devices, asked_plain, seizing_others, ended_by, shortage_under, shortage, counted_by, counting, settled_in, proceeding, settled, asked_next, next_asked, answered_on, answering, answering_in, asked_votes, vote_entries_under, vote_entries, seizing_votes, possible, voted, voting, chosen, chosen_by, choosing, all_promised, collects, first_state, promises_of, begun, beginning, awaits_promise, gathered, with_promise, promising, awaits_ready, readying, is_of, taken, taking, own_readying_in, own_readying, own_answering, again_in, silenced, ticked, later, ticking, IsPromiseOf, FitsKeys, HasFewKeys, promise_from, ready_from}
-use Rattle.cmm_attempt.specs.Laws.{Call, Take, With_votes, Own_seized, Own_ready, Tick, turn, May, Run, end_in, starts_in, wish_in, IsMajorityPending, HasVotes, IsStarted, IsExcluded, IsShort, ShowsPromise, IsSilent, FallsSilent, HasCause, IsNewest, EndsHaveCauses, StartsAreCounted, WishesAreNewest, FirstWishIsNewest, EndsOnce, IsThenOver}
+use Rattle.cmm_attempt.specs.Laws.{Call, Take, With_votes, Own_seized, Own_ready, Tick, turn, May, Run, end_in, starts_in, wish_in, IsMajorityPending, HasVotes, IsStarted, IsExcluded, IsShort, ShowsPromise, IsSilent, FallsSilent, HasCause, IsNewest, EndsHaveCauses, StartsAreCounted, WishesAreNewest, FirstWishIsNewest, EndsOnce, IsThenOver, WishesWait}
 use Rattle.cmm_attempt.proofs.NewestLemmas.{IsNotBehind, newest_is_taken}
 use Rattle.cmm_attempt.proofs.QuietLemmas.{none_some, false_true, same_some, if_either, IsQuiet, quiet_none, quiet_cons, quiet_sends, quiet_request, quiet_requests, quiet_again}
 
@@ -40,6 +40,7 @@ InnerCause t (Silent n) = ⊥
 pub record IsCaused (t : Turn) : Type 0 where
   pub end : (e : AttemptEnd) → end_in t.steps ≡ Some e → InnerCause t.after e
   pub wish : (n : ℕ) → wish_in t.steps ≡ Some n → IsNewest t.after n
+  pub waits : (n : ℕ) → wish_in t.steps ≡ Some n → t.after.phase ≡ Choosing
   pub over : (e : AttemptEnd) → (end_in t.steps ≡ Some e) ⊎ (starts_in t.steps ≡ true) → t.after.phase ≡ Over
 
 quiet_over : (s : AttemptState) (steps : List Step) → IsQuiet steps → (e : AttemptEnd) → (end_in steps ≡ Some e) ⊎ (starts_in steps ≡ true) → s.phase ≡ Over
@@ -50,6 +51,7 @@ caused_quiet : (s : AttemptState) (steps : List Step) → IsQuiet steps → IsCa
 caused_quiet s steps q = record {
   end = λ e h. absurd (none_some e (sym q.end ∙ h));
   wish = λ n h. absurd (none_some n (sym q.wish ∙ h));
+  waits = λ n h. absurd (none_some n (sym q.wish ∙ h));
   over = λ e h. quiet_over s steps q e h;
 }
 
@@ -60,6 +62,8 @@ caused_ends : (s : AttemptState) (e : AttemptEnd) → InnerCause (record s { pha
 caused_ends s e cause = record {
   end = λ e' h. subst (λ x. InnerCause (record s { phase = Over }) x) (same_some e e' h) cause;
   wish = λ n h. absurd (none_some n h);
+  waits = λ n h. absurd (none_some n h);
+  waits = λ n h. absurd (none_some n h);
   over = λ e' h. refl;
 }
 
@@ -71,6 +75,7 @@ caused_start s =
     record {
       end = λ e h. absurd (none_some e (sym q.end ∙ h));
       wish = λ n h. absurd (none_some n (sym q.wish ∙ h));
+      waits = λ n h. absurd (none_some n (sym q.wish ∙ h));
       over = λ e h. refl;
     }
 
@@ -235,6 +240,7 @@ caused_chosen s newest all is (Some m) least = caused_ends s (Excluded m) (recor
 caused_chosen s newest all is None least = record {
   end = λ e h. absurd (none_some e h);
   wish = λ n h. newest_node (record (in_phase s Choosing) { newest = newest.summary.node }) newest is n (same_some newest.summary.node n h);
+  waits = λ n h. refl;
   over = λ e h. absurd (elim h [ inl x ↦ none_some e x | inr x ↦ false_true x ]);
 }
 
@@ -289,6 +295,7 @@ caused_own_ready s Over = caused_waits s
 pub record IsCausedBy (s : AttemptState) (c : Call) (t : Turn) : Type 0 where
   pub end : (e : AttemptEnd) → end_in t.steps ≡ Some e → HasCause s c t.after e
   pub wish : (n : ℕ) → wish_in t.steps ≡ Some n → IsNewest t.after n
+  pub waits : (n : ℕ) → wish_in t.steps ≡ Some n → t.after.phase ≡ Choosing
   pub over : (e : AttemptEnd) → (end_in t.steps ≡ Some e) ⊎ (starts_in t.steps ≡ true) → t.after.phase ≡ Over
 
 any_call : (s : AttemptState) (c : Call) (t : AttemptState) (e : AttemptEnd) → InnerCause t e → HasCause s c t e
@@ -298,12 +305,14 @@ any_call s c t (Superseded q) h = absurd h
 any_call s c t (Silent n) h = absurd h
 
 by_call : (s : AttemptState) (c : Call) (t : Turn) → IsCaused t → IsCausedBy s c t
-by_call s c t h = record { end = λ e k. any_call s c t.after e (h.end e k); wish = h.wish; over = h.over }
+by_call s c t h = record { end = λ e k. any_call s c t.after e (h.end e k); wish = h.wish; waits = h.waits; over = h.over }
 
 ended_by_call : (s : AttemptState) (c : Call) (t : AttemptState) (e : AttemptEnd) → HasCause s c (record t { phase = Over }) e → IsCausedBy s c (ends t e)
 ended_by_call s c t e cause = record {
   end = λ e' h. subst (λ x. HasCause s c (record t { phase = Over }) x) (same_some e e' h) cause;
   wish = λ n h. absurd (none_some n h);
+  waits = λ n h. absurd (none_some n h);
+  waits = λ n h. absurd (none_some n h);
   over = λ e' h. refl;
 }
 
@@ -324,6 +333,7 @@ and_right true b h = h
 and_right false b h = absurd (false_true h)
 
 by_take : (s : AttemptState) (from : ℕ) (m : Message) → IsCausedBy s (Take from m) (taking s from m)
+unfolding taking
 by_take s from m =
     let test : Bool = not (is_over s.phase) && is_of s.plan.epoch m.body in
     if_with (IsCausedBy s (Take from m)) test test (taken s from m m.body) (waits s) refl
@@ -358,10 +368,12 @@ by_ticked s =
     (by_call s Tick _ (if_either IsCaused (t.ticks == 4) (with_steps t (again_in t t.phase)) (waits t) (caused_quiet t (again_in t t.phase) (quiet_again_in t t.phase)) (caused_waits t)))
 
 by_tick : (s : AttemptState) → IsCausedBy s Tick (ticking s)
+unfolding ticking
 by_tick s =
     if_either (IsCausedBy s Tick) (is_over s.phase) (waits s) (ticked (record s { ticks = later s.ticks })) (by_call s Tick (waits s) (caused_waits s)) (by_ticked s)
 
 pub caused_by_call : (s : AttemptState) (c : Call) → IsCausedBy s c (turn s c)
+unfolding own_answering own_readying
 caused_by_call s (Take from m) = by_take s from m
 caused_by_call s (With_votes both) = by_call s (With_votes both) (voting s both) (caused_voting s both)
 caused_by_call s (Own_seized d r) = by_call s (Own_seized d r) (own_answering s d r) (caused_answering_in s d s.plan.coordinator r s.phase)

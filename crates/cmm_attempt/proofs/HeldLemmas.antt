@@ -246,6 +246,7 @@ no_new_ticked s =
     (if_either (IsNoNew s.devices) (s.ticks == 4) (with_steps s (again_in s s.phase)) (waits s) (λ d h. h) (λ d h. h))
 
 no_new_tick : (s : AttemptState) → IsNoNew s.devices (ticking s)
+unfolding ticking
 no_new_tick s =
     if_either (IsNoNew s.devices) (is_over s.phase) (waits s) (ticked (record s { ticks = later s.ticks })) (λ d h. h) (no_new_ticked (record s { ticks = later s.ticks }))
 
@@ -316,12 +317,14 @@ told_taken s from m (body.Ready epoch joined report) is of = told_no_new s from 
 told_taken s from m _ is of = λ d h. inl h
 
 told_take : (s : AttemptState) (from : ℕ) (m : Message) → IsToldIn s from m (taking s from m)
+unfolding taking
 told_take s from m =
     let test : Bool = not (is_over s.phase) && is_of s.plan.epoch m.body in
     if_with (IsToldIn s from m) test test (taken s from m m.body) (waits s) refl
     (λ e. told_taken s from m m.body refl (and_cases (not (is_over s.phase)) (is_of s.plan.epoch m.body) e).1) (λ d h. inl h)
 
 pub held_is_told : HeldIsTold
+unfolding own_answering own_readying
 held_is_told s (Take from m) d h = told_take s from m d h
 held_is_told s (With_votes both) d h = absurd (none_voting s both d h)
 held_is_told s (Own_seized device r) d h =

@@ -282,6 +282,7 @@ kept_ticked s sound =
     (if_either IsKept (s.ticks == 4) (with_steps s (again_in s s.phase)) (waits s) (kept_quiet s (again_in s s.phase) (quiet_again_in s s.phase) sound) (kept_waits s sound))
 
 pub kept_by_call : (s : AttemptState) (c : Call) → Sound s → IsKept (turn s c)
+unfolding taking own_answering own_readying ticking
 kept_by_call s (Take from m) sound =
     if_either IsKept (not (is_over s.phase) && is_of s.plan.epoch m.body) (taken s from m m.body) (waits s) (kept_taken s from m m.body sound) (kept_waits s sound)
 kept_by_call s (With_votes both) sound = kept_voting s both
@@ -295,6 +296,7 @@ sound_run s [] t sound run = subst Sound (sym run) sound
 sound_run s (c ∷ calls) t sound run = sound_run (turn s c).after calls t (kept_by_call s c sound).sound run.1
 
 pub starts_are_counted : StartsAreCounted
+unfolding beginning
 starts_are_counted p members own attached cluster calls s c run may h =
     (kept_by_call s c (sound_run (beginning p members own attached cluster).after calls s
     (kept_begun (first_state p members own attached cluster (promises_of (promised_by own (shown_by own.sender own.body)))) tt).sound run)).start h
@@ -316,6 +318,7 @@ not_choosing : (s : AttemptState) → s.phase ≡ Over → s.phase ≡ Choosing 
 not_choosing s h k = subst IsOnlyOver (sym k ∙ h) tt
 
 pub ends_once : EndsOnce
+unfolding taking own_answering own_readying ticking
 ends_once s (Take from m) over may = rw (is_over_there s over) refl
 ends_once s (With_votes both) over may = absurd (not_choosing s over may)
 ends_once s (Own_seized d r) over may = rw over refl

@@ -268,7 +268,7 @@ abbrev pub begun : AttemptState → Turn
 begun s = if all_promised s then choosing s else with_steps s (collects s)
 
 -- the attempt of epoch p among these members begins: Collects, or where the coordinator is alone the next phase
-abbrev pub beginning : ℕ → ℕ → Message → List AttachedDevice → ℕ → Turn
+unfoldable pub beginning : ℕ → ℕ → Message → List AttachedDevice → ℕ → Turn
 beginning p members own attached cluster =
     begun (first_state p members own attached cluster (promises_of (promised_by own (shown_by own.sender own.body))))
 
@@ -323,7 +323,7 @@ taken s from m (body.Seized epoch device outcome) = answering_in s device from (
 taken s from m (body.Ready epoch joined report) = readying s from m
 taken s from m _ = waits s
 
-abbrev pub taking : AttemptState → ℕ → Message → Turn
+unfoldable pub taking : AttemptState → ℕ → Message → Turn
 taking s from m = if not (is_over s.phase) && is_of s.plan.epoch m.body then taken s from m m.body else waits s
 
 -- The coordinator's own part.
@@ -336,10 +336,10 @@ own_readying_in s SeizingVotes = waits s
 own_readying_in s SeizingOthers = waits s
 own_readying_in s Over = waits s
 
-abbrev pub own_readying : AttemptState → Turn
+unfoldable pub own_readying : AttemptState → Turn
 own_readying s = own_readying_in s s.phase
 
-abbrev pub own_answering : AttemptState → ℕ → SeizeResult → Turn
+unfoldable pub own_answering : AttemptState → ℕ → SeizeResult → Turn
 own_answering s d r = answering_in s d s.plan.coordinator r s.phase
 
 -- A tick: at the fourth the phase's message goes again to each that has not answered, from the eighth on a missing answer ends
@@ -365,7 +365,7 @@ ticked s =
 abbrev pub later : ℕ → ℕ
 later ticks = if nat_le 8 ticks then 8 else ticks + 1
 
-abbrev pub ticking : AttemptState → Turn
+unfoldable pub ticking : AttemptState → Turn
 ticking s = if is_over s.phase then waits s else ticked (record s { ticks = later s.ticks })
 
 -- What callers know.

@@ -201,6 +201,14 @@ abbrev pub FirstWishIsNewest : Type 0
 FirstWishIsNewest = (p members : ℕ) (own : Message) (attached : List AttachedDevice) (cluster n : ℕ)
     → wish_in (beginning p members own attached cluster).steps ≡ Some n → IsNewest (beginning p members own attached cluster).after n
 
+-- after the wish for the votes they may be given
+abbrev pub WishesWait : Type 0
+WishesWait = (s : AttemptState) (c : Call) (n : ℕ) → wish_in (turn s c).steps ≡ Some n → (turn s c).after.phase ≡ Choosing
+
+abbrev pub FirstWishWaits : Type 0
+FirstWishWaits = (p members : ℕ) (own : Message) (attached : List AttachedDevice) (cluster n : ℕ)
+    → wish_in (beginning p members own attached cluster).steps ≡ Some n → (beginning p members own attached cluster).after.phase ≡ Choosing
+
 -- once it has ended or started, no call does anything
 abbrev pub EndsOnce : Type 0
 EndsOnce = (s : AttemptState) (c : Call) → s.phase ≡ Over → May s c → turn s c ≡ waits s

@@ -1,4 +1,4 @@
-ghost use Rattle.std.specs.Prelude.{◌≡◌, ◌≤◌, ◌%◌, ◌&&◌, ◌==◌, ◌∷◌, [], not, true, map, filter, find, IfOk, Some};
+ghost use Rattle.std.specs.Prelude.{◌≡◌, ◌↔◌, IsTrue, ◌≤◌, ◌%◌, ◌&&◌, ◌==◌, ◌∷◌, [], not, true, map, filter, find, IfOk, Some};
 ghost use Rattle.std.specs.List.{list_any, list_all, filter_map};
 ghost use Rattle.std.specs.Option.{option_copied};
 ghost use Rattle.cl_base.specs.Sets.{has};
@@ -56,6 +56,7 @@ impl Attempt {
     /// An attempt of epoch `p` begins: its first steps are the Collects, or where the coordinator
     /// is alone those of the next phase. The coordinator is one of the members, and `own` is its
     /// Promise of `p`.
+    #[tactic(auto, unfolding(crate::specs::Attempts::beginning))]
     pub fn begin(
         alloc: Global,
         p: Epoch,
@@ -95,6 +96,7 @@ impl Attempt {
     }
 
     /// Takes a message of this node. A Seized has at most 32 keys.
+    #[tactic(auto, unfolding(crate::specs::Attempts::taking))]
     pub fn take(&mut self, from: NodeId, m: &Message) -> Result<Steps, AllocError>
         requires { HasFewKeys m.now.body }
         ensures after { IfOk result (λ _. self.new ≡ (taking self.old from m.now).after) }
@@ -130,7 +132,15 @@ impl Attempt {
         self.take_votes(BothVotes { committed, pending })
     }
 
+    /// Whether the votes under the newest record are wanted: `NeedVotes` was the last step given.
+    pub fn needs_votes(&self) -> bool
+        ensures value { IsTrue result ↔ (self.now.phase ≡ Choosing) }
+    {
+        self.phase == Phase::Choosing
+    }
+
     /// The coordinator's own seizing of the device has ended so.
+    #[tactic(auto, unfolding(crate::specs::Attempts::own_answering))]
     pub fn own_seized(&mut self, d: DevId, r: SeizeResult) -> Result<Steps, AllocError>
         ensures after { IfOk result (λ _. self.new ≡ (own_answering self.old d r).after) }
         ensures steps { IfOk result (λ steps. steps ≡ (own_answering self.old d r).steps) }
@@ -139,6 +149,7 @@ impl Attempt {
     }
 
     /// The coordinator has installed the membership and has done its own joining.
+    #[tactic(auto, unfolding(crate::specs::Attempts::own_readying))]
     pub fn own_ready(&mut self) -> Result<Steps, AllocError>
         ensures after { IfOk result (λ _. self.new ≡ (own_readying self.old).after) }
         ensures steps { IfOk result (λ steps. steps ≡ (own_readying self.old).steps) }
@@ -151,6 +162,7 @@ impl Attempt {
     }
 
     /// A tick of the coordinator.
+    #[tactic(auto, unfolding(crate::specs::Attempts::ticking))]
     pub fn tick(&mut self) -> Result<Steps, AllocError>
         ensures after { IfOk result (λ _. self.new ≡ (ticking self.old).after) }
         ensures steps { IfOk result (λ steps. steps ≡ (ticking self.old).steps) }

@@ -177,9 +177,8 @@ fn votes(alloc: Global) -> Result<Votes, AllocError> {
     Ok(Votes::first(&header))
 }
 
-#[test]
-fn three_nodes_start(rt: HostRuntime) -> Result<(), Fail> {
-    let alloc = rt.alloc();
+/// The attempt 65 of node 1 among nodes 1, 2 and 3, with every Promise in hand.
+fn gathered(rt: &impl Abort, alloc: Global) -> Result<Attempt, Fail> {
     let (two, three) = (NodeId::new(2)?, NodeId::new(3)?);
     let own = promise(alloc, 1, 65, 0, 0, false)?;
     let members = NodeSet::from_bits(0b111);
@@ -189,39 +188,59 @@ fn three_nodes_start(rt: HostRuntime) -> Result<(), Fail> {
     }
     let (mut a, steps) = Attempt::begin(alloc, epoch, members, own, devices(alloc)?, 42)?;
     let collect = MessageKind::Collect;
-    expect_two(
-        &rt,
-        &steps,
-        Short::Send(2, collect),
-        Short::Send(3, collect),
-    )?;
-
-    expect_none(&rt, &a.take(two, &promise(alloc, 2, 65, 0, 0, false)?)?);
-    expect_none(&rt, &a.take(three, &promise(alloc, 3, 129, 0, 0, false)?)?);
+    expect_two(rt, &steps, Short::Send(2, collect), Short::Send(3, collect))?;
+    expect_none(rt, &a.take(two, &promise(alloc, 2, 65, 0, 0, false)?)?);
+    expect_none(rt, &a.take(three, &promise(alloc, 3, 129, 0, 0, false)?)?);
     let steps = a.take(three, &promise(alloc, 3, 65, 0, 0, false)?)?;
-    expect_one(&rt, &steps, Short::NeedVotes(1))?;
+    expect_one(rt, &steps, Short::NeedVotes(1))?;
     assert_eq!(rt; a.promise_of(three).is_some(), true);
+    Ok(a)
+}
 
-    let steps = a.with_votes(votes(alloc)?, None)?;
-    expect_one(&rt, &steps, Short::Send(2, MessageKind::SeizeQuorum))?;
-    expect_none(&rt, &a.take(three, &seized(alloc, 3, 65, 1)?)?);
+/// The devices are seized.
+fn seize(rt: &impl Abort, alloc: Global, a: &mut Attempt) -> Result<(), Fail> {
+    let (two, three) = (NodeId::new(2)?, NodeId::new(3)?);
+    let steps = give(a, votes(alloc)?)?;
+    expect_one(rt, &steps, Short::Send(2, MessageKind::SeizeQuorum))?;
+    expect_none(rt, &a.take(three, &seized(alloc, 3, 65, 1)?)?);
     let steps = a.take(two, &seized(alloc, 2, 65, 1)?)?;
-    expect_one(&rt, &steps, Short::SeizeHere(2, SeizeKind::Plain))?;
-
+    expect_one(rt, &steps, Short::SeizeHere(2, SeizeKind::Plain))?;
     let held = SeizeResult::Held(KeyList::new(&[0x2a_0000_0001]));
     let steps = a.own_seized(DevId::new(2)?, held)?;
-    let (install, start) = (MessageKind::Install, MessageKind::Start);
+    let install = MessageKind::Install;
     let (second, third) = (Short::Send(2, install), Short::Send(3, install));
-    expect_three(&rt, &steps, Short::InstallHere, second, third)?;
-    expect_none(&rt, &a.own_ready()?);
-    expect_none(&rt, &a.take(three, &ready(alloc, 3, 65)?)?);
+    expect_three(rt, &steps, Short::InstallHere, second, third)
+}
+
+/// The members are ready.
+fn start(rt: &impl Abort, alloc: Global, a: &mut Attempt) -> Result<(), Fail> {
+    let (two, three) = (NodeId::new(2)?, NodeId::new(3)?);
+    expect_none(rt, &a.own_ready()?);
+    expect_none(rt, &a.take(three, &ready(alloc, 3, 65)?)?);
     let steps = a.take(two, &ready(alloc, 2, 65)?)?;
+    let start = MessageKind::Start;
     let (second, third) = (Short::Send(2, start), Short::Send(3, start));
-    expect_three(&rt, &steps, Short::StartHere, second, third)?;
+    expect_three(rt, &steps, Short::StartHere, second, third)?;
     assert_eq!(rt; a.ready_of(two).is_some(), true);
-    expect_none(&rt, &a.take(two, &nack(2, 65, 130)?)?);
-    expect_none(&rt, &a.tick()?);
+    expect_none(rt, &a.take(two, &nack(2, 65, 130)?)?);
+    expect_none(rt, &a.tick()?);
     Ok(())
+}
+
+/// The votes are given where they are wanted.
+fn give(a: &mut Attempt, votes: Votes) -> Result<Steps, Fail> {
+    if !a.needs_votes() {
+        return Err("no votes are wanted".into());
+    }
+    Ok(a.with_votes(votes, None)?)
+}
+
+#[test]
+fn three_nodes_start(rt: HostRuntime) -> Result<(), Fail> {
+    let alloc = rt.alloc();
+    let mut a = gathered(&rt, alloc)?;
+    seize(&rt, alloc, &mut a)?;
+    start(&rt, alloc, &mut a)
 }
 
 /// An attempt 129 of node 1 among these members, with the quorum device 1 of nodes 1 and 2.
@@ -297,18 +316,23 @@ fn too_few_votes(rt: HostRuntime) -> Result<(), Fail> {
     let alloc = rt.alloc();
     let (mut a, steps) = begin(alloc, 0b01)?;
     expect_one(&rt, &steps, Short::NeedVotes(1))?;
-    let steps = a.with_votes(two_votes(alloc)?, None)?;
+    let steps = give(&mut a, two_votes(alloc)?)?;
     expect_one(&rt, &steps, Short::SeizeHere(1, SeizeKind::Vote))?;
     let keys = KeyList::new(&[0x2a_0000_0002]);
     let steps = a.own_seized(DevId::new(1)?, SeizeResult::NotRegistered(keys))?;
     expect_one(&rt, &steps, Short::Votes(1, 2))?;
+    let obstacle = Obstacle::Seizing(SeizeResult::NotRegistered(keys));
+    expect_obstacle(&rt, &steps, obstacle)
+}
+
+/// The attempt ended for want of votes, by this obstacle at one device.
+fn expect_obstacle(rt: &impl Abort, steps: &Steps, obstacle: Obstacle) -> Result<(), Fail> {
     let [Step::Ended(AttemptEnd::Votes { lacking, .. })] = steps.items() else {
         return Err("no end for want of votes".into());
     };
     let [lack] = lacking.items() else {
         return Err("not one device".into());
     };
-    let obstacle = Obstacle::Seizing(SeizeResult::NotRegistered(keys));
     assert_eq!(rt; lack.obstacle, obstacle);
     Ok(())
 }
