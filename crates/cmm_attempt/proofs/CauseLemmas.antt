@@ -63,7 +63,6 @@ caused_ends s e cause = record {
   end = λ e' h. subst (λ x. InnerCause (record s { phase = Over }) x) (same_some e e' h) cause;
   wish = λ n h. absurd (none_some n h);
   waits = λ n h. absurd (none_some n h);
-  waits = λ n h. absurd (none_some n h);
   over = λ e' h. refl;
 }
 
@@ -311,7 +310,6 @@ ended_by_call : (s : AttemptState) (c : Call) (t : AttemptState) (e : AttemptEnd
 ended_by_call s c t e cause = record {
   end = λ e' h. subst (λ x. HasCause s c (record t { phase = Over }) x) (same_some e e' h) cause;
   wish = λ n h. absurd (none_some n h);
-  waits = λ n h. absurd (none_some n h);
   waits = λ n h. absurd (none_some n h);
   over = λ e' h. refl;
 }
