@@ -1,9 +1,8 @@
 -- A device becomes held only by the word of the node that was asked to seize it.
-use Rattle.std.proofs.Common.{◌≡◌, ℕ, ◌+◌, ◌<◌, ◌≤◌, ◌⊎◌, inl, inr, List, [], ◌∷◌, ◌++◌, length, map, refl, sym, ap, subst, ◌∙◌, arith, rules}
+use Rattle.std.proofs.Common.{◌≡◌, ℕ, ◌+◌, ◌⊎◌, inl, inr, List, [], ◌∷◌, ◌++◌, length, map, refl, sym, ap, subst, ◌∙◌}
 use Rattle.std.specs.Prelude.{◌==◌, ◌&&◌, ◌||◌, nat_le, Bool, true, false, not, Option, Some, None, IsSome, is_none, if◌then◌else◌}
-use Rattle.std.specs.List.{find, filter_map, cons_option, list_any}
+use Rattle.std.specs.List.{find, filter_map, cons_option}
 use Rattle.std.proofs.lemmas.List.Folds.{list_any-append}
-use Rattle.quorum_votes.specs.Tables.{VoteTable}
 use Rattle.seize.specs.declared.kind.SeizeKind.{SeizeKind}
 use Rattle.seize.specs.declared.kind.SeizeResult.{SeizeResult}
 use Rattle.wire.specs.declared.message.Body.{Body}
@@ -16,18 +15,16 @@ use Rattle.cmm_attempt.specs.declared.seizing.Seizing.{Seizing}
 use Rattle.cmm_attempt.specs.declared.counting.BothVotes.{BothVotes}
 use Rattle.cmm_attempt.specs.declared.phase.Phase.{Phase}
 use Rattle.cmm_attempt.specs.declared.phase.Phase.TheVariants.{Collecting, Choosing, SeizingVotes, SeizingOthers, Installing, Over}
-use Rattle.cmm_attempt.specs.declared.step.Step.{Step}
-use Rattle.cmm_attempt.specs.declared.step.Step.TheVariants.{NeedVotes, InstallHere, StartHere, Ended}
+use Rattle.cmm_attempt.specs.declared.step.Step.TheVariants.{StartHere}
 use Rattle.cmm_attempt.specs.declared.step.AttemptEnd.{AttemptEnd}
-use Rattle.cmm_attempt.specs.declared.step.AttemptEnd.TheVariants.{Silent, Superseded, Excluded}
 use Rattle.cl_base.specs.Sets.{has, set_with}
 use Rattle.cmm_attempt.specs.Plans.{others_of, is_reachable}
 use Rattle.cmm_attempt.specs.Promises.{promised_by, shown_by, is_ready, newest_shown, is_left_out}
 use Rattle.cmm_attempt.specs.Seizings.{all_settled, awaits, held_set, is_held_by, is_seized, first_seizer, vote_entry, plain_entry, plain_new, next_by, request_for, with_next, with_result, result_of}
 use Rattle.cmm_attempt.specs.Counts.{is_quorum, reached_set, vote_new}
-use Rattle.cmm_attempt.specs.Installs.{send_install, send_start, send_collect}
-use Rattle.cmm_attempt.specs.Attempts.{AttemptState, Turn, with_steps, waits, ends, is_over, has_readied, is_unready, is_missing_in, is_missing, silent_others, all_ready, starting, install_in, installs, in_phase, installed, installing, plain_devices, asked_plain, seizing_others, ended_by, shortage_under, shortage, counted_by, counting, settled_in, proceeding, settled, asked_next, next_asked, answered_on, answering, answering_in, asked_votes, vote_entries_under, vote_entries, seizing_votes, possible, voted, voting, chosen, chosen_by, choosing, all_promised, collects, first_state, promises_of, begun, beginning, awaits_promise, gathered, with_promise, promising, awaits_ready, readying, is_of, taken, taking, own_readying_in, own_readying, own_answering, again_in, silenced, ticked, later, ticking, IsPromiseOf, FitsKeys, HasFewKeys, promise_from, ready_from}
-use Rattle.cmm_attempt.specs.Laws.{is_held_in, WasAsked, SaysHeld, TellsHeld, HeldIsTold, Call, Take, With_votes, Own_seized, Own_ready, Tick, turn, May, Run, end_in, starts_in, wish_in, IsMajorityPending, HasVotes, IsStarted, IsExcluded, IsShort, ShowsPromise, IsSilent, FallsSilent, HasCause, IsNewest, EndsHaveCauses, StartsAreCounted, WishesAreNewest, FirstWishIsNewest, EndsOnce, IsThenOver}
+use Rattle.cmm_attempt.specs.Installs.{send_start}
+use Rattle.cmm_attempt.specs.Attempts.{AttemptState, Turn, with_steps, waits, is_over, is_missing, all_ready, starting, in_phase, installed, installing, plain_devices, seizing_others, shortage, counted_by, counting, settled_in, proceeding, settled, asked_next, next_asked, answered_on, answering, answering_in, asked_votes, vote_entries_under, vote_entries, seizing_votes, possible, voting, chosen, chosen_by, choosing, all_promised, awaits_promise, with_promise, promising, awaits_ready, readying, is_of, taken, taking, own_readying_in, own_readying, own_answering, again_in, silenced, ticked, later, ticking}
+use Rattle.cmm_attempt.specs.Laws.{is_held_in, WasAsked, SaysHeld, HeldIsTold, Take, With_votes, Own_seized, Own_ready, Tick, turn}
 use Rattle.seize.specs.declared.kind.SeizeResult.TheVariants.{Held, NotRegistered, Greater, Expelled, Contended, Fault}
 use Rattle.wire.specs.declared.message.SeizedResult.{SeizedResult}
 use Rattle.wire.specs.declared.message.SeizedResult.TheVariants as told

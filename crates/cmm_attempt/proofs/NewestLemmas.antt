@@ -1,6 +1,6 @@
 -- The newest of the Promises: what ccr_commit finds among their summaries is what the fold over them leaves.
-use Rattle.std.proofs.Common.{◌≡◌, ℕ, ◌+◌, ◌<◌, ◌≤◌, ◌⊎◌, inl, inr, List, [], ◌∷◌, ◌++◌, length, take, drop, get_or, map, refl, sym, ap, subst, ◌∙◌, arith, rules, add-one, drop-cons}
-use Rattle.std.specs.Prelude.{All, Contains, ◌==◌, ◌&&◌, ◌||◌, nat_lt, slice_get, Option, Some, None, IfSome, Bool, true, false, cond, fold, option_map}
+use Rattle.std.proofs.Common.{◌≡◌, ℕ, ◌+◌, ◌<◌, ◌⊎◌, inl, inr, List, [], ◌∷◌, ◌++◌, length, take, drop, get_or, map, refl, sym, ap, subst, ◌∙◌, arith, add-one, drop-cons}
+use Rattle.std.specs.Prelude.{All, Contains, ◌==◌, ◌&&◌, ◌||◌, nat_lt, slice_get, Some, IfSome, Bool, true, false, cond, fold, option_map}
 use Rattle.std.proofs.lemmas.Option.{slice_get-map, slice_get-get_or}
 use Rattle.std.proofs.lemmas.List.{take-map, take-append-drop}
 use Rattle.std.proofs.lemmas.List.Elements.{All-nil, All-cons, All-head, All-tail, All-drop, Contains-append_right, Contains-get_or}

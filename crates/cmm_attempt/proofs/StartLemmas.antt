@@ -10,7 +10,6 @@ use Rattle.seize.specs.declared.kind.SeizeResult.{SeizeResult}
 use Rattle.wire.specs.declared.message.Body.{Body}
 use Rattle.wire.specs.declared.message.Body.TheVariants as body
 use Rattle.wire.specs.declared.message.Message.{Message}
-use Rattle.cmm_attempt.specs.declared.attached.AttachedDevice.{AttachedDevice}
 use Rattle.cmm_attempt.specs.declared.promised.Promised.{Promised}
 use Rattle.cmm_attempt.specs.declared.promised.Shown.{Shown}
 use Rattle.cmm_attempt.specs.declared.seizing.Seizing.{Seizing}
@@ -18,17 +17,17 @@ use Rattle.cmm_attempt.specs.declared.counting.BothVotes.{BothVotes}
 use Rattle.cmm_attempt.specs.declared.phase.Phase.{Phase}
 use Rattle.cmm_attempt.specs.declared.phase.Phase.TheVariants.{Collecting, Choosing, SeizingVotes, SeizingOthers, Installing, Over}
 use Rattle.cmm_attempt.specs.declared.step.Step.{Step}
-use Rattle.cmm_attempt.specs.declared.step.Step.TheVariants.{NeedVotes, InstallHere, StartHere, Ended}
+use Rattle.cmm_attempt.specs.declared.step.Step.TheVariants.{InstallHere, StartHere}
 use Rattle.cmm_attempt.specs.declared.step.AttemptEnd.{AttemptEnd}
 use Rattle.cmm_attempt.specs.declared.step.AttemptEnd.TheVariants.{Silent, Superseded, Excluded}
 use Rattle.cmm_attempt.specs.Plans.{others_of}
 use Rattle.cmm_attempt.specs.Promises.{promised_by, shown_by, is_ready, newest_shown, is_left_out}
 use Rattle.cmm_attempt.specs.Seizings.{with_result, all_settled, awaits, held_set, next_by, request, request_for, with_next, result_of}
 use Rattle.cmm_attempt.specs.Counts.{is_short, first_short, short_pending, reached_set, votes_end}
-use Rattle.cmm_attempt.specs.Installs.{send_install, send_start, send_collect}
-use Rattle.cmm_attempt.specs.Attempts.{AttemptState, Turn, with_steps, waits, ends, is_over, has_readied, is_unready, is_missing_in, is_missing, silent_others, all_ready, starting, install_in, installs, in_phase, installed, installing, plain_devices, asked_plain, seizing_others, ended_by, shortage_under, shortage, counted_by, counting, settled_in, proceeding, settled, asked_next, next_asked, answered_on, answering, answering_in, asked_votes, vote_entries_under, vote_entries, seizing_votes, possible, voted, voting, chosen, chosen_by, choosing, all_promised, collects, first_state, promises_of, begun, beginning, awaits_promise, gathered, with_promise, promising, awaits_ready, readying, is_of, taken, taking, own_readying_in, own_readying, own_answering, again_in, silenced, ticked, later, ticking, IsPromiseOf, FitsKeys, HasFewKeys, promise_from, ready_from}
-use Rattle.cmm_attempt.specs.Laws.{Call, Take, With_votes, Own_seized, Own_ready, Tick, turn, May, Run, end_in, starts_in, wish_in, IsMajorityPending, HasVotes, IsStarted, IsExcluded, IsShort, ShowsPromise, IsSilent, FallsSilent, HasCause, IsNewest, EndsHaveCauses, StartsAreCounted, WishesAreNewest, FirstWishIsNewest, EndsOnce, IsThenOver}
-use Rattle.cmm_attempt.proofs.QuietLemmas.{none_some, false_true, same_some, if_either, IsQuiet, quiet_none, quiet_cons, quiet_sends, quiet_request, quiet_requests, quiet_again}
+use Rattle.cmm_attempt.specs.Installs.{send_start}
+use Rattle.cmm_attempt.specs.Attempts.{AttemptState, Turn, with_steps, waits, ends, is_over, is_missing, all_ready, starting, install_in, installs, in_phase, installed, installing, plain_devices, asked_plain, seizing_others, ended_by, shortage_under, shortage, counted_by, counting, settled_in, proceeding, settled, asked_next, next_asked, answered_on, answering, answering_in, asked_votes, vote_entries, seizing_votes, possible, voting, chosen, chosen_by, choosing, all_promised, collects, first_state, promises_of, begun, beginning, awaits_promise, gathered, with_promise, promising, awaits_ready, readying, is_of, taken, taking, own_readying_in, own_readying, own_answering, again_in, silenced, ticked, later, ticking}
+use Rattle.cmm_attempt.specs.Laws.{Call, Take, With_votes, Own_seized, Own_ready, Tick, turn, Run, starts_in, IsMajorityPending, HasVotes, IsStarted, StartsAreCounted, EndsOnce}
+use Rattle.cmm_attempt.proofs.QuietLemmas.{none_some, false_true, if_either, IsQuiet, quiet_none, quiet_cons, quiet_request, quiet_requests}
 use Rattle.cmm_attempt.proofs.CauseLemmas.{if_with, quiet_installs, quiet_collects, quiet_again_in}
 
 -- The votes that were given are enough with the devices that were counted.

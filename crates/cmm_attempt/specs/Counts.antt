@@ -7,7 +7,7 @@ use Rattle.quorum_votes.specs.declared.state.DevState.TheVariants.{Absent, Enabl
 use Rattle.quorum_votes.specs.Tables.{VoteTable}
 use Rattle.quorum_votes.specs.Votes.{state_of, device_at, held_of, needed_of}
 use Rattle.seize.specs.declared.kind.SeizeResult.{SeizeResult}
-use Rattle.seize.specs.declared.kind.SeizeResult.TheVariants.{Held, NotRegistered, Greater, Expelled, Contended, Fault}
+use Rattle.seize.specs.declared.kind.SeizeResult.TheVariants.{Held}
 use Rattle.cmm_attempt.specs.declared.attached.AttachedDevice.{AttachedDevice}
 use Rattle.cmm_attempt.specs.declared.plan.Plan.{Plan}
 use Rattle.cmm_attempt.specs.declared.promised.Promised.{Promised}

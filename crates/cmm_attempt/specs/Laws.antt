@@ -14,8 +14,7 @@ use Rattle.cmm_attempt.specs.declared.attached.AttachedDevice.{AttachedDevice}
 use Rattle.cmm_attempt.specs.declared.promised.Promised.{Promised}
 use Rattle.cmm_attempt.specs.declared.promised.Shown.{Shown}
 use Rattle.cmm_attempt.specs.declared.counting.BothVotes.{BothVotes}
-use Rattle.cmm_attempt.specs.declared.phase.Phase.{Phase}
-use Rattle.cmm_attempt.specs.declared.phase.Phase.TheVariants.{Collecting, Choosing, SeizingVotes, SeizingOthers, Installing, Over}
+use Rattle.cmm_attempt.specs.declared.phase.Phase.TheVariants.{Choosing, Over}
 use Rattle.cmm_attempt.specs.declared.step.Step.{Step}
 use Rattle.cmm_attempt.specs.declared.step.Step.TheVariants.{Send, SeizeHere, NeedVotes, InstallHere, StartHere, Ended}
 use Rattle.cmm_attempt.specs.declared.step.AttemptEnd.{AttemptEnd}
@@ -24,7 +23,7 @@ use Rattle.cmm_attempt.specs.Promises.{newest_shown, is_left_out}
 use Rattle.cmm_attempt.specs.declared.seizing.Seizing.{Seizing}
 use Rattle.cmm_attempt.specs.Seizings.{held_set, is_held_by, awaits}
 use Rattle.cmm_attempt.specs.Counts.{first_short, reached_set, votes_end}
-use Rattle.cmm_attempt.specs.Attempts.{AttemptState, Turn, waits, all_promised, all_ready, is_missing, is_over, beginning, taking, voting, own_answering, own_readying, ticking}
+use Rattle.cmm_attempt.specs.Attempts.{AttemptState, Turn, waits, all_promised, all_ready, is_missing, beginning, taking, voting, own_answering, own_readying, ticking}
 
 -- The calls on an attempt.
 

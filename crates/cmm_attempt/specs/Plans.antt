@@ -1,5 +1,5 @@
 -- What an attempt is of, and lists of its members.
-use Rattle.std.specs.Prelude.{ℕ, ◌+◌, ◌==◌, ◌++◌, ◌∷◌, Bool, not, true, zero, suc, List, [], filter, if◌then◌else◌}
+use Rattle.std.specs.Prelude.{ℕ, ◌+◌, ◌==◌, ◌++◌, ◌∷◌, Bool, not, zero, suc, List, [], filter, if◌then◌else◌}
 use Rattle.std.specs.List.{list_any}
 use Rattle.cl_base.specs.Sets.{has}
 use Rattle.cmm_attempt.specs.declared.attached.AttachedDevice.{AttachedDevice}

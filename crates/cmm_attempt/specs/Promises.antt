@@ -1,5 +1,5 @@
 -- What the members' Promises show: their records, the devices valid to them, and whether resources have flags there.
-use Rattle.std.specs.Prelude.{ℕ, ◌+◌, ◌==◌, ◌&&◌, ◌||◌, Bool, true, false, not, nat_lt, List, [], ◌∷◌, Option, Some, None, length, option_map, fold, if◌then◌else◌}
+use Rattle.std.specs.Prelude.{ℕ, ◌+◌, ◌==◌, ◌&&◌, ◌||◌, Bool, true, false, not, nat_lt, List, [], ◌∷◌, Option, Some, None, length, fold, if◌then◌else◌}
 use Rattle.std.specs.List.{list_any}
 use Rattle.cl_base.specs.Sets.{has}
 use Rattle.ccr_commit.specs.declared.summary.Summary.{Summary}

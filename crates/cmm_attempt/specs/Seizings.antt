@@ -1,6 +1,6 @@
 -- Which member seizes a device, which is asked next, and how it ended.
-use Rattle.std.specs.Prelude.{ℕ, ◌+◌, ◌*◌, ◌^◌, ◌==◌, ◌&&◌, Bool, true, false, not, List, [], ◌∷◌, Option, Some, None, is_none, is_some, fold, if◌then◌else◌}
-use Rattle.std.specs.List.{list_any, list_all, find, filter_map}
+use Rattle.std.specs.Prelude.{ℕ, ◌+◌, ◌*◌, ◌^◌, ◌==◌, ◌&&◌, Bool, true, false, not, List, [], Option, Some, None, is_none, is_some, fold, if◌then◌else◌}
+use Rattle.std.specs.List.{list_any, list_all, find}
 use Rattle.cl_base.specs.Sets.{has, set_with}
 use Rattle.seize.specs.declared.kind.SeizeKind.{SeizeKind}
 use Rattle.seize.specs.declared.kind.SeizeKind.TheVariants.{Vote, Plain}

@@ -1,8 +1,8 @@
-ghost use Rattle.std.specs.Prelude.{◌≡◌, ◌↔◌, IsTrue, ◌≤◌, ◌%◌, ◌&&◌, ◌==◌, ◌∷◌, [], not, true, map, filter, find, IfOk, Some};
-ghost use Rattle.std.specs.List.{list_any, list_all, filter_map};
+ghost use Rattle.std.specs.Prelude.{◌≡◌, ◌↔◌, IsTrue, ◌%◌, ◌&&◌, ◌==◌, ◌∷◌, [], not, true, map, filter, find, IfOk, Some};
+ghost use Rattle.std.specs.List.{list_any};
 ghost use Rattle.std.specs.Option.{option_copied};
 ghost use Rattle.cl_base.specs.Sets.{has};
-ghost use Rattle.cmm_attempt.specs.Promises.{has_promised, promised_by, shown_by, is_left_out};
+ghost use Rattle.cmm_attempt.specs.Promises.{promised_by, shown_by, is_left_out};
 ghost use Rattle.cmm_attempt.specs.Seizings.{awaits, awaits_from, with_result, with_next, result_of};
 ghost use Rattle.cmm_attempt.specs.declared.phase.Phase.TheVariants.{Choosing};
 ghost use Rattle.cmm_attempt.specs.declared.counting.BothVotes.{BothVotes};

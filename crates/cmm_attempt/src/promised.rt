@@ -1,6 +1,6 @@
 ghost use Rattle.std.specs.Prelude.{◌≡◌, IfOk, map, option_map, slice_get};
 ghost use Rattle.cl_base.specs.Sets.{has};
-ghost use Rattle.cmm_attempt.specs.Promises.{shown_by, promised_by, has_promised, holds_valid, is_newer, newest_shown, is_left_out_by, is_left_out};
+ghost use Rattle.cmm_attempt.specs.Promises.{shown_by, promised_by, has_promised, holds_valid, newest_shown, is_left_out_by, is_left_out};
 
 use ccr_commit::{Summary, newest};
 use cl_base::{DevId, DevSet, NodeId};

@@ -1,9 +1,9 @@
-ghost use Rattle.std.specs.Prelude.{◌≡◌, IfOk, Some, None, map, filter, find};
+ghost use Rattle.std.specs.Prelude.{◌≡◌, IfOk, Some, None, map, find};
 ghost use Rattle.std.specs.List.{filter_map};
 ghost use Rattle.std.specs.Option.{option_copied};
 ghost use Rattle.cmm_attempt.specs.Plans.{others_of};
 ghost use Rattle.cmm_attempt.specs.Promises.{is_from};
-ghost use Rattle.cmm_attempt.specs.Seizings.{reading_of, request_for, again_for};
+ghost use Rattle.cmm_attempt.specs.Seizings.{request_for, again_for};
 ghost use Rattle.cmm_attempt.specs.Installs.{committed_in, pending_in, install_by, install_of, send_collect, send_install, send_start};
 
 use crate::copying::{copy_install, copy_pending, copy_texts};

@@ -1,6 +1,3 @@
-use Rattle.std.proofs.Common.{◌≡◌, ℕ, Some, List}
-use Rattle.wire.specs.declared.message.Message.{Message}
-use Rattle.cmm_attempt.specs.declared.attached.AttachedDevice.{AttachedDevice}
 use Rattle.cmm_attempt.specs.Laws.{FirstWishIsNewest, FirstWishWaits}
 use Rattle.cmm_attempt.specs.Attempts.{beginning, first_state, promises_of}
 use Rattle.cmm_attempt.specs.Promises.{promised_by, shown_by}

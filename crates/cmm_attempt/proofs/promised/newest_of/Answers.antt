@@ -1,6 +1,5 @@
 use Rattle.std.proofs.Common.{◌≡◌, ℕ, ◌<◌, List, length, map, subst, ◌∙◌}
 use Rattle.std.proofs.lemmas.List.{length-map}
-use Rattle.ccr_commit.specs.declared.summary.Summary.{Summary}
 use Rattle.cmm_attempt.specs.declared.promised.Promised.{Promised}
 use Rattle.cmm_attempt.proofs.NewestLemmas.{summary_of, FindsNewest, FindsFirst, newest_is}
 use Rattle.cmm_attempt.proofs.promised.newest_of.Goals as goal
