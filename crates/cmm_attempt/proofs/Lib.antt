@@ -1,0 +1,5 @@
+pub mod CauseLemmas
+pub mod HeldLemmas
+pub mod NewestLemmas
+pub mod QuietLemmas
+pub mod StartLemmas

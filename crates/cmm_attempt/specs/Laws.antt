@@ -1,0 +1,218 @@
+-- What every attempt keeps to: each end has its cause, and a membership starts only with every answer and enough votes.
+use Rattle.std.specs.Prelude.{ℕ, ◌+◌, ◌≡◌, ◌<◌, ◌≤◌, ◌⊎◌, Bool, true, false, List, [], ◌∷◌, Option, Some, None, IsSome, ◌==◌, ◌&&◌, All, Contains}
+use Rattle.std.specs.List.{find, list_any}
+use Rattle.ccr_commit.specs.Newest.{IsNewer, IsAsNew}
+use Rattle.quorum_votes.specs.Tables.{VoteTable}
+use Rattle.quorum_votes.specs.Votes.{held_of, needed_of}
+use Rattle.quorum_votes.specs.Quorum.{IsMajority}
+use Rattle.seize.specs.declared.kind.SeizeResult.{SeizeResult}
+use Rattle.wire.specs.declared.message.SeizedResult.TheVariants as told
+use Rattle.wire.specs.declared.message.Body.{Body}
+use Rattle.wire.specs.declared.message.Body.TheVariants as body
+use Rattle.wire.specs.declared.message.Message.{Message}
+use Rattle.cmm_attempt.specs.declared.attached.AttachedDevice.{AttachedDevice}
+use Rattle.cmm_attempt.specs.declared.promised.Promised.{Promised}
+use Rattle.cmm_attempt.specs.declared.promised.Shown.{Shown}
+use Rattle.cmm_attempt.specs.declared.counting.BothVotes.{BothVotes}
+use Rattle.cmm_attempt.specs.declared.phase.Phase.TheVariants.{Choosing, Over}
+use Rattle.cmm_attempt.specs.declared.step.Step.{Step}
+use Rattle.cmm_attempt.specs.declared.step.Step.TheVariants.{Send, SeizeHere, NeedVotes, InstallHere, StartHere, Ended}
+use Rattle.cmm_attempt.specs.declared.step.AttemptEnd.{AttemptEnd}
+use Rattle.cmm_attempt.specs.declared.step.AttemptEnd.TheVariants.{Votes, Superseded, Silent, Excluded}
+use Rattle.cmm_attempt.specs.Promises.{newest_shown, is_left_out}
+use Rattle.cmm_attempt.specs.declared.seizing.Seizing.{Seizing}
+use Rattle.cmm_attempt.specs.Seizings.{held_set, is_held_by, awaits}
+use Rattle.cmm_attempt.specs.Counts.{first_short, reached_set, votes_end}
+use Rattle.cmm_attempt.specs.Attempts.{AttemptState, Turn, waits, all_promised, all_ready, is_missing, beginning, taking, voting, own_answering, own_readying, ticking}
+
+-- The calls on an attempt.
+
+pub data Call : Type 0 where
+  Take : (from : ℕ) (m : Message) → Call
+  With_votes : (both : BothVotes) → Call
+  Own_seized : (d : ℕ) (r : SeizeResult) → Call
+  Own_ready : Call
+  Tick : Call
+
+abbrev pub turn : AttemptState → Call → Turn
+turn s (Take from m) = taking s from m
+turn s (With_votes both) = voting s both
+turn s (Own_seized d r) = own_answering s d r
+turn s Own_ready = own_readying s
+turn s Tick = ticking s
+
+-- votes are given where they were asked for
+abbrev pub May : AttemptState → Call → Type 0
+May s (With_votes both) = s.phase ≡ Choosing
+May s (Take from m) = Unit {0}
+May s (Own_seized d r) = Unit {0}
+May s Own_ready = Unit {0}
+May s Tick = Unit {0}
+
+-- these calls lead from s to t
+abbrev pub Run : AttemptState → List Call → AttemptState → Type 0
+Run s [] t = t ≡ s
+Run s (c ∷ calls) t = May s c × Run (turn s c).after calls t
+
+-- What is among steps: an end, a start, a wish for the votes under a node's record.
+
+abbrev pub end_in : List Step → Option AttemptEnd
+end_in [] = None
+end_in (Ended e ∷ steps) = Some e
+end_in (Send to message ∷ steps) = end_in steps
+end_in (SeizeHere d kind ∷ steps) = end_in steps
+end_in (NeedVotes n ∷ steps) = end_in steps
+end_in (InstallHere i ∷ steps) = end_in steps
+end_in (StartHere ∷ steps) = end_in steps
+
+abbrev pub starts_in : List Step → Bool
+starts_in [] = false
+starts_in (StartHere ∷ steps) = true
+starts_in (Ended e ∷ steps) = starts_in steps
+starts_in (Send to message ∷ steps) = starts_in steps
+starts_in (SeizeHere d kind ∷ steps) = starts_in steps
+starts_in (NeedVotes n ∷ steps) = starts_in steps
+starts_in (InstallHere i ∷ steps) = starts_in steps
+
+abbrev pub wish_in : List Step → Option ℕ
+wish_in [] = None
+wish_in (NeedVotes n ∷ steps) = Some n
+wish_in (Ended e ∷ steps) = wish_in steps
+wish_in (Send to message ∷ steps) = wish_in steps
+wish_in (SeizeHere d kind ∷ steps) = wish_in steps
+wish_in (InstallHere i ∷ steps) = wish_in steps
+wish_in (StartHere ∷ steps) = wish_in steps
+
+-- A membership starts.
+
+-- the members and these devices are a majority under the committed votes, and under the pending ones where there are such
+abbrev pub IsMajorityPending : Option VoteTable → ℕ → ℕ → Type 0
+IsMajorityPending None members devices = Unit {0}
+IsMajorityPending (Some v) members devices = IsMajority v members devices
+
+abbrev pub HasVotes : Option BothVotes → ℕ → ℕ → Type 0
+HasVotes None members devices = ⊥
+HasVotes (Some both) members devices = IsMajority both.committed members devices × IsMajorityPending both.pending members devices
+
+-- The coordinator's own part is done, each other member's Ready was taken, and the members with the devices that were counted
+-- are a majority under each of the votes that were given.
+pub record IsStarted (s : AttemptState) : Type 0 where
+  pub own : s.own_ready ≡ true
+  pub ready : all_ready s ≡ true
+  pub votes : HasVotes s.votes s.plan.members s.counted
+
+-- An attempt ends.
+
+-- all have promised, and the least member that was left out by the newest record is n
+pub record IsExcluded (s : AttemptState) (n : ℕ) : Type 0 where
+  pub newest : Shown
+  pub all : all_promised s ≡ true
+  pub is_newest : newest_shown s.promises ≡ Some newest
+  pub least : find (is_left_out newest s.promises) s.plan.nodes ≡ Some n
+
+-- the votes v are the first of those given under which too few are held
+pub record IsShort (s : AttemptState) (e : AttemptEnd) : Type 0 where
+  pub both : BothVotes
+  pub devices : ℕ
+  pub v : VoteTable
+  pub given : s.votes ≡ Some both
+  pub of : (devices ≡ reached_set s.plan) ⊎ (devices ≡ held_set s.devices)
+  pub short : first_short both s.plan.members devices ≡ Some v
+  pub below : held_of v s.plan.members devices < needed_of v
+  pub is : e ≡ votes_end s.plan s.devices devices v
+
+-- the message says that its sender promised q
+abbrev pub ShowsPromise : AttemptState → Call → ℕ → Type 0
+ShowsPromise s (Take from m) q = m.body ≡ body.Nack s.plan.epoch q
+ShowsPromise s (With_votes both) q = ⊥
+ShowsPromise s (Own_seized d r) q = ⊥
+ShowsPromise s Own_ready q = ⊥
+ShowsPromise s Tick q = ⊥
+
+-- it is the eighth tick of the phase or a later one, and the least member whose answer is missing is n
+pub record IsSilent (s : AttemptState) (n : ℕ) : Type 0 where
+  pub late : 8 ≤ s.ticks + 1
+  pub least : find (is_missing s) s.plan.nodes ≡ Some n
+
+abbrev pub FallsSilent : AttemptState → Call → ℕ → Type 0
+FallsSilent s Tick n = IsSilent s n
+FallsSilent s (Take from m) n = ⊥
+FallsSilent s (With_votes both) n = ⊥
+FallsSilent s (Own_seized d r) n = ⊥
+FallsSilent s Own_ready n = ⊥
+
+-- why a call ends an attempt so, s being the attempt before it and t after it
+abbrev pub HasCause : AttemptState → Call → AttemptState → AttemptEnd → Type 0
+HasCause s c t (Votes have need lacking) = IsShort t (Votes have need lacking)
+HasCause s c t (Superseded q) = ShowsPromise s c q
+HasCause s c t (Silent n) = FallsSilent s c n
+HasCause s c t (Excluded n) = IsExcluded t n
+
+-- A device is held.
+
+-- the seizing of device d has ended held
+abbrev pub is_held_in : List Seizing → ℕ → Bool
+is_held_in devices d = list_any (λ e. (e.attached.device == d) && is_held_by e.result) devices
+
+-- the answer of this node on device d was awaited
+abbrev pub WasAsked : AttemptState → ℕ → ℕ → Type 0
+WasAsked s d n = IsSome (find (awaits d n) s.devices)
+
+-- a Seized of epoch p says that device d is held
+abbrev pub SaysHeld : ℕ → ℕ → Body → Type 0
+SaysHeld p d (body.Seized epoch device (told.Held keys)) = (epoch ≡ p) × (device ≡ d)
+SaysHeld p d _ = ⊥
+
+-- the call says that device d is held, and comes from the node that was asked to seize it
+abbrev pub TellsHeld : AttemptState → Call → ℕ → Type 0
+TellsHeld s (Take from m) d = SaysHeld s.plan.epoch d m.body × WasAsked s d from
+TellsHeld s (Own_seized device r) d = (device ≡ d) × (is_held_by (Some r) ≡ true) × WasAsked s d s.plan.coordinator
+TellsHeld s (With_votes both) d = ⊥
+TellsHeld s Own_ready d = ⊥
+TellsHeld s Tick d = ⊥
+
+-- The newest record.
+
+-- n is the node of a Promise that was taken, and none shows a newer record
+pub record IsNewest (s : AttemptState) (n : ℕ) : Type 0 where
+  pub best : Promised
+  pub node : best.shown.summary.node ≡ n
+  pub taken : Contains s.promises best
+  pub none_newer : All (λ p. IsNewer best.shown.summary p.shown.summary ⊎ IsAsNew best.shown.summary p.shown.summary) s.promises
+
+-- The laws.
+
+abbrev pub EndsHaveCauses : Type 0
+EndsHaveCauses = (s : AttemptState) (c : Call) (e : AttemptEnd) → end_in (turn s c).steps ≡ Some e → HasCause s c (turn s c).after e
+
+abbrev pub StartsAreCounted : Type 0
+StartsAreCounted = (p members : ℕ) (own : Message) (attached : List AttachedDevice) (cluster : ℕ) (calls : List Call) (s : AttemptState) (c : Call)
+    → Run (beginning p members own attached cluster).after calls s → May s c → starts_in (turn s c).steps ≡ true → IsStarted (turn s c).after
+
+abbrev pub HeldIsTold : Type 0
+HeldIsTold = (s : AttemptState) (c : Call) (d : ℕ) → is_held_in (turn s c).after.devices d ≡ true
+    → (is_held_in s.devices d ≡ true) ⊎ TellsHeld s c d
+
+abbrev pub WishesAreNewest : Type 0
+WishesAreNewest = (s : AttemptState) (c : Call) (n : ℕ) → wish_in (turn s c).steps ≡ Some n → IsNewest (turn s c).after n
+
+abbrev pub FirstWishIsNewest : Type 0
+FirstWishIsNewest = (p members : ℕ) (own : Message) (attached : List AttachedDevice) (cluster n : ℕ)
+    → wish_in (beginning p members own attached cluster).steps ≡ Some n → IsNewest (beginning p members own attached cluster).after n
+
+-- after the wish for the votes they may be given
+abbrev pub WishesWait : Type 0
+WishesWait = (s : AttemptState) (c : Call) (n : ℕ) → wish_in (turn s c).steps ≡ Some n → (turn s c).after.phase ≡ Choosing
+
+abbrev pub FirstWishWaits : Type 0
+FirstWishWaits = (p members : ℕ) (own : Message) (attached : List AttachedDevice) (cluster n : ℕ)
+    → wish_in (beginning p members own attached cluster).steps ≡ Some n → (beginning p members own attached cluster).after.phase ≡ Choosing
+
+-- once it has ended or started, no call does anything
+abbrev pub EndsOnce : Type 0
+EndsOnce = (s : AttemptState) (c : Call) → s.phase ≡ Over → May s c → turn s c ≡ waits s
+
+-- an end or a start is the last that an attempt gives
+abbrev pub IsThenOver : Type 0
+IsThenOver = (s : AttemptState) (c : Call) (e : AttemptEnd)
+    → (end_in (turn s c).steps ≡ Some e) ⊎ (starts_in (turn s c).steps ≡ true) → (turn s c).after.phase ≡ Over

@@ -1,0 +1,7 @@
+pub mod Attempts
+pub mod Counts
+pub mod Installs
+pub mod Laws
+pub mod Plans
+pub mod Promises
+pub mod Seizings

@@ -1,0 +1,27 @@
+//! An attempt of a node to form a membership: what its coordinator does next, from the votes, the
+//! answers of the members and the ticks of its clock alone.
+#![tactic(auto)]
+
+mod attached;
+mod attempt;
+mod copying;
+mod counting;
+mod laws;
+mod phase;
+mod plan;
+mod promised;
+mod seizing;
+mod sending;
+mod step;
+#[cfg(test)]
+mod tests;
+
+pub use attached::{AttachedDevice, AttachedDevices};
+pub use attempt::Attempt;
+pub use counting::BothVotes;
+pub use laws::attempts_keep;
+pub use phase::{Phase, Readied};
+pub use plan::{Nodes, Plan};
+pub use promised::{Promised, Shown};
+pub use seizing::Seizing;
+pub use step::{AttemptEnd, Lack, Lacking, Obstacle, Step, Steps};
