@@ -1,5 +1,5 @@
 -- A device becomes held only by the word of the node that was asked to seize it.
-use Rattle.std.proofs.Common.{◌≡◌, ℕ, ◌+◌, ◌⊎◌, inl, inr, List, [], ◌∷◌, ◌++◌, length, map, refl, sym, ap, subst, ◌∙◌}
+use Rattle.std.proofs.Common.{◌≡◌, ℕ, ◌⊎◌, inl, inr, List, [], ◌∷◌, ◌++◌, length, map, refl, sym, ap, subst, ◌∙◌}
 use Rattle.std.specs.Prelude.{◌==◌, ◌&&◌, ◌||◌, nat_le, Bool, true, false, not, Option, Some, None, IsSome, is_none, if◌then◌else◌}
 use Rattle.std.specs.List.{find, filter_map, cons_option}
 use Rattle.std.proofs.lemmas.List.Folds.{list_any-append}
@@ -24,8 +24,7 @@ use Rattle.cmm_attempt.specs.Seizings.{all_settled, awaits, held_set, is_held_by
 use Rattle.cmm_attempt.specs.Counts.{is_quorum, reached_set, vote_new}
 use Rattle.cmm_attempt.specs.Installs.{send_start}
 use Rattle.cmm_attempt.specs.Attempts.{AttemptState, Turn, with_steps, waits, is_over, is_missing, all_ready, starting, in_phase, installed, installing, plain_devices, seizing_others, shortage, counted_by, counting, settled_in, proceeding, settled, asked_next, next_asked, answered_on, answering, answering_in, asked_votes, vote_entries_under, vote_entries, seizing_votes, possible, voting, chosen, chosen_by, choosing, all_promised, awaits_promise, with_promise, promising, awaits_ready, readying, is_of, taken, taking, own_readying_in, own_readying, own_answering, again_in, silenced, ticked, later, ticking}
-use Rattle.cmm_attempt.specs.Laws.{is_held_in, WasAsked, SaysHeld, HeldIsTold, Take, With_votes, Own_seized, Own_ready, Tick, turn}
-use Rattle.seize.specs.declared.kind.SeizeResult.TheVariants.{Held, NotRegistered, Greater, Expelled, Contended, Fault}
+use Rattle.cmm_attempt.specs.Laws.{is_held_in, WasAsked, SaysHeld, HeldIsTold, Take, With_votes, Own_seized, Own_ready, Tick}
 use Rattle.wire.specs.declared.message.SeizedResult.{SeizedResult}
 use Rattle.wire.specs.declared.message.SeizedResult.TheVariants as told
 use Rattle.cmm_attempt.specs.declared.plan.Plan.{Plan}

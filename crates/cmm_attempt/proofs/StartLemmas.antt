@@ -26,8 +26,9 @@ use Rattle.cmm_attempt.specs.Seizings.{with_result, all_settled, awaits, held_se
 use Rattle.cmm_attempt.specs.Counts.{is_short, first_short, short_pending, reached_set, votes_end}
 use Rattle.cmm_attempt.specs.Installs.{send_start}
 use Rattle.cmm_attempt.specs.Attempts.{AttemptState, Turn, with_steps, waits, ends, is_over, is_missing, all_ready, starting, install_in, installs, in_phase, installed, installing, plain_devices, asked_plain, seizing_others, ended_by, shortage_under, shortage, counted_by, counting, settled_in, proceeding, settled, asked_next, next_asked, answered_on, answering, answering_in, asked_votes, vote_entries, seizing_votes, possible, voting, chosen, chosen_by, choosing, all_promised, collects, first_state, promises_of, begun, beginning, awaits_promise, gathered, with_promise, promising, awaits_ready, readying, is_of, taken, taking, own_readying_in, own_readying, own_answering, again_in, silenced, ticked, later, ticking}
-use Rattle.cmm_attempt.specs.Laws.{Call, Take, With_votes, Own_seized, Own_ready, Tick, turn, Run, starts_in, IsMajorityPending, HasVotes, IsStarted, StartsAreCounted, EndsOnce}
+use Rattle.cmm_attempt.specs.Laws.{Call, Take, With_votes, Own_seized, Own_ready, Tick, turn, Run, starts_in, IsMajorityPending, HasVotes, CountsHeld, IsStarted, StartsAreCounted, EndsOnce}
 use Rattle.cmm_attempt.proofs.QuietLemmas.{none_some, false_true, if_either, IsQuiet, quiet_none, quiet_cons, quiet_request, quiet_requests}
+use Rattle.cmm_attempt.proofs.StillHeld.{counts_now, counts_appended, counts_with_result, counts_with_next}
 use Rattle.cmm_attempt.proofs.CauseLemmas.{if_with, quiet_installs, quiet_collects, quiet_again_in}
 
 -- The votes that were given are enough with the devices that were counted.
@@ -56,25 +57,44 @@ majorities both members devices h =
     if_none both.committed (short_pending both.pending members devices) (is_short both.committed members devices) h in
     (majority both.committed members devices two.0, majority_pending both.pending members devices two.1)
 
--- In the phases after the count the votes were enough; while quorum devices are seized the votes are there.
+-- In the phases after the count the votes were enough, with devices that were held then and still are; while quorum devices are seized the
+-- votes are there.
 
 abbrev pub HasGiven : Option BothVotes → Type 0
 HasGiven None = ⊥
 HasGiven (Some both) = Unit {0}
 
-abbrev pub SoundIn : Option BothVotes → ℕ → ℕ → Phase → Type 0
-SoundIn votes members devices Collecting = Unit {0}
-SoundIn votes members devices Choosing = Unit {0}
-SoundIn votes members devices SeizingVotes = HasGiven votes
-SoundIn votes members devices SeizingOthers = HasVotes votes members devices
-SoundIn votes members devices Installing = HasVotes votes members devices
-SoundIn votes members devices Over = Unit {0}
+abbrev pub SoundIn : Option BothVotes → ℕ → ℕ → List Seizing → Phase → Type 0
+SoundIn votes members counted devices Collecting = Unit {0}
+SoundIn votes members counted devices Choosing = Unit {0}
+SoundIn votes members counted devices SeizingVotes = HasGiven votes
+SoundIn votes members counted devices SeizingOthers = HasVotes votes members counted × CountsHeld counted devices
+SoundIn votes members counted devices Installing = HasVotes votes members counted × CountsHeld counted devices
+SoundIn votes members counted devices Over = Unit {0}
 
 abbrev pub Sound : AttemptState → Type 0
-Sound s = SoundIn s.votes s.plan.members s.counted s.phase
+Sound s = SoundIn s.votes s.plan.members s.counted s.devices s.phase
 
 abbrev Enough : AttemptState → Type 0
-Enough s = HasVotes s.votes s.plan.members s.counted
+Enough s = HasVotes s.votes s.plan.members s.counted × CountsHeld s.counted s.devices
+
+sound_results : (votes : Option BothVotes) (members counted : ℕ) (devices : List Seizing) (d : ℕ) (r : SeizeResult) (phase : Phase)
+    → SoundIn votes members counted devices phase → SoundIn votes members counted (map (with_result d r) devices) phase
+sound_results votes members counted devices d r Collecting sound = tt
+sound_results votes members counted devices d r Choosing sound = tt
+sound_results votes members counted devices d r SeizingVotes sound = sound
+sound_results votes members counted devices d r SeizingOthers sound = (sound.0, counts_with_result counted devices d r sound.1)
+sound_results votes members counted devices d r Installing sound = (sound.0, counts_with_result counted devices d r sound.1)
+sound_results votes members counted devices d r Over sound = tt
+
+sound_next : (votes : Option BothVotes) (members counted : ℕ) (devices : List Seizing) (d n : ℕ) (phase : Phase)
+    → SoundIn votes members counted devices phase → SoundIn votes members counted (map (with_next d n) devices) phase
+sound_next votes members counted devices d n Collecting sound = tt
+sound_next votes members counted devices d n Choosing sound = tt
+sound_next votes members counted devices d n SeizingVotes sound = sound
+sound_next votes members counted devices d n SeizingOthers sound = (sound.0, counts_with_next counted devices d n sound.1)
+sound_next votes members counted devices d n Installing sound = (sound.0, counts_with_next counted devices d n sound.1)
+sound_next votes members counted devices d n Over sound = tt
 
 pub record IsKept (t : Turn) : Type 0 where
   pub sound : Sound t.after
@@ -101,7 +121,7 @@ kept_start : (s : AttemptState) → Enough s → (s.own_ready && all_ready s) �
     → IsKept (with_steps (record s { phase = Over }) (StartHere ∷ map (send_start s.plan) (others_of s.plan)))
 kept_start s enough h = record {
   sound = tt;
-  start = λ _. record { own = and_left s.own_ready (all_ready s) h; ready = and_right s.own_ready (all_ready s) h; votes = enough };
+  start = λ _. record { own = and_left s.own_ready (all_ready s) h; ready = and_right s.own_ready (all_ready s) h; votes = enough.0; devices = enough.1 };
 }
 
 kept_starting : (s : AttemptState) → Enough s → Sound s → IsKept (starting s)
@@ -122,7 +142,8 @@ kept_plain s more enough =
     if_either IsKept (length more == 0) (installing s)
     (with_steps (record (in_phase s SeizingOthers) { devices = s.devices ++ more }) (filter_map (request_for s.plan) more))
     (kept_installing s enough)
-    (kept_quiet (record (in_phase s SeizingOthers) { devices = s.devices ++ more }) (filter_map (request_for s.plan) more) (quiet_requests s.plan more) enough)
+    (kept_quiet (record (in_phase s SeizingOthers) { devices = s.devices ++ more }) (filter_map (request_for s.plan) more) (quiet_requests s.plan more)
+    (enough.0, counts_appended s.counted s.devices more enough.1))
 
 kept_others : (s : AttemptState) → Enough s → IsKept (seizing_others s)
 unfolding seizing_others
@@ -140,13 +161,13 @@ enough_under s devices (Some both) given h = enough_by s devices both (first_sho
 kept_counted : (s : AttemptState) → HasGiven s.votes → (o : Option AttemptEnd) → shortage s (held_set s.devices) ≡ o → IsKept (counted_by s o)
 kept_counted s given (Some e) h = kept_ends s e
 kept_counted s given None h =
-    kept_others (record s { counted = held_set s.devices }) (enough_under s (held_set s.devices) s.votes given h)
+    kept_others (record s { counted = held_set s.devices }) (enough_under s (held_set s.devices) s.votes given h, counts_now s.devices)
 
 kept_counting : (s : AttemptState) → HasGiven s.votes → IsKept (counting s)
 unfolding counting
 kept_counting s given = kept_counted s given (shortage s (held_set s.devices)) refl
 
-kept_settled_in : (s : AttemptState) (phase : Phase) → s.phase ≡ phase → Sound s → SoundIn s.votes s.plan.members s.counted phase → IsKept (settled_in s phase)
+kept_settled_in : (s : AttemptState) (phase : Phase) → s.phase ≡ phase → Sound s → SoundIn s.votes s.plan.members s.counted s.devices phase → IsKept (settled_in s phase)
 kept_settled_in s SeizingVotes is whole sound = kept_counting s sound
 kept_settled_in s SeizingOthers is whole sound = kept_installing s sound
 kept_settled_in s Collecting is whole sound = kept_waits s whole
@@ -161,13 +182,15 @@ kept_proceeding s sound =
 
 kept_settled : (s : AttemptState) (d : ℕ) (r : SeizeResult) → Sound s → IsKept (settled s d r)
 unfolding settled
-kept_settled s d r sound = kept_proceeding (record s { devices = map (with_result d r) s.devices }) sound
+kept_settled s d r sound =
+    kept_proceeding (record s { devices = map (with_result d r) s.devices }) (sound_results s.votes s.plan.members s.counted s.devices d r s.phase sound)
 
 kept_asked_next : (s : AttemptState) (d : ℕ) (kind : SeizeKind) (n : ℕ) → Sound s → IsKept (asked_next s d kind n)
 unfolding asked_next
 kept_asked_next s d kind n sound =
     kept_quiet (record s { devices = map (with_next d n) s.devices; ticks = 0 }) (request s.plan kind d n ∷ [])
-    (quiet_cons (request s.plan kind d n) [] (quiet_request s.plan kind d n) quiet_none) sound
+    (quiet_cons (request s.plan kind d n) [] (quiet_request s.plan kind d n) quiet_none)
+    (sound_next s.votes s.plan.members s.counted s.devices d n s.phase sound)
 
 kept_next : (s : AttemptState) (d : ℕ) (r : SeizeResult) (e : Seizing) (o : Option ℕ) → Sound s → IsKept (next_asked s d r e o)
 kept_next s d r e None sound = kept_settled s d r sound
@@ -195,11 +218,11 @@ kept_asked_votes s given sound =
     if_either IsKept (all_settled s.devices) (counting s) (with_steps s (filter_map (request_for s.plan) s.devices))
     (kept_counting s given) (kept_quiet s (filter_map (request_for s.plan) s.devices) (quiet_requests s.plan s.devices) sound)
 
-kept_seizing_votes : (s : AttemptState) → HasGiven s.votes → Sound s → IsKept (seizing_votes s)
+kept_seizing_votes : (s : AttemptState) → HasGiven s.votes → Sound (record s { devices = vote_entries s }) → IsKept (seizing_votes s)
 unfolding seizing_votes
 kept_seizing_votes s given sound = kept_asked_votes (record s { devices = vote_entries s }) given sound
 
-kept_possible : (s : AttemptState) (o : Option AttemptEnd) → HasGiven s.votes → Sound s → IsKept (possible s o)
+kept_possible : (s : AttemptState) (o : Option AttemptEnd) → HasGiven s.votes → Sound (record s { devices = vote_entries s }) → IsKept (possible s o)
 kept_possible s (Some e) given sound = kept_ends s e
 kept_possible s None given sound = kept_seizing_votes s given sound
 
@@ -238,7 +261,7 @@ kept_promising s from m sound =
     if_either IsKept (awaits_promise s from s.phase) (with_promise s (promised_by m (shown_by from m.body))) (waits s)
     (kept_promise s (promised_by m (shown_by from m.body)) sound) (kept_waits s sound)
 
-enough_ready : (s : AttemptState) (from : ℕ) (phase : Phase) → awaits_ready s from phase ≡ true → SoundIn s.votes s.plan.members s.counted phase → Enough s
+enough_ready : (s : AttemptState) (from : ℕ) (phase : Phase) → awaits_ready s from phase ≡ true → SoundIn s.votes s.plan.members s.counted s.devices phase → Enough s
 enough_ready s from Installing h sound = sound
 enough_ready s from Collecting h sound = absurd (false_true h)
 enough_ready s from Choosing h sound = absurd (false_true h)
@@ -255,7 +278,7 @@ kept_readying s from m sound =
     (λ e. kept_starting t (enough_ready s from s.phase (and_left (awaits_ready s from s.phase) (is_ready m.body) e) sound) sound)
     (kept_waits s sound)
 
-kept_own_ready : (s : AttemptState) (phase : Phase) → Sound s → SoundIn s.votes s.plan.members s.counted phase → IsKept (own_readying_in s phase)
+kept_own_ready : (s : AttemptState) (phase : Phase) → Sound s → SoundIn s.votes s.plan.members s.counted s.devices phase → IsKept (own_readying_in s phase)
 kept_own_ready s Installing whole sound = kept_starting (record s { own_ready = true }) sound whole
 kept_own_ready s Collecting whole sound = kept_waits s whole
 kept_own_ready s Choosing whole sound = kept_waits s whole

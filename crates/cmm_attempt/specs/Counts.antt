@@ -1,7 +1,7 @@
 -- Which devices have votes, and whether a membership has enough of them.
 use Rattle.std.specs.Prelude.{ℕ, ◌==◌, ◌&&◌, ◌||◌, Bool, true, false, nat_lt, List, Option, Some, None, fold, if◌then◌else◌}
 use Rattle.std.specs.List.{find, filter_map}
-use Rattle.cl_base.specs.Sets.{has, set_with}
+use Rattle.cl_base.specs.Sets.{set_with}
 use Rattle.quorum_votes.specs.declared.state.DevState.{DevState}
 use Rattle.quorum_votes.specs.declared.state.DevState.TheVariants.{Absent, Enabled, Disabled}
 use Rattle.quorum_votes.specs.Tables.{VoteTable}

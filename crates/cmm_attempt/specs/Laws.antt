@@ -94,12 +94,23 @@ abbrev pub HasVotes : Option BothVotes → ℕ → ℕ → Type 0
 HasVotes None members devices = ⊥
 HasVotes (Some both) members devices = IsMajority both.committed members devices × IsMajorityPending both.pending members devices
 
+-- the seizing of device d has ended held
+abbrev pub is_held_in : List Seizing → ℕ → Bool
+is_held_in devices d = list_any (λ e. (e.attached.device == d) && is_held_by e.result) devices
+
+-- the devices that were counted are those that were held then, and each of them is still held
+pub record CountsHeld (counted : ℕ) (devices : List Seizing) : Type 0 where
+  pub before : List Seizing
+  pub set : counted ≡ held_set before
+  pub still : (d : ℕ) → is_held_in before d ≡ true → is_held_in devices d ≡ true
+
 -- The coordinator's own part is done, each other member's Ready was taken, and the members with the devices that were counted
 -- are a majority under each of the votes that were given.
 pub record IsStarted (s : AttemptState) : Type 0 where
   pub own : s.own_ready ≡ true
   pub ready : all_ready s ≡ true
   pub votes : HasVotes s.votes s.plan.members s.counted
+  pub devices : CountsHeld s.counted s.devices
 
 -- An attempt ends.
 
@@ -149,10 +160,6 @@ HasCause s c t (Silent n) = FallsSilent s c n
 HasCause s c t (Excluded n) = IsExcluded t n
 
 -- A device is held.
-
--- the seizing of device d has ended held
-abbrev pub is_held_in : List Seizing → ℕ → Bool
-is_held_in devices d = list_any (λ e. (e.attached.device == d) && is_held_by e.result) devices
 
 -- the answer of this node on device d was awaited
 abbrev pub WasAsked : AttemptState → ℕ → ℕ → Type 0
