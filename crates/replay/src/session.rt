@@ -115,12 +115,7 @@ fn is_not_built(task: Task, line: &[u8]) -> bool
 }
 
 /// Answers the first line after the header.
-fn answer_first(
-    alloc: Global,
-    task: Task,
-    head: Head,
-    line: &[u8],
-) -> Result<Answered, NoAnswer>
+fn answer_first(alloc: Global, task: Task, head: Head, line: &[u8]) -> Result<Answered, NoAnswer>
     ensures { Answers result (opened task (Some head) line.now) }
 {
     match task {
