@@ -14,7 +14,7 @@ ghost use Rattle.history.specs.Contact as contact;
 ghost use Rattle.history.specs.Contents as contents;
 ghost use Rattle.history.specs.Round.{Rounds, KeepsRound};
 ghost use Rattle.history.specs.Lines.{LinesAnswered, HasAnswer};
-ghost use Rattle.history.specs.Attempts.{HasCause, AllAccounted};
+ghost use Rattle.history.specs.Attempts.{HasCause, EndsInTime, AllAccounted};
 ghost use Rattle.history.specs.Downs.{GoesDown};
 ghost use Rattle.history.specs.Commands.{CommandIsTaken, IsAnswer};
 ghost use Rattle.history.specs.Messages.{Owes};
@@ -200,6 +200,17 @@ pub fn attempts_end()
     ensures not_held_without_cause { AllAccounted pair answers.not_held_without_cause → ⊥ }
 {}
 
+/// Answers: an attempt ends at the eighth tick after its coordinator last asked something new, where an answer is missing.
+#[tactic(auto, unfolding(cl_base::specs::Sets::has))]
+pub fn attempts_end_in_time()
+    ensures still_waiting { OfNewestEvent (EndsInTime pair) answers.still_waiting }
+    ensures silent_after_eight { OfNewestEvent (EndsInTime pair) answers.silent_after_eight }
+    ensures ended_before { OfNewestEvent (EndsInTime pair) answers.ended_before }
+    ensures installing_in_time { OfNewestEvent (EndsInTime pair) answers.installing_in_time }
+    ensures silent_and_going_on { OfNewestEvent (EndsInTime pair) answers.silent_and_going_on → ⊥ }
+    ensures installing_too_long { OfNewestEvent (EndsInTime pair) answers.installing_too_long → ⊥ }
+{}
+
 /// Answers: a node goes down for a reason that stands in the trace, and stops exactly where an armed stop falls.
 pub fn downs()
     ensures stopped_in_a_save { OfNewest GoesDown answers.stopped_in_a_save }
@@ -237,4 +248,8 @@ pub fn messages()
     ensures request_unsent { OfNewestEvent (Owes pair) answers.request_unsent → ⊥ }
     ensures doings_of_two { OfNewestEvent (Owes pair) answers.doings_of_two → ⊥ }
     ensures prepare_not_repeated { OfNewestEvent (Owes pair) answers.prepare_not_repeated → ⊥ }
+    ensures prepare_repeated { OfNewestEvent (Owes pair) answers.prepare_repeated }
+    ensures request_not_repeated { OfNewestEvent (Owes pair) answers.request_not_repeated → ⊥ }
+    ensures request_repeated { OfNewestEvent (Owes pair) answers.request_repeated }
+    ensures request_waiting { OfNewestEvent (Owes pair) answers.request_waiting }
 {}
