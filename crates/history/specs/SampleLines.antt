@@ -64,6 +64,13 @@ nothing_asked = gives 1 create_group ∷ booted
 abbrev pub tick_of_the_rounds_line : List Moment
 tick_of_the_rounds_line = ticked 1 ∷ rounds 1 1 ∷ booted
 
+-- node 2 is down
+abbrev pub delivered_to_the_down : List Moment
+delivered_to_the_down = delivered 1 1 2 ∷ line_of (event.Next 1 2) ∷ down 2 cause.Crash ∷ line_of (event.Crash 2) ∷ messages.installing
+
+abbrev pub dropped_at_the_down : List Moment
+dropped_at_the_down = dropped 1 drop_cause.Down ∷ line_of (event.Next 1 2) ∷ down 2 cause.Crash ∷ line_of (event.Crash 2) ∷ messages.installing
+
 -- ---- writes
 
 abbrev pub refused_for_a_path : List Moment

@@ -71,6 +71,8 @@ pub fn lineage()
     ensures base_of_nothing { Lineage amnesia.base_of_nothing → ⊥ }
     ensures first_with_a_base { Lineage amnesia.first_with_a_base → ⊥ }
     ensures started_twice { Lineage amnesia.started_twice → ⊥ }
+    ensures one_pending { Lineage amnesia.one_pending }
+    ensures two_pending { Lineage amnesia.two_pending → ⊥ }
 {}
 
 /// Kept: an acknowledged update stands in each greater base, at its place.
@@ -204,6 +206,8 @@ pub fn lines()
     ensures clock_of_another { OfNewestEvent (HasAnswer pair) lined.clock_of_another → ⊥ }
     ensures fault_not_armed { OfNewestEvent (HasAnswer pair) lined.fault_not_armed → ⊥ }
     ensures nothing_asked { OfNewestEvent (HasAnswer pair) lined.nothing_asked → ⊥ }
+    ensures dropped_at_the_down { OfNewestEvent (HasAnswer pair) lined.dropped_at_the_down }
+    ensures delivered_to_the_down { OfNewestEvent (HasAnswer pair) lined.delivered_to_the_down → ⊥ }
     ensures tick_of_the_rounds_line { OfNewestEvent (HasAnswer pair) lined.tick_of_the_rounds_line → ⊥ }
 {}
 
