@@ -302,3 +302,27 @@ installing_too_long =
 -- it ended in the tick before
 abbrev pub ended_before : List Moment
 ended_before = ticks 1 (ended_silent 65 2 ∷ ticks 8 asked_node_2)
+
+-- or node 1 stops in this tick
+abbrev pub stopped_instead : List Moment
+stopped_instead = stopped 1 ∷ ticks 8 asked_node_2
+
+-- the Promise came, and the Seized of a device that node 2 was asked to seize does not
+abbrev pub seizing_asked : List Moment
+seizing_asked = sent 3 1 2 (name.SeizeQuorum 1) [] ∷ delivered 2 2 1 ∷ sent 2 2 1 name.Promise [] ∷ delivered 1 1 2 ∷ ticks 5 asked_node_2
+
+abbrev pub seizing_too_long : List Moment
+seizing_too_long = ticks 8 seizing_asked
+
+-- asking once more begins nothing anew
+abbrev pub asked_once_more : List Moment
+asked_once_more = ticks 4 (sent 4 1 2 (name.SeizeQuorum 1) [] ∷ ticks 4 seizing_asked)
+
+-- the Seized came: what is awaited then is no other node's
+abbrev pub seized_in_time : List Moment
+seized_in_time = ticks 8 (delivered 5 2 1 ∷ sent 5 2 1 (name.Seized 1) [] ∷ delivered 3 1 2 ∷ seizing_asked)
+
+-- the Request has its Answer
+abbrev pub request_answered : List Moment
+request_answered =
+    ticks_of_2 1 (answered 2 1 reply.Ok ∷ delivered 5 1 2 ∷ line_of (event.Next 1 2) ∷ sent 5 1 2 (name.Answer 1) [] ∷ delivered 4 2 1 ∷ ticks_of_2 3 requesting)

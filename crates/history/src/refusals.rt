@@ -280,7 +280,11 @@ pub fn attempts_end_in_time()
     ensures silent_after_eight { OfNewestEvent (EndsInTime pair) answers.silent_after_eight }
     ensures ended_before { OfNewestEvent (EndsInTime pair) answers.ended_before }
     ensures installing_in_time { OfNewestEvent (EndsInTime pair) answers.installing_in_time }
+    ensures stopped_instead { OfNewestEvent (EndsInTime pair) answers.stopped_instead }
+    ensures seized_in_time { OfNewestEvent (EndsInTime pair) answers.seized_in_time }
     ensures silent_and_going_on { OfNewestEvent (EndsInTime pair) answers.silent_and_going_on → ⊥ }
+    ensures seizing_too_long { OfNewestEvent (EndsInTime pair) answers.seizing_too_long → ⊥ }
+    ensures asked_once_more { OfNewestEvent (EndsInTime pair) answers.asked_once_more → ⊥ }
     ensures installing_too_long { OfNewestEvent (EndsInTime pair) answers.installing_too_long → ⊥ }
 {}
 
@@ -336,6 +340,7 @@ pub fn messages()
     ensures prepare_repeated { OfNewestEvent (Owes pair) answers.prepare_repeated }
     ensures request_not_repeated { OfNewestEvent (Owes pair) answers.request_not_repeated → ⊥ }
     ensures request_repeated { OfNewestEvent (Owes pair) answers.request_repeated }
+    ensures request_answered { OfNewestEvent (Owes pair) answers.request_answered }
     ensures request_waiting { OfNewestEvent (Owes pair) answers.request_waiting }
     ensures seize_answered { OfNewestEvent (Owes pair) results.seize_answered }
     ensures seize_unanswered { OfNewestEvent (Owes pair) results.seize_sent → ⊥ }
