@@ -25,7 +25,7 @@ use Rattle.history.specs.Trace.{up, down, ticked, delivered, device, attempt, st
 use Rattle.history.specs.Order.{Always, EachEvent, since, before_last, under_way, somewhere}
 use Rattle.history.specs.Setting.{Setting, coordinator, nodes_of, numbers_to, key_of, paths_of}
 use Rattle.history.specs.Letters.{Letter, letter_of, arriving, passes, reached_since, is_letter, is_exchanged, same_name, says}
-use Rattle.history.specs.Member.{member_of, members_of, number_of, promised_to, is_promise, last_installed}
+use Rattle.history.specs.Member.{member_of, members_of, attempt_of, number_of, promised_to, is_promise, last_installed}
 use Rattle.history.specs.Starts.{starts, base_of, Start}
 use Rattle.history.specs.Seizing.{is_attempt, is_start, is_members_key}
 use Rattle.history.specs.Validated.{validity, is_valid}
@@ -301,18 +301,15 @@ is_silent S e m before =
 
 -- ---- an attempt does end at the eighth tick, where an answer is missing then
 
--- the attempt of c that neither ended nor started, while c is up
-abbrev pub attempt_under_way : ℕ → List Moment → Option ℕ
-attempt_under_way c [] = None
-attempt_under_way c (up n ∷ before) = if n == c then None else attempt_under_way c before
-attempt_under_way c (down n why ∷ before) = if n == c then None else attempt_under_way c before
-attempt_under_way c (attempt e members ∷ before) = if coordinator e == c then Some e else attempt_under_way c before
-attempt_under_way c (start e members held count ∷ before) = if coordinator e == c then None else attempt_under_way c before
-attempt_under_way c (ended_votes e have need lacking ∷ before) = if coordinator e == c then None else attempt_under_way c before
-attempt_under_way c (ended_superseded e q ∷ before) = if coordinator e == c then None else attempt_under_way c before
-attempt_under_way c (ended_silent e m ∷ before) = if coordinator e == c then None else attempt_under_way c before
-attempt_under_way c (ended_excluded e m ∷ before) = if coordinator e == c then None else attempt_under_way c before
-attempt_under_way c (_ ∷ before) = attempt_under_way c before
+-- with this the attempt e is over: it ended or started, or its coordinator went down
+abbrev pub is_over : ℕ → Moment → Bool
+is_over e (ended_votes f have need lacking) = f == e
+is_over e (ended_superseded f q) = f == e
+is_over e (ended_silent f m) = f == e
+is_over e (ended_excluded f m) = f == e
+is_over e (start f members held count) = f == e
+is_over e (down n why) = n == coordinator e
+is_over e _ = false
 
 abbrev pub is_question : MessageName → Bool
 is_question name.Collect = true
@@ -340,20 +337,21 @@ is_unanswered c moments m q = list_any (sends c m q.ask) moments && not (is_exch
 abbrev pub lacks_answer : Setting → ℕ → List ℕ → List Moment → Bool
 lacks_answer S c asked_nodes moments = list_any (λ m. list_any (is_unanswered c moments m) (questions (length S.header.devices))) asked_nodes
 
-abbrev pub ends_silent : ℕ → Moment → Bool
-ends_silent e (ended_silent f m) = f == e
-ends_silent e (down n why) = n == coordinator e
-ends_silent e _ = false
-
--- the next tick of c is the eighth, or a later one, since it last asked something new, and an answer is missing
+-- the attempt e is under way, the next tick of c is the eighth, or a later one, since c last asked something new, and an answer is missing
 abbrev pub is_overtime : Setting → ℕ → ℕ → List Moment → Bool
 is_overtime S c e before =
-    are_seven (ticks_of_phase c (since (is_attempt e) before)) && lacks_answer S c (others e (members_of e before)) (since (is_attempt e) before)
+    not (list_any (is_over e) (since (is_attempt e) before)) && are_seven (ticks_of_phase c (since (is_attempt e) before))
+    && lacks_answer S c (others e (members_of e before)) (since (is_attempt e) before)
+
+abbrev pub ends_silent_or_falls : ℕ → Moment → Bool
+ends_silent_or_falls e (ended_silent f m) = f == e
+ends_silent_or_falls e (down n why) = n == coordinator e
+ends_silent_or_falls e _ = false
 
 -- where that is so, the attempt ends silent in this tick, or c goes down in it
 abbrev pub TickEnds : Setting → List Moment → Option Event → List Moment → Type 0
 TickEnds S before (Some (Tick c)) entries =
-    IfSome (attempt_under_way c before) (λ e. is_overtime S c e before ≡ true → list_any (ends_silent e) entries ≡ true)
+    IfSome (attempt_of c before) (λ e. is_overtime S c e before ≡ true → list_any (ends_silent_or_falls e) entries ≡ true)
 TickEnds S before _ entries = Unit {0}
 
 abbrev pub EndsInTime : Setting → List Moment → Moment → List Moment → Type 0

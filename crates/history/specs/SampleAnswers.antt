@@ -326,3 +326,7 @@ seized_in_time = ticks 8 (delivered 5 2 1 ∷ sent 5 2 1 (name.Seized 1) [] ∷ 
 abbrev pub request_answered : List Moment
 request_answered =
     ticks_of_2 1 (answered 2 1 reply.Ok ∷ delivered 5 1 2 ∷ line_of (event.Next 1 2) ∷ sent 5 1 2 (name.Answer 1) [] ∷ delivered 4 2 1 ∷ ticks_of_2 3 requesting)
+
+-- it went down since, and came back: that attempt is over
+abbrev pub down_since : List Moment
+down_since = ticks 1 (up 1 ∷ line_of (event.Boot 1) ∷ down 1 cause.Crash ∷ line_of (event.Crash 1) ∷ ticks 7 asked_node_2)

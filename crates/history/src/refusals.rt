@@ -280,6 +280,7 @@ pub fn attempts_end_in_time()
     ensures silent_after_eight { OfNewestEvent (EndsInTime pair) answers.silent_after_eight }
     ensures ended_before { OfNewestEvent (EndsInTime pair) answers.ended_before }
     ensures installing_in_time { OfNewestEvent (EndsInTime pair) answers.installing_in_time }
+    ensures down_since { OfNewestEvent (EndsInTime pair) answers.down_since }
     ensures stopped_instead { OfNewestEvent (EndsInTime pair) answers.stopped_instead }
     ensures seized_in_time { OfNewestEvent (EndsInTime pair) answers.seized_in_time }
     ensures silent_and_going_on { OfNewestEvent (EndsInTime pair) answers.silent_and_going_on → ⊥ }
