@@ -84,7 +84,7 @@ holds = record {
 
 answers : Answers sample.bare sample.formed
 unfolding has number_at byte_at truth_at node_at device_at text_at devices_at items_at list_at at_most_one_at method_at outcome_at kind_at marks_at failures_at reading_at resource_at group_at report_at seized_result_at heartbeat_at collect_at promise_at nack_at install_at ready_at start_at prepare_at prepared_at request_at answer_at body_at message_at whole_of
-answers = record { lines = search; attempts = search; accounted = search; downs = search; commands = search; once = search; messages = search }
+answers = record { lines = search; attempts = search; in_time = search; accounted = search; downs = search; commands = search; once = search; messages = search }
 
 pub history : History sample.bare sample.formed
 unfolding has

@@ -10,6 +10,7 @@ use Rattle.quorum_votes.specs.Tables.{VoteTable}
 use Rattle.quorum_votes.specs.Votes.{device_at, state_of, held_of, needed_of}
 use Rattle.quorum_votes.specs.declared.state.DevState.{DevState}
 use Rattle.quorum_votes.specs.declared.state.DevState.TheVariants.{Enabled}
+use Rattle.schedule_text.specs.declared.event.Event.{Event}
 use Rattle.schedule_text.specs.declared.event.Event.TheVariants.{Tick}
 use Rattle.wire.specs.declared.message.Body.{Body}
 use Rattle.wire.specs.declared.message.Body.TheVariants as body
@@ -19,12 +20,12 @@ use Rattle.status_report.specs.declared.device_entry.DeviceAnswer.TheVariants.{G
 use Rattle.status_report.specs.declared.attempt_entry.Lack.{Lack}
 use Rattle.status_report.specs.declared.attempt_entry.LackCause.{LackCause}
 use Rattle.status_report.specs.declared.attempt_entry.LackCause.TheVariants as lack
-use Rattle.history.specs.Moment.{Moment}
-use Rattle.history.specs.Trace.{up, ticked, delivered, device, attempt, ended_votes, ended_superseded, ended_silent, ended_excluded, stopped, disk_failed, sent}
-use Rattle.history.specs.Order.{Always, since, before_last, under_way, somewhere}
+use Rattle.history.specs.Moment.{Moment, event_of}
+use Rattle.history.specs.Trace.{up, down, ticked, delivered, device, attempt, start, ended_votes, ended_superseded, ended_silent, ended_excluded, stopped, disk_failed, sent}
+use Rattle.history.specs.Order.{Always, EachEvent, since, before_last, under_way, somewhere}
 use Rattle.history.specs.Setting.{Setting, coordinator, nodes_of, numbers_to, key_of, paths_of}
 use Rattle.history.specs.Letters.{Letter, letter_of, arriving, passes, reached_since, is_letter, is_exchanged, same_name, says}
-use Rattle.history.specs.Member.{member_of, members_of, number_of, promised_to, is_promise, last_installed}
+use Rattle.history.specs.Member.{member_of, members_of, attempt_of, number_of, promised_to, is_promise, last_installed}
 use Rattle.history.specs.Starts.{starts, base_of, Start}
 use Rattle.history.specs.Seizing.{is_attempt, is_start, is_members_key}
 use Rattle.history.specs.Validated.{validity, is_valid}
@@ -297,6 +298,67 @@ is_silent S e m before =
     if m == coordinator e
     then are_eight (ticks_after (is_attempt e) m before) && nat_lt 0 (length (S.queue before m))
     else list_any (is_overdue (coordinator e) m (since (is_attempt e) before)) (questions (length S.header.devices))
+
+-- ---- an attempt does end at the eighth tick, where an answer is missing then
+
+-- with this the attempt e is over: it ended or started, or its coordinator went down
+abbrev pub is_over : ℕ → Moment → Bool
+is_over e (ended_votes f have need lacking) = f == e
+is_over e (ended_superseded f q) = f == e
+is_over e (ended_silent f m) = f == e
+is_over e (ended_excluded f m) = f == e
+is_over e (start f members held count) = f == e
+is_over e (down n why) = n == coordinator e
+is_over e _ = false
+
+abbrev pub is_question : MessageName → Bool
+is_question name.Collect = true
+is_question name.Install = true
+is_question (name.SeizeQuorum d) = true
+is_question (name.SeizeData d) = true
+is_question _ = false
+
+-- how many ticks of c came since it last asked something for the first time, in the moments of one attempt
+abbrev pub ticks_of_phase : ℕ → List Moment → Option ℕ
+ticks_of_phase c [] = None
+ticks_of_phase c (ticked n ∷ before) = if n == c then option_map (λ k. k + 1) (ticks_of_phase c before) else ticks_of_phase c before
+ticks_of_phase c (sent p a b called bytes ∷ before) =
+    if (a == c) && is_question called && not (list_any (sends c b called) before) then Some 0 else ticks_of_phase c before
+ticks_of_phase c (_ ∷ before) = ticks_of_phase c before
+
+abbrev pub are_seven : Option ℕ → Bool
+are_seven None = false
+are_seven (Some k) = nat_le 7 k
+
+-- c asked m, and no answer that was sent after it came has reached c
+abbrev pub is_unanswered : ℕ → List Moment → ℕ → Question → Bool
+is_unanswered c moments m q = list_any (sends c m q.ask) moments && not (is_exchanged q.ask q.reply c m moments)
+
+abbrev pub lacks_answer : Setting → ℕ → List ℕ → List Moment → Bool
+lacks_answer S c asked_nodes moments = list_any (λ m. list_any (is_unanswered c moments m) (questions (length S.header.devices))) asked_nodes
+
+-- the attempt e is under way, the next tick of c is the eighth, or a later one, since c last asked something new, and an answer is missing
+abbrev pub is_overtime : Setting → ℕ → ℕ → List Moment → Bool
+is_overtime S c e before =
+    not (list_any (is_over e) (since (is_attempt e) before)) && are_seven (ticks_of_phase c (since (is_attempt e) before))
+    && lacks_answer S c (others e (members_of e before)) (since (is_attempt e) before)
+
+abbrev pub ends_silent_or_falls : ℕ → Moment → Bool
+ends_silent_or_falls e (ended_silent f m) = f == e
+ends_silent_or_falls e (down n why) = n == coordinator e
+ends_silent_or_falls e _ = false
+
+-- where that is so, the attempt ends silent in this tick, or c goes down in it
+abbrev pub TickEnds : Setting → List Moment → Option Event → List Moment → Type 0
+TickEnds S before (Some (Tick c)) entries =
+    IfSome (attempt_of c before) (λ e. is_overtime S c e before ≡ true → list_any (ends_silent_or_falls e) entries ≡ true)
+TickEnds S before _ entries = Unit {0}
+
+abbrev pub EndsInTime : Setting → List Moment → Moment → List Moment → Type 0
+EndsInTime S before x entries = TickEnds S before (event_of x) entries
+
+abbrev pub AttemptsEnd : Setting → List Moment → Type 0
+AttemptsEnd S moments = EachEvent (EndsInTime S) moments
 
 -- ---- `ended e excluded m` (that m has flags, see the part on resource groups)
 

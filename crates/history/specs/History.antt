@@ -15,7 +15,7 @@ use Rattle.history.specs.Contact as contact
 use Rattle.history.specs.Contents as contents
 use Rattle.history.specs.Round.{Rounds, progress_of}
 use Rattle.history.specs.Lines.{LinesAnswered}
-use Rattle.history.specs.Attempts.{Attempts, AllAccounted}
+use Rattle.history.specs.Attempts.{Attempts, AttemptsEnd, AllAccounted}
 use Rattle.history.specs.Downs.{Downs, stop_due}
 use Rattle.history.specs.Commands.{AnswersOnce, CommandsAreTaken}
 use Rattle.history.specs.Messages.{Messages}
@@ -57,6 +57,7 @@ pub record Holds (S : Setting) (moments : List Moment) : Type 0 where
 pub record Answers (S : Setting) (moments : List Moment) : Type 0 where
   pub lines : LinesAnswered S moments
   pub attempts : Attempts S moments
+  pub in_time : AttemptsEnd S moments
   pub accounted : OfPrefixes (AllAccounted S) moments
   pub downs : Downs moments
   pub commands : CommandsAreTaken S moments

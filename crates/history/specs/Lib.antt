@@ -28,3 +28,5 @@ pub mod SampleMessages
 pub mod SampleContents
 pub mod SampleAnswers
 pub mod SampleValidity
+pub mod SampleResults
+pub mod SampleLines

@@ -1,6 +1,6 @@
 -- Answers, of messages: those that are owed stand in the event that calls for them, unless the node that owes them goes down in it; and
 -- all doings of nodes in one event are of one node.
-use Rattle.std.specs.Prelude.{◌≡◌, ℕ, ◌+◌, ◌-◌, ◌^◌, ◌==◌, ◌&&◌, ◌||◌, not, Bool, true, false, if◌then◌else◌, List, [], ◌∷◌, length, Option, Some, None, is_some}
+use Rattle.std.specs.Prelude.{◌≡◌, ℕ, ◌+◌, ◌-◌, ◌^◌, ◌==◌, ◌&&◌, ◌||◌, not, Bool, true, false, if◌then◌else◌, List, [], ◌∷◌, length, Option, Some, None, is_some, IfSome}
 use Rattle.std.specs.List.{list_any, list_all, AllByRecursion}
 use Rattle.schedule_text.specs.declared.event.Event.{Event}
 use Rattle.schedule_text.specs.declared.event.Event.TheVariants as event
@@ -189,6 +189,31 @@ RequestsOf before entries after n =
 abbrev pub EachRequest : Setting → List Moment → List Moment → List Moment → Type 0
 EachRequest S before entries after = AllByRecursion (RequestsOf before entries after) (numbers_to S.header.nodes (2 ^ 32 - 1))
 
+-- ---- a Request that lacks its Answer goes again
+
+abbrev pub is_membership_of : ℕ → Moment → Bool
+is_membership_of n (member m e) = m == n
+is_membership_of n _ = false
+
+-- the number of the last Request that n sent
+abbrev pub last_request : ℕ → List Moment → Option ℕ
+last_request n [] = None
+last_request n (sent p m b (name.Request q) bytes ∷ before) = if m == n then Some q else last_request n before
+last_request n (_ ∷ before) = last_request n before
+
+-- among the moments since n became a member under the president c: the Request went out three ticks ago, so this is the fourth, and its
+-- Answer did not come
+abbrev pub asks_again : ℕ → ℕ → Option ℕ → List Moment → List Moment → Bool
+asks_again n c None moments entries = true
+asks_again n c (Some q) moments entries =
+    not (is_fourth (ticks_since n c (name.Request q) moments)) || is_exchanged (name.Request q) (name.Answer q) n c moments
+    || sends_or_falls n c (name.Request q) entries
+
+abbrev pub RequestsAgain : List Moment → Option Event → List Moment → Type 0
+RequestsAgain before (Some (event.Tick n)) entries =
+    IfSome (member_of n before) (λ e. asks_again n (coordinator e) (last_request n (since (is_membership_of n) before)) (since (is_membership_of n) before) entries ≡ true)
+RequestsAgain before _ entries = Unit {0}
+
 -- ---- one node
 
 -- the node whose doing an entry is
@@ -239,6 +264,7 @@ pub record Owes (S : Setting) (before : List Moment) (x : Moment) (entries : Lis
   pub prepares : EachProposal before entries entries
   pub prepares_again : PreparesAgain before (event_of x) entries
   pub requests : EachRequest S before entries (onto (x ∷ before) entries)
+  pub requests_again : RequestsAgain before (event_of x) entries
   pub one_node : are_of_one None entries ≡ true
 
 abbrev pub Messages : Setting → List Moment → Type 0

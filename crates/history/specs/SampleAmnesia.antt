@@ -112,3 +112,13 @@ answered_twice = answered 1 1 answer.Ok ∷ updated
 
 abbrev pub unknown_to_a_member : List Moment
 unknown_to_a_member = answered 1 1 answer.Unknown ∷ proposed
+
+-- two updates are proposed and not acknowledged: the base may have the first, and not both
+abbrev pub two_proposed : List Moment
+two_proposed = propose 129 2 another ∷ proposed
+
+abbrev pub one_pending : List Moment
+one_pending = base 193 1 create_group ∷ start 193 3 1 1 ∷ attempt 193 3 ∷ two_proposed
+
+abbrev pub two_pending : List Moment
+two_pending = base 193 2 another ∷ base 193 1 create_group ∷ start 193 3 1 2 ∷ attempt 193 3 ∷ two_proposed

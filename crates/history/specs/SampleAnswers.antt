@@ -260,3 +260,73 @@ doings_of_two = saved 2 ∷ ticked 1 ∷ line_of (event.Tick 1) ∷ messages.for
 -- four ticks after the Prepare, which lacks its answer, nothing is sent
 abbrev pub prepare_not_repeated : List Moment
 prepare_not_repeated = ticks 4 messages.preparing
+
+-- in the fourth tick after it was sent, a Request without its Answer is not sent again, or is
+abbrev pub requesting : List Moment
+requesting = sent 4 2 1 (name.Request 1) [] ∷ asked 2 1 ∷ gives 2 create_group ∷ messages.formed
+
+abbrev pub ticks_of_2 : ℕ → List Moment → List Moment
+ticks_of_2 zero before = before
+ticks_of_2 (suc k) before = ticked 2 ∷ line_of (event.Tick 2) ∷ ticks_of_2 k before
+
+abbrev pub request_not_repeated : List Moment
+request_not_repeated = ticks_of_2 4 requesting
+
+abbrev pub request_repeated : List Moment
+request_repeated = sent 5 2 1 (name.Request 1) [] ∷ ticks_of_2 4 requesting
+
+abbrev pub request_waiting : List Moment
+request_waiting = ticks_of_2 3 requesting
+
+abbrev pub prepare_repeated : List Moment
+prepare_repeated = sent 5 1 2 (name.Prepare 1) [] ∷ ticks 4 messages.preparing
+
+-- ---- attempts that go on too long
+
+-- eight ticks after the Collect, which lacks its answer, the attempt goes on
+abbrev pub silent_and_going_on : List Moment
+silent_and_going_on = ticks 8 asked_node_2
+
+-- after seven ticks, or where the Promise came and an Install was sent since, it may
+abbrev pub still_waiting : List Moment
+still_waiting = ticks 7 asked_node_2
+
+abbrev pub installing_in_time : List Moment
+installing_in_time =
+    ticks 4 (sent 3 1 2 name.Install [] ∷ delivered 2 2 1 ∷ sent 2 2 1 name.Promise [] ∷ delivered 1 1 2 ∷ ticks 5 asked_node_2)
+
+abbrev pub installing_too_long : List Moment
+installing_too_long =
+    ticks 8 (sent 3 1 2 name.Install [] ∷ delivered 2 2 1 ∷ sent 2 2 1 name.Promise [] ∷ delivered 1 1 2 ∷ ticks 5 asked_node_2)
+
+-- it ended in the tick before
+abbrev pub ended_before : List Moment
+ended_before = ticks 1 (ended_silent 65 2 ∷ ticks 8 asked_node_2)
+
+-- or node 1 stops in this tick
+abbrev pub stopped_instead : List Moment
+stopped_instead = stopped 1 ∷ ticks 8 asked_node_2
+
+-- the Promise came, and the Seized of a device that node 2 was asked to seize does not
+abbrev pub seizing_asked : List Moment
+seizing_asked = sent 3 1 2 (name.SeizeQuorum 1) [] ∷ delivered 2 2 1 ∷ sent 2 2 1 name.Promise [] ∷ delivered 1 1 2 ∷ ticks 5 asked_node_2
+
+abbrev pub seizing_too_long : List Moment
+seizing_too_long = ticks 8 seizing_asked
+
+-- asking once more begins nothing anew
+abbrev pub asked_once_more : List Moment
+asked_once_more = ticks 4 (sent 4 1 2 (name.SeizeQuorum 1) [] ∷ ticks 4 seizing_asked)
+
+-- the Seized came: what is awaited then is no other node's
+abbrev pub seized_in_time : List Moment
+seized_in_time = ticks 8 (delivered 5 2 1 ∷ sent 5 2 1 (name.Seized 1) [] ∷ delivered 3 1 2 ∷ seizing_asked)
+
+-- the Request has its Answer
+abbrev pub request_answered : List Moment
+request_answered =
+    ticks_of_2 1 (answered 2 1 reply.Ok ∷ delivered 5 1 2 ∷ line_of (event.Next 1 2) ∷ sent 5 1 2 (name.Answer 1) [] ∷ delivered 4 2 1 ∷ ticks_of_2 3 requesting)
+
+-- it went down since, and came back: that attempt is over
+abbrev pub down_since : List Moment
+down_since = ticks 1 (up 1 ∷ line_of (event.Boot 1) ∷ down 1 cause.Crash ∷ line_of (event.Crash 1) ∷ ticks 7 asked_node_2)

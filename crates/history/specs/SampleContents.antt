@@ -150,3 +150,55 @@ prepared_so = sent 7 1 2 (name.Prepare 1) (prepare 65 1 103) ∷ propose 65 1 (1
 
 abbrev pub answered_alone : List Moment
 answered_alone = answered 2 1 answer.Ok ∷ asked 2 1 ∷ gives 2 (103 ∷ []) ∷ formed
+
+-- the base has the committed texts of the Installs, and then the pending one; or it has them the other way round
+abbrev pub installing_two : List Moment
+installing_two =
+    sent 4 1 2 name.Install (8 ∷ 1 ∷ long 65 ++ short 3 ++ only (letter 103) ++ only (letter 104) ++ none)
+    ∷ installed 1 65
+    ∷ saved 1
+    ∷ delivered 3 2 1
+    ∷ line_of (event.Next 2 1)
+    ∷ promised
+
+abbrev pub based_in_order : List Moment
+based_in_order = base 65 2 (104 ∷ []) ∷ base 65 1 (103 ∷ []) ∷ start 65 3 0 2 ∷ installing_two
+
+abbrev pub based_pending_first : List Moment
+based_pending_first = base 65 2 (103 ∷ []) ∷ base 65 1 (104 ∷ []) ∷ start 65 3 0 2 ∷ installing_two
+
+-- node 2 prepared an update in 65, and is asked for a promise of 129
+abbrev pub asked_again : List Moment
+asked_again =
+    saved 2
+    ∷ delivered 9 1 2
+    ∷ line_of (event.Next 1 2)
+    ∷ sent 9 1 2 name.Collect (2 ∷ 1 ∷ long 129 ++ short 3)
+    ∷ attempt 129 3
+    ∷ sent 8 2 1 (name.Prepared 1) []
+    ∷ saved 2
+    ∷ delivered 7 1 2
+    ∷ line_of (event.Next 1 2)
+    ∷ prepared_so
+
+abbrev pub promised_what_it_has : List Moment
+promised_what_it_has = sent 10 2 1 name.Promise (promise 2 129 65 (only (letter 103))) ∷ asked_again
+
+abbrev pub promised_less : List Moment
+promised_less = sent 10 2 1 name.Promise (promise 2 129 65 none) ∷ asked_again
+
+abbrev pub promised_unseen : List Moment
+promised_unseen = sent 10 2 1 name.Promise (promise 2 129 65 (only (letter 104))) ∷ asked_again
+
+abbrev pub promised_as_new : List Moment
+promised_as_new = sent 10 2 1 name.Promise (promise 2 129 0 none) ∷ asked_again
+
+-- a Request with the words of its command, or with others
+abbrev pub request : ℕ → List ℕ
+request b = 16 ∷ 2 ∷ long 65 ++ long 1 ++ letter b
+
+abbrev pub requested_so : List Moment
+requested_so = sent 7 2 1 (name.Request 1) (request 103) ∷ asked 2 1 ∷ gives 2 (103 ∷ []) ∷ formed
+
+abbrev pub requested_otherwise : List Moment
+requested_otherwise = sent 7 2 1 (name.Request 1) (request 104) ∷ asked 2 1 ∷ gives 2 (103 ∷ []) ∷ formed

@@ -14,7 +14,7 @@ ghost use Rattle.history.specs.Contact as contact;
 ghost use Rattle.history.specs.Contents as contents;
 ghost use Rattle.history.specs.Round.{Rounds, KeepsRound};
 ghost use Rattle.history.specs.Lines.{LinesAnswered, HasAnswer};
-ghost use Rattle.history.specs.Attempts.{HasCause, AllAccounted};
+ghost use Rattle.history.specs.Attempts.{HasCause, EndsInTime, AllAccounted};
 ghost use Rattle.history.specs.Downs.{GoesDown};
 ghost use Rattle.history.specs.Commands.{CommandIsTaken, IsAnswer};
 ghost use Rattle.history.specs.Messages.{Owes};
@@ -24,7 +24,13 @@ ghost use Rattle.history.specs.SampleAmnesia as amnesia;
 ghost use Rattle.history.specs.SampleMessages as messages;
 ghost use Rattle.history.specs.SampleContents as carried;
 ghost use Rattle.history.specs.SampleValidity as changing;
+ghost use Rattle.history.specs.History.{IsWhole};
+ghost use Rattle.history.specs.SampleOneNode.{alone};
+ghost use Rattle.history.specs.SampleContents.{bare};
 ghost use Rattle.history.specs.SampleAnswers as answers;
+ghost use Rattle.history.specs.SampleResults as results;
+ghost use Rattle.history.specs.SampleResults.{asking, wordless, working};
+ghost use Rattle.history.specs.SampleLines as lined;
 
 /// Device: a line ends `failed` exactly where a fault is armed, a later `fault` line stands in the place of an earlier one, and the
 /// device answers by what was done.
@@ -47,6 +53,10 @@ pub fn links()
     ensures dropped_with_room { OfNewest FollowsLinks messages.dropped_with_room → ⊥ }
     ensures crowded { OfNewest FollowsLinks messages.crowded → ⊥ }
     ensures crowded_and_dropped { OfNewest FollowsLinks messages.crowded_and_dropped }
+    ensures lost_twice { OfNewest FollowsLinks lined.lost_twice → ⊥ }
+    ensures dropped_for_the_pool { OfNewest FollowsLinks lined.dropped_for_the_pool → ⊥ }
+    ensures dropped_what_is_gone { OfNewest FollowsLinks lined.dropped_what_is_gone → ⊥ }
+    ensures dropped_the_newest { OfNewest FollowsLinks lined.dropped_the_newest → ⊥ }
 {}
 
 /// A start is followed by the lines of its base.
@@ -61,6 +71,8 @@ pub fn lineage()
     ensures base_of_nothing { Lineage amnesia.base_of_nothing → ⊥ }
     ensures first_with_a_base { Lineage amnesia.first_with_a_base → ⊥ }
     ensures started_twice { Lineage amnesia.started_twice → ⊥ }
+    ensures one_pending { Lineage amnesia.one_pending }
+    ensures two_pending { Lineage amnesia.two_pending → ⊥ }
 {}
 
 /// Kept: an acknowledged update stands in each greater base, at its place.
@@ -115,12 +127,16 @@ pub fn contact()
     ensures acked_elsewhere { contact.Placed amnesia.acked_elsewhere → ⊥ }
     ensures proposed_elsewhere { contact.Placed amnesia.proposed_elsewhere → ⊥ }
     ensures proposed_in_nothing { contact.Placed amnesia.proposed_in_nothing → ⊥ }
+    ensures acknowledged { OfNewest contact.IsPrepared messages.acknowledged }
     ensures acked_unprepared { OfNewest contact.IsPrepared messages.acked_unprepared → ⊥ }
     ensures member_untold { OfNewest contact.IsTold messages.member_untold → ⊥ }
     ensures member_told_too_early { OfNewest contact.IsTold messages.member_told_too_early → ⊥ }
     ensures proposed_unasked { OfNewest (contact.IsAskedFor pair) amnesia.proposed_unasked → ⊥ }
     ensures proposed_twice { OfNewest (contact.IsAskedFor pair) amnesia.proposed_twice → ⊥ }
     ensures answered_too_early { OfNewest (contact.IsAnswered pair) amnesia.answered_too_early → ⊥ }
+    ensures started_with_others { OfNewest contact.IsReady results.started_with_others → ⊥ }
+    ensures started_without_attempt { OfNewest contact.IsReady results.started_without_attempt → ⊥ }
+    ensures acked_after_an_early_answer { OfNewest contact.IsPrepared results.acked_after_an_early_answer → ⊥ }
 {}
 
 /// Contents: the bytes spell a message of the sender and of the kind that the line names.
@@ -143,6 +159,14 @@ pub fn contents()
     ensures prepared_so { OfNewest (contents.CarriesUpdate pair) carried.prepared_so }
     ensures prepared_otherwise { OfNewest (contents.CarriesUpdate pair) carried.prepared_otherwise → ⊥ }
     ensures answered_alone { OfNewest (contents.CarriesUpdate pair) carried.answered_alone → ⊥ }
+    ensures based_in_order { contents.InstallsTheBase carried.based_in_order }
+    ensures based_pending_first { contents.InstallsTheBase carried.based_pending_first → ⊥ }
+    ensures promised_what_it_has { OfNewest contents.IsRecord carried.promised_what_it_has }
+    ensures promised_less { OfNewest contents.IsRecord carried.promised_less → ⊥ }
+    ensures promised_unseen { OfNewest contents.IsRecord carried.promised_unseen → ⊥ }
+    ensures promised_as_new { OfNewest contents.IsRecord carried.promised_as_new → ⊥ }
+    ensures requested_so { OfNewest (contents.CarriesUpdate bare) carried.requested_so }
+    ensures requested_otherwise { OfNewest (contents.CarriesUpdate bare) carried.requested_otherwise → ⊥ }
 {}
 
 /// Round: all packets between its nodes, then all device commands, then the ticks, and nothing between.
@@ -152,6 +176,9 @@ pub fn rounds()
     ensures round_without_delivery { OfNewest (KeepsRound pair) messages.round_without_delivery → ⊥ }
     ensures round_cut_short { OfNewest (KeepsRound pair) messages.round_cut_short → ⊥ }
     ensures line_in_a_round { OfNewest (KeepsRound pair) messages.line_in_a_round → ⊥ }
+    ensures round_out_of_order { OfNewest (KeepsRound pair) lined.round_out_of_order → ⊥ }
+    ensures round_goes_on { OfNewest (KeepsRound pair) lined.round_goes_on → ⊥ }
+    ensures done_without_rounds { OfNewest (KeepsRound pair) lined.done_without_rounds → ⊥ }
 {}
 
 /// Answers: a line is skipped exactly where that is due, and else has its entries.
@@ -168,6 +195,32 @@ pub fn lines()
     ensures refused_as_no_member { OfNewestEvent (HasAnswer pair) answers.refused_as_no_member → ⊥ }
     ensures refused_as_not_held { OfNewestEvent (HasAnswer pair) answers.refused_as_not_held → ⊥ }
     ensures fenced_and_up { OfNewestEvent (HasAnswer pair) answers.fenced_and_up → ⊥ }
+    ensures skipped_down_but_up { OfNewestEvent (HasAnswer pair) lined.skipped_down_but_up → ⊥ }
+    ensures ticked_while_down { OfNewestEvent (HasAnswer pair) lined.ticked_while_down → ⊥ }
+    ensures skipped_with_a_packet { OfNewestEvent (HasAnswer pair) lined.skipped_with_a_packet → ⊥ }
+    ensures skipped_with_work { OfNewestEvent (HasAnswer alone) lined.skipped_with_work → ⊥ }
+    ensures worked_without_work { OfNewestEvent (HasAnswer pair) lined.worked_without_work → ⊥ }
+    ensures two_device_lines { OfNewestEvent (HasAnswer alone) lined.two_device_lines → ⊥ }
+    ensures lost_another { OfNewestEvent (HasAnswer pair) lined.lost_another → ⊥ }
+    ensures copied_another { OfNewestEvent (HasAnswer pair) lined.copied_another → ⊥ }
+    ensures clock_of_another { OfNewestEvent (HasAnswer pair) lined.clock_of_another → ⊥ }
+    ensures fault_not_armed { OfNewestEvent (HasAnswer pair) lined.fault_not_armed → ⊥ }
+    ensures nothing_asked { OfNewestEvent (HasAnswer pair) lined.nothing_asked → ⊥ }
+    ensures dropped_at_the_down { OfNewestEvent (HasAnswer pair) lined.dropped_at_the_down }
+    ensures delivered_to_the_down { OfNewestEvent (HasAnswer pair) lined.delivered_to_the_down → ⊥ }
+    ensures tick_of_the_rounds_line { OfNewestEvent (HasAnswer pair) lined.tick_of_the_rounds_line → ⊥ }
+{}
+
+/// Answers: a write is refused exactly for the reason that is due, and else comes to what the device answers.
+#[tactic(auto, unfolding(cl_base::specs::Sets::has))]
+pub fn writes()
+    ensures refused_for_a_path { OfNewestEvent (HasAnswer pair) lined.refused_for_a_path → ⊥ }
+    ensures refused_as_fenced { OfNewestEvent (HasAnswer pair) lined.refused_as_fenced → ⊥ }
+    ensures refused_for_a_fault { OfNewestEvent (HasAnswer pair) lined.refused_for_a_fault → ⊥ }
+    ensures refused_for_an_armed_fault { OfNewestEvent (HasAnswer pair) lined.refused_for_an_armed_fault }
+    ensures accepted_of_a_stranger { OfNewestEvent (HasAnswer pair) lined.accepted_of_a_stranger → ⊥ }
+    ensures accepted_without_a_path { OfNewestEvent (HasAnswer bare) lined.accepted_without_a_path → ⊥ }
+    ensures accepted_but_not_held { OfNewestEvent (HasAnswer pair) lined.accepted_but_not_held → ⊥ }
 {}
 
 /// Answers: an attempt begins in a tick of the least node that its coordinator sees, which has a reason.
@@ -200,6 +253,42 @@ pub fn attempts_end()
     ensures not_held_without_cause { AllAccounted pair answers.not_held_without_cause → ⊥ }
 {}
 
+/// Answers: each result of a device in `ended e votes` has what shows it.
+#[tactic(auto, unfolding(cl_base::specs::Sets::has, quorum_votes::specs::Sums::sum_to, cl_base::specs::Sets::set_with))]
+pub fn results()
+    ensures expelled_by_a_swap { OfNewest (HasCause pair) results.expelled_by_a_swap }
+    ensures expelled_after_reserve { OfNewest (HasCause pair) results.expelled_after_reserve }
+    ensures contended_rightly { OfNewest (HasCause pair) results.contended_rightly }
+    ensures fault_rightly { OfNewest (HasCause pair) results.fault_rightly }
+    ensures greater_rightly { OfNewest (HasCause pair) results.greater_rightly }
+    ensures not_held_for_a_fault { AllAccounted pair results.not_held_for_a_fault }
+    ensures expelled_unshown { OfNewest (HasCause pair) results.expelled_unshown → ⊥ }
+    ensures expelled_with_its_key { OfNewest (HasCause pair) results.expelled_with_its_key → ⊥ }
+    ensures contended_too_early { OfNewest (HasCause pair) results.contended_too_early → ⊥ }
+    ensures contended_by_another { OfNewest (HasCause pair) results.contended_by_another → ⊥ }
+    ensures fault_unshown { OfNewest (HasCause pair) results.fault_unshown → ⊥ }
+    ensures greater_of_a_smaller { OfNewest (HasCause pair) results.greater_of_a_smaller → ⊥ }
+    ensures not_registered_but_valid { OfNewest (HasCause pair) results.not_registered_but_valid → ⊥ }
+    ensures silent_without_a_task { OfNewest (HasCause pair) results.silent_without_a_task → ⊥ }
+    ensures superseded_by_itself { OfNewest (HasCause pair) results.superseded_by_itself → ⊥ }
+{}
+
+/// Answers: an attempt ends at the eighth tick after its coordinator last asked something new, where an answer is missing.
+#[tactic(auto, unfolding(cl_base::specs::Sets::has))]
+pub fn attempts_end_in_time()
+    ensures still_waiting { OfNewestEvent (EndsInTime pair) answers.still_waiting }
+    ensures silent_after_eight { OfNewestEvent (EndsInTime pair) answers.silent_after_eight }
+    ensures ended_before { OfNewestEvent (EndsInTime pair) answers.ended_before }
+    ensures installing_in_time { OfNewestEvent (EndsInTime pair) answers.installing_in_time }
+    ensures down_since { OfNewestEvent (EndsInTime pair) answers.down_since }
+    ensures stopped_instead { OfNewestEvent (EndsInTime pair) answers.stopped_instead }
+    ensures seized_in_time { OfNewestEvent (EndsInTime pair) answers.seized_in_time }
+    ensures silent_and_going_on { OfNewestEvent (EndsInTime pair) answers.silent_and_going_on → ⊥ }
+    ensures seizing_too_long { OfNewestEvent (EndsInTime pair) answers.seizing_too_long → ⊥ }
+    ensures asked_once_more { OfNewestEvent (EndsInTime pair) answers.asked_once_more → ⊥ }
+    ensures installing_too_long { OfNewestEvent (EndsInTime pair) answers.installing_too_long → ⊥ }
+{}
+
 /// Answers: a node goes down for a reason that stands in the trace, and stops exactly where an armed stop falls.
 pub fn downs()
     ensures stopped_in_a_save { OfNewest GoesDown answers.stopped_in_a_save }
@@ -211,6 +300,7 @@ pub fn downs()
     ensures panic_unfenced { OfNewest GoesDown answers.panic_unfenced → ⊥ }
     ensures panic_unexcluded { OfNewest GoesDown answers.panic_unexcluded → ⊥ }
     ensures crash_without_a_line { OfNewest GoesDown answers.crash_without_a_line → ⊥ }
+    ensures panic_of_the_disk { OfNewest GoesDown results.panic_of_the_disk → ⊥ }
 {}
 
 /// Answers: what a node answers by itself, and that it answers once.
@@ -222,6 +312,17 @@ pub fn commands()
     ensures full_with_room { OfNewestEvent (CommandIsTaken pair) answers.full_with_room → ⊥ }
     ensures answered_twice { OfNewest IsAnswer amnesia.answered_twice → ⊥ }
     ensures unknown_to_a_member { OfNewest IsAnswer amnesia.unknown_to_a_member → ⊥ }
+    ensures ask_at_another { OfNewestEvent (CommandIsTaken asking) results.ask_at_another }
+    ensures ask_for_no_query { OfNewestEvent (CommandIsTaken pair) results.ask_at_another → ⊥ }
+    ensures ask_at_the_president { OfNewestEvent (CommandIsTaken asking) results.ask_at_the_president → ⊥ }
+    ensures taken_at_another { OfNewestEvent (CommandIsTaken asking) results.taken_at_another → ⊥ }
+    ensures query_unanswered { OfNewestEvent (CommandIsTaken asking) results.query_unanswered → ⊥ }
+    ensures called_unknown { OfNewestEvent (CommandIsTaken pair) results.called_unknown → ⊥ }
+    ensures bad_words_taken { OfNewestEvent (CommandIsTaken wordless) results.query_unanswered → ⊥ }
+    ensures full_rightly { OfNewestEvent (CommandIsTaken pair) results.full_rightly }
+    ensures taken_when_full { OfNewestEvent (CommandIsTaken pair) results.taken_when_full → ⊥ }
+    ensures own_answer_later { OfNewest IsAnswer results.own_answer_later → ⊥ }
+    ensures answered_unasked { OfNewest IsAnswer results.answered_unasked → ⊥ }
 {}
 
 /// Answers: what is owed is sent in the event that calls for it, and the doings of an event are of one node.
@@ -237,4 +338,28 @@ pub fn messages()
     ensures request_unsent { OfNewestEvent (Owes pair) answers.request_unsent → ⊥ }
     ensures doings_of_two { OfNewestEvent (Owes pair) answers.doings_of_two → ⊥ }
     ensures prepare_not_repeated { OfNewestEvent (Owes pair) answers.prepare_not_repeated → ⊥ }
+    ensures prepare_repeated { OfNewestEvent (Owes pair) answers.prepare_repeated }
+    ensures request_not_repeated { OfNewestEvent (Owes pair) answers.request_not_repeated → ⊥ }
+    ensures request_repeated { OfNewestEvent (Owes pair) answers.request_repeated }
+    ensures request_answered { OfNewestEvent (Owes pair) answers.request_answered }
+    ensures request_waiting { OfNewestEvent (Owes pair) answers.request_waiting }
+    ensures seize_answered { OfNewestEvent (Owes pair) results.seize_answered }
+    ensures seize_unanswered { OfNewestEvent (Owes pair) results.seize_sent → ⊥ }
+    ensures seize_queued { OfNewestEvent (Owes working) results.seize_sent }
+    ensures task_reported { OfNewestEvent (Owes working) results.task_reported }
+    ensures task_unreported { OfNewestEvent (Owes working) results.task_unreported → ⊥ }
+    ensures join_reported { OfNewestEvent (Owes working) results.join_reported }
+    ensures join_unreported { OfNewestEvent (Owes working) results.join_unreported → ⊥ }
+    ensures order_answered { OfNewestEvent (Owes pair) results.order_answered }
+    ensures order_unanswered { OfNewestEvent (Owes pair) results.order_unanswered → ⊥ }
+{}
+
+/// A trace that is whole owes nothing at its end: no drop, no `base` line, no stop, and no part of a round.
+#[tactic(auto, unfolding(cl_base::specs::Sets::has))]
+pub fn whole()
+    ensures round_done { IsWhole pair messages.round_done }
+    ensures cut_before_a_drop { IsWhole pair lined.cut_before_a_drop → ⊥ }
+    ensures cut_before_a_base { IsWhole pair lined.cut_before_a_base → ⊥ }
+    ensures cut_before_a_stop { IsWhole pair lined.cut_before_a_stop → ⊥ }
+    ensures cut_in_a_round { IsWhole pair messages.round_begun → ⊥ }
 {}
