@@ -179,22 +179,39 @@ fn votes(alloc: Global) -> Result<Votes, AllocError> {
 
 /// The attempt 65 of node 1 among nodes 1, 2 and 3, with every Promise in hand.
 fn gathered(rt: &impl Abort, alloc: Global) -> Result<Attempt, Fail> {
-    let (two, three) = (NodeId::new(2)?, NodeId::new(3)?);
+    let (mut a, steps) = three_nodes(alloc)?;
+    let collect = MessageKind::Collect;
+    expect_two(rt, &steps, Short::Send(2, collect), Short::Send(3, collect))?;
+    expect_none(rt, &promised(&mut a, alloc, 2, 65)?);
+    expect_none(rt, &promised(&mut a, alloc, 3, 129)?);
+    let steps = promised(&mut a, alloc, 3, 65)?;
+    expect_one(rt, &steps, Short::NeedVotes(1))?;
+    assert_eq!(rt; a.promise_of(NodeId::new(3)?).is_some(), true);
+    Ok(a)
+}
+
+/// An attempt 65 of node 1 among three nodes.
+fn three_nodes(alloc: Global) -> Result<(Attempt, Steps), Fail> {
     let own = promise(alloc, 1, 65, 0, 0, false)?;
     let members = NodeSet::from_bits(0b111);
     let epoch = Epoch::from_number(65);
     if !members.has(NodeId::new(1)?) {
         return Err("no coordinator".into());
     }
-    let (mut a, steps) = Attempt::begin(alloc, epoch, members, own, devices(alloc)?, 42)?;
-    let collect = MessageKind::Collect;
-    expect_two(rt, &steps, Short::Send(2, collect), Short::Send(3, collect))?;
-    expect_none(rt, &a.take(two, &promise(alloc, 2, 65, 0, 0, false)?)?);
-    expect_none(rt, &a.take(three, &promise(alloc, 3, 129, 0, 0, false)?)?);
-    let steps = a.take(three, &promise(alloc, 3, 65, 0, 0, false)?)?;
-    expect_one(rt, &steps, Short::NeedVotes(1))?;
-    assert_eq!(rt; a.promise_of(three).is_some(), true);
-    Ok(a)
+    Ok(Attempt::begin(alloc, epoch, members, own, devices(alloc)?, 42)?)
+}
+
+/// A Promise of this node comes, of an empty record.
+fn promised(a: &mut Attempt, alloc: Global, from: u64, epoch: u64) -> Result<Steps, Fail> {
+    let m = promise(alloc, from, epoch, 0, 0, false)?;
+    take(a, NodeId::new(from)?, &m)
+}
+
+/// A message comes.
+fn take(a: &mut Attempt, from: NodeId, m: &Message) -> Result<Steps, Fail>
+    requires { HasFewKeys m.now.body }
+{
+    Ok(a.take(from, m)?)
 }
 
 /// The devices are seized.
@@ -202,8 +219,8 @@ fn seize(rt: &impl Abort, alloc: Global, a: &mut Attempt) -> Result<(), Fail> {
     let (two, three) = (NodeId::new(2)?, NodeId::new(3)?);
     let steps = give(a, votes(alloc)?)?;
     expect_one(rt, &steps, Short::Send(2, MessageKind::SeizeQuorum))?;
-    expect_none(rt, &a.take(three, &seized(alloc, 3, 65, 1)?)?);
-    let steps = a.take(two, &seized(alloc, 2, 65, 1)?)?;
+    expect_none(rt, &take(a, three, &seized(alloc, 3, 65, 1)?)?);
+    let steps = take(a, two, &seized(alloc, 2, 65, 1)?)?;
     expect_one(rt, &steps, Short::SeizeHere(2, SeizeKind::Plain))?;
     let held = SeizeResult::Held(KeyList::new(&[0x2a_0000_0001]));
     let steps = a.own_seized(DevId::new(2)?, held)?;
@@ -216,13 +233,13 @@ fn seize(rt: &impl Abort, alloc: Global, a: &mut Attempt) -> Result<(), Fail> {
 fn start(rt: &impl Abort, alloc: Global, a: &mut Attempt) -> Result<(), Fail> {
     let (two, three) = (NodeId::new(2)?, NodeId::new(3)?);
     expect_none(rt, &a.own_ready()?);
-    expect_none(rt, &a.take(three, &ready(alloc, 3, 65)?)?);
-    let steps = a.take(two, &ready(alloc, 2, 65)?)?;
+    expect_none(rt, &take(a, three, &ready(alloc, 3, 65)?)?);
+    let steps = take(a, two, &ready(alloc, 2, 65)?)?;
     let start = MessageKind::Start;
     let (second, third) = (Short::Send(2, start), Short::Send(3, start));
     expect_three(rt, &steps, Short::StartHere, second, third)?;
     assert_eq!(rt; a.ready_of(two).is_some(), true);
-    expect_none(rt, &a.take(two, &nack(2, 65, 130)?)?);
+    expect_none(rt, &take(a, two, &nack(2, 65, 130)?)?);
     expect_none(rt, &a.tick()?);
     Ok(())
 }
@@ -284,7 +301,10 @@ fn silence_and_resends(rt: HostRuntime) -> Result<(), Fail> {
     let alloc = rt.alloc();
     let (mut a, _) = begin(alloc, 0b111)?;
     let two = NodeId::new(2)?;
-    expect_none(&rt, &a.take(two, &promise(alloc, 2, 129, 0, 0, false)?)?);
+    expect_none(
+        &rt,
+        &take(&mut a, two, &promise(alloc, 2, 129, 0, 0, false)?)?,
+    );
     tick_quietly(&rt, &mut a, 3)?;
     expect_one(&rt, &a.tick()?, Short::Send(3, MessageKind::Collect))?;
     tick_quietly(&rt, &mut a, 3)?;
@@ -298,16 +318,16 @@ fn other_ends(rt: HostRuntime) -> Result<(), Fail> {
     let alloc = rt.alloc();
     let two = NodeId::new(2)?;
     let (mut a, _) = begin(alloc, 0b11)?;
-    expect_none(&rt, &a.take(two, &nack(2, 65, 130)?)?);
+    expect_none(&rt, &take(&mut a, two, &nack(2, 65, 130)?)?);
     expect_one(
         &rt,
-        &a.take(two, &nack(2, 129, 130)?)?,
+        &take(&mut a, two, &nack(2, 129, 130)?)?,
         Short::Superseded(130),
     )?;
 
     let (mut b, _) = begin(alloc, 0b11)?;
     let flagged = promise(alloc, 2, 129, 1, 0b10, true)?;
-    expect_one(&rt, &b.take(two, &flagged)?, Short::Excluded(2))?;
+    expect_one(&rt, &take(&mut b, two, &flagged)?, Short::Excluded(2))?;
     Ok(())
 }
 
