@@ -1,6 +1,6 @@
 //! What the definitions refuse, by small traces: each clause says of one of them that it meets the definition, or that its newest moment
 //! or event does not. A definition that refused nothing would say nothing.
-ghost use Rattle.std.specs.Prelude.{◌≡◌, [], Option, Some, None};
+ghost use Rattle.std.specs.Prelude.{◌≡◌, [], Some, None};
 ghost use Rattle.history.specs.Order.{OfNewest, OfNewestEvent};
 ghost use Rattle.history.specs.DeviceRun.{DeviceRun, IsDeviceLine};
 ghost use Rattle.history.specs.Links.{FollowsLinks};

@@ -1,4 +1,4 @@
-ghost use Rattle.std.specs.Prelude.{◌≡◌, ◌≢◌, ◌↔◌, map, None, Some};
+ghost use Rattle.std.specs.Prelude.{◌≡◌, ◌↔◌, map, None, Some};
 ghost use Rattle.std.specs.Io.KnownBytes.{Keeps};
 ghost use Rattle.std.specs.String.{string_bytes};
 ghost use Rattle.replay.specs.declared.task.Task.{Task};

@@ -1,8 +1,7 @@
 ghost use Rattle.std.specs.Prelude.{◌≡◌, Some};
 ghost use Rattle.pgr_device.specs.Allowed.{IsAllowed};
-ghost use Rattle.schedule_text.specs.Lines.{line_of};
 ghost use Rattle.schedule_text.specs.declared.header.Head.TheVariants.{Pr};
-ghost use Rattle.replay.specs.Sessions.{step, opened, checked, body, obeyed, powered, start_of_lines, is_not_built, Answers};
+ghost use Rattle.replay.specs.Sessions.{step, opened, checked, body, obeyed, powered, is_not_built, Answers};
 
 use crate::task::Task;
 use cl_base::{NodeId, NodeSet};

@@ -2,7 +2,6 @@
 use Rattle.std.specs.Prelude.{ℕ, ◌+◌, ◌==◌, nat_le, Bool, ◌&&◌, ◌||◌, if◌then◌else◌, List, ◌∷◌, length, slice_index, Option, Some, None, Result, Ok, Err, codes}
 use Rattle.std.specs.Str.{bytes_eq}
 use Rattle.pgr_device.specs.declared.command.PrCommand.{PrCommand}
-use Rattle.cl_base.specs.declared.header.Header.{Header}
 use Rattle.schedule_text.specs.declared.command_name.CommandName.{CommandName}
 use Rattle.schedule_text.specs.declared.event.Event.{Event}
 use Rattle.schedule_text.specs.declared.event.Event.TheVariants as event

@@ -1,11 +1,11 @@
 ghost use Rattle.std.specs.Prelude.{◌≡◌, ◌≤◌, ◌<◌, ◌++◌, ◌∷◌, [], ◌==◌, ◌&&◌, not, if◌then◌else◌, length, map, Ok, None, Some, IfOk, IfSome, Result, Option};
-ghost use Rattle.std.specs.List.{list_all, list_any};
+ghost use Rattle.std.specs.List.{list_all};
 ghost use Rattle.cl_base.specs.declared.header.HeaderDevice.{HeaderDevice};
 ghost use Rattle.schedule_text.specs.Allowed.{IsAllowedState, IsHeader, IsAttached};
-ghost use Rattle.schedule_text.specs.Headers.{cluster_line, cluster_step, nodes_line, nodes_step, device_line, described, numbered, attached, ascending, is_next};
+ghost use Rattle.schedule_text.specs.Headers.{cluster_line, nodes_line, device_line, described, numbered, attached, ascending, is_next};
 ghost use Rattle.schedule_text.specs.Choices.{quorum_in};
 ghost use Rattle.schedule_text.specs.HeaderAnswers.{Steps};
-ghost use Rattle.schedule_text.specs.Words.{is_decimal, decimal_in, cluster_in};
+ghost use Rattle.schedule_text.specs.Words.{is_decimal, decimal_in};
 ghost use Rattle.schedule_text.specs.declared.kind.Kind.{Kind};
 
 use crate::choice::is_quorum;

@@ -1,4 +1,4 @@
-ghost use Rattle.std.specs.Prelude.{◌≡◌, ℕ, map, IfOk};
+ghost use Rattle.std.specs.Prelude.{◌≡◌, map, IfOk};
 ghost use Rattle.pgr_device.specs.Allowed.{IsAllowed};
 ghost use Rattle.pgr_device.specs.declared.command.PrCommand.TheVariants as made;
 ghost use Rattle.schedule_text.specs.Commands.{command_of, kind_of, one_key, two_keys, kind_and_key, kind_key_and_victim, one_number, two_numbers, alone};

@@ -1,8 +1,7 @@
-ghost use Rattle.std.specs.Prelude.{◌≡◌, ◌==◌, [], ◌∷◌, ℕ, length, map, IfOk};
+ghost use Rattle.std.specs.Prelude.{◌≡◌, ◌==◌, [], ◌∷◌, map, IfOk};
 ghost use Rattle.std.specs.List.{list_all, list_any, join_with_byte};
 ghost use Rattle.schedule_text.specs.Allowed.{IsAllowedEvent, IsNode};
 ghost use Rattle.schedule_text.specs.Answers.{Tells};
-ghost use Rattle.schedule_text.specs.EventNames.{event_in};
 ghost use Rattle.schedule_text.specs.Events.{event_line, named_event, event_of, made, one_node, two_nodes, one_packet, crash_at, fault, write, command, outcome, call_in, probe, clock, rounds};
 ghost use Rattle.schedule_text.specs.Words.{is_word};
 ghost use Rattle.schedule_text.specs.declared.event.Event.TheVariants as event;

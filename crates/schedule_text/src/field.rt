@@ -1,9 +1,7 @@
-ghost use Rattle.std.specs.Prelude.{◌≡◌, ◌≤◌, ◌<◌, ◌==◌, ◌+◌, ℕ, length, map, Ok, Err, IfOk};
-ghost use Rattle.std.specs.List.{list_all, list_any};
+ghost use Rattle.std.specs.Prelude.{◌≡◌, ◌≤◌, ◌<◌, ◌==◌, ◌+◌, length, map, Ok, Err, IfOk};
 ghost use Rattle.cl_base.specs.Names.{IsName};
 ghost use Rattle.schedule_text.specs.Allowed.{IsNode, IsDevice, AreNodes, AreWithin};
 ghost use Rattle.schedule_text.specs.Fields.{rank, first_kind, both, one_of, listed, node_in, device_in, number_of, number_in, calls_in, rounds_in, second_in, resource_in, with_node, nodes_from};
-ghost use Rattle.schedule_text.specs.Words.{decimal_in, is_word};
 
 use crate::kind::Kind;
 use crate::line::SoFar;

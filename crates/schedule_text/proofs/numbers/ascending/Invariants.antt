@@ -1,4 +1,4 @@
-use Rattle.std.proofs.Common.{◌≡◌, ◌≢◌, ◌<◌, ◌≤◌, ℕ, true, map, drop}
+use Rattle.std.proofs.Common.{◌≡◌, ◌<◌, ◌≤◌, ℕ, true, map, drop}
 use Rattle.cl_base.specs.Sets.{has}
 use Rattle.schedule_text.specs.Headers.{ascending}
 use Rattle.schedule_text.specs.Words.{decimal_in}
