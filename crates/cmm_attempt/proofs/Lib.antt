@@ -4,3 +4,7 @@ pub mod NewestLemmas
 pub mod QuietLemmas
 pub mod StillHeld
 pub mod StartLemmas
+pub mod VotesAgree
+pub mod Told
+pub mod Goes
+pub mod MachineLemmas

@@ -10,6 +10,7 @@ use Rattle.seize.specs.declared.kind.SeizeResult.{SeizeResult}
 use Rattle.wire.specs.declared.message.Body.{Body}
 use Rattle.wire.specs.declared.message.Body.TheVariants as body
 use Rattle.wire.specs.declared.message.Message.{Message}
+use Rattle.cmm_attempt.specs.declared.attached.AttachedDevice.{AttachedDevice}
 use Rattle.cmm_attempt.specs.declared.promised.Promised.{Promised}
 use Rattle.cmm_attempt.specs.declared.promised.Shown.{Shown}
 use Rattle.cmm_attempt.specs.declared.seizing.Seizing.{Seizing}
@@ -317,11 +318,15 @@ sound_run : (s : AttemptState) (calls : List Call) (t : AttemptState) → Sound 
 sound_run s [] t sound run = subst Sound (sym run) sound
 sound_run s (c ∷ calls) t sound run = sound_run (turn s c).after calls t (kept_by_call s c sound).sound run.1
 
-pub starts_are_counted : StartsAreCounted
+pub sound_from : (p members : ℕ) (own : Message) (attached : List AttachedDevice) (cluster : ℕ) (calls : List Call) (s : AttemptState)
+    → Run (beginning p members own attached cluster).after calls s → Sound s
 unfolding beginning
-starts_are_counted p members own attached cluster calls s c run may h =
-    (kept_by_call s c (sound_run (beginning p members own attached cluster).after calls s
-    (kept_begun (first_state p members own attached cluster (promises_of (promised_by own (shown_by own.sender own.body)))) tt).sound run)).start h
+sound_from p members own attached cluster calls s run =
+    sound_run (beginning p members own attached cluster).after calls s
+    (kept_begun (first_state p members own attached cluster (promises_of (promised_by own (shown_by own.sender own.body)))) tt).sound run
+
+pub starts_are_counted : StartsAreCounted
+starts_are_counted p members own attached cluster calls s c run may h = (kept_by_call s c (sound_from p members own attached cluster calls s run)).start h
 
 -- Once over, no call does anything.
 

@@ -1,4 +1,5 @@
 ghost use Rattle.cmm_attempt.specs.Laws.{EndsHaveCauses, StartsAreCounted, HeldIsTold, WishesAreNewest, FirstWishIsNewest, WishesWait, FirstWishWaits, EndsOnce, IsThenOver};
+ghost use Rattle.cmm_attempt.specs.Machine.{AttemptsBegin, CallsAreTold, ToldStays, InstallsAreCounts, StartsAreReady, StartsFollow, InstallsComeFirst};
 
 /// The laws of attempts, over the definitions that the calls' contracts cite.
 ///
@@ -17,4 +18,20 @@ pub fn attempts_keep()
     ensures first_waits { FirstWishWaits }
     ensures over { IsThenOver }
     ensures once { EndsOnce }
+{}
+
+/// What attempts show of the abstract machine of memberships, on which the proof of safety stands.
+///
+/// Where the machine may begin an attempt, it has it from then on: its epoch, its members, and what they told. A call keeps this where
+/// what it tells is true, and what was told stays true whatever else happens. Then an install is a count that the machine allows,
+/// with the newest record and with majorities under its committed and its pending votes, and it carries that record;
+/// and a start comes after it, where every member is ready.
+pub fn attempts_show()
+    ensures begin { AttemptsBegin }
+    ensures told { CallsAreTold }
+    ensures stays { ToldStays }
+    ensures counts { InstallsAreCounts }
+    ensures installs { InstallsComeFirst }
+    ensures follow { StartsFollow }
+    ensures ready { StartsAreReady }
 {}
