@@ -6,5 +6,6 @@ pub mod StillHeld
 pub mod StartLemmas
 pub mod VotesAgree
 pub mod Told
+pub mod Numbered
 pub mod Goes
 pub mod MachineLemmas

@@ -31,7 +31,8 @@ use Rattle.cmm_attempt.specs.Machine.{is_member, record_in, IsAnswer, HasTold, M
 use Rattle.cmm_attempt.proofs.QuietLemmas.{none_some, false_true, same_some, or_cases, and_cases, either_of, same_number}
 use Rattle.cmm_attempt.proofs.NewestLemmas.{IsNotBehind, newest_is_taken}
 use Rattle.cmm_attempt.proofs.StartLemmas.{Sound, SoundIn, kept_by_call, sound_from}
-use Rattle.cmm_attempt.proofs.VotesAgree.{is_counted_by}
+use Rattle.cmm_attempt.proofs.VotesAgree.{counted_with_held}
+use Rattle.cmm_attempt.proofs.Numbered.{numbered_by_call}
 use Rattle.cmm_attempt.proofs.Told.{member_of_plan}
 use Rattle.cmm_attempt.proofs.Goes.{IsChosen, IsChosenIn, ChosenIn, Goes, goes_by_call, chosen_reached}
 
@@ -190,8 +191,8 @@ carries w s n h some is =
 
 -- The laws.
 
-enough_in : (s : AttemptState) → Sound s → s.phase ≡ Installing → HasVotes s.votes s.plan.members s.counted
-enough_in s sound is = (subst (SoundIn s.votes s.plan.members s.counted s.devices) is sound).0
+enough_in : (s : AttemptState) → Sound s → s.phase ≡ Installing → HasVotes s.votes s.plan.members s.counted × CountsHeld s.counted s.devices
+enough_in s sound is = subst (SoundIn s.votes s.plan.members s.counted s.devices) is sound
 
 sound_reached : (s : AttemptState) → IsReached s → Sound s
 sound_reached s r = sound_from r.p r.members r.own r.attached r.cluster r.calls s r.run
@@ -202,15 +203,15 @@ installs_are_counts S w s c i both reached may gives h given votes =
     let goes : Goes s.phase (turn s c) = goes_by_call s c may (chosen_reached s reached) in
     let here : (t.phase ≡ Installing) × (i ≡ install_in t) = goes.install i gives in
     let chosen : IsChosen t.promises t.plan.nodes t.newest = subst (ChosenIn t) here.0 goes.chosen in
-    let enough : HasVotes t.votes t.plan.members t.counted = enough_in t (kept_by_call s c (sound_reached s reached)).sound here.0 in
+    let enough : HasVotes t.votes t.plan.members t.counted × CountsHeld t.counted t.devices = enough_in t (kept_by_call s c (sound_reached s reached)).sound here.0 in
     let best : Best t t.newest = best_by t t.newest (newest_shown t.promises) refl chosen.1 in
     let newest : HasNewest w t.plan.epoch t.newest = has_newest w t t.newest h chosen.0 best in
     let carried_all : Carries w t.plan t.newest i = subst (λ x. Carries w t.plan t.newest x) (sym here.1) (carries w t t.newest h (promised w t t.newest h chosen.0 newest.of_member) refl) in
     record {
       newest = newest;
       votes =
-          is_counted_by S ((w.node t.newest).showed t.plan.epoch) both t.plan.members t.counted (w.epoch t.plan.epoch).members votes h.members
-          (subst (λ o. HasVotes o t.plan.members t.counted) given enough);
+          counted_with_held S ((w.node t.newest).showed t.plan.epoch) both t.plan.members t.counted t.devices (w.epoch t.plan.epoch).members votes h.members enough.1
+          (numbered_by_call s c reached) (subst (λ o. HasVotes o t.plan.members t.counted) given enough.0);
       entries = carried_all.entries;
       committed = carried_all.committed;
       epoch = carried_all.epoch;

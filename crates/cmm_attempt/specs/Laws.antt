@@ -98,10 +98,15 @@ HasVotes (Some both) members devices = IsMajority both.committed members devices
 abbrev pub is_held_in : List Seizing → ℕ → Bool
 is_held_in devices d = list_any (λ e. (e.attached.device == d) && is_held_by e.result) devices
 
+-- the device is among those that are to be seized
+abbrev pub is_listed_in : List Seizing → ℕ → Bool
+is_listed_in devices d = list_any (λ e. e.attached.device == d) devices
+
 -- the devices that were counted are those that were held then, and each of them is still held
 pub record CountsHeld (counted : ℕ) (devices : List Seizing) : Type 0 where
   pub before : List Seizing
   pub set : counted ≡ held_set before
+  pub listed : (d : ℕ) → is_listed_in before d ≡ true → is_listed_in devices d ≡ true
   pub still : (d : ℕ) → is_held_in before d ≡ true → is_held_in devices d ≡ true
 
 -- The coordinator's own part is done, each other member's Ready was taken, and the members with the devices that were counted

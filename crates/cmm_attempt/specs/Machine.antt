@@ -26,15 +26,11 @@ use Rattle.cmm_attempt.specs.declared.step.Step.TheVariants.{Send, SeizeHere, Ne
 use Rattle.cmm_attempt.specs.Plans.{nodes_to}
 use Rattle.cmm_attempt.specs.Promises.{shown_by, promised_by}
 use Rattle.cmm_attempt.specs.Attempts.{AttemptState, beginning, IsPromiseOf}
-use Rattle.cmm_attempt.specs.Laws.{Call, Take, With_votes, Own_seized, Own_ready, Tick, turn, May, Run, starts_in}
+use Rattle.cmm_attempt.specs.Laws.{Call, Take, With_votes, Own_seized, Own_ready, Tick, turn, May, Run, starts_in, is_held_in}
 
--- The machine has the nodes of a set, and the devices of one, as a test.
-
+-- the machine has the members of a set as a test
 abbrev pub is_member : ℕ → ℕ → Bool
 is_member members n = nat_le n 32 && has members n
-
-abbrev pub is_counted : ℕ → ℕ → Bool
-is_counted devices d = nat_le d 16 && has devices d
 
 -- the record that a Promise shows
 abbrev pub record_in : Body → Saved
@@ -107,14 +103,18 @@ installs_in (NeedVotes n ∷ steps) = installs_in steps
 installs_in (StartHere ∷ steps) = installs_in steps
 
 -- The machine may count the attempt: every member answered and the node named newest showed a record that none exceeds; the members and
--- the devices counted are a majority under its committed and under its pending votes. The install carries that record.
+-- the devices that are held are a majority under its committed and under its pending votes. The install carries that record.
 pub record IsCount (S : Setting) (w : Memberships) (s : AttemptState) (i : Install) : Type 0 where
   pub newest : HasNewest w s.plan.epoch s.newest
-  pub votes : IsCounted S ((w.node s.newest).showed s.plan.epoch) (w.epoch s.plan.epoch).members (is_counted s.counted)
+  pub votes : IsCounted S ((w.node s.newest).showed s.plan.epoch) (w.epoch s.plan.epoch).members (is_held_in s.devices)
   pub entries : i.committed ++ listed i.pending ≡ ((w.node s.newest).showed s.plan.epoch).entries
   pub committed : length i.committed ≡ ((w.node s.newest).showed s.plan.epoch).committed
   pub epoch : i.epoch ≡ s.plan.epoch
   pub members : i.members ≡ s.plan.members
+
+-- the devices of the header have the numbers from 1 to 16
+abbrev pub IsDevice : AttachedDevice → Type 0
+IsDevice a = (1 ≤ a.device) × (a.device ≤ 16)
 
 -- an attempt that began so comes to s by these calls
 pub record IsReached (s : AttemptState) : Type 0 where
@@ -123,6 +123,7 @@ pub record IsReached (s : AttemptState) : Type 0 where
   pub own : Message
   pub attached : List AttachedDevice
   pub cluster : ℕ
+  pub devices : All IsDevice attached
   pub calls : List Call
   pub run : Run (beginning p members own attached cluster).after calls s
 
