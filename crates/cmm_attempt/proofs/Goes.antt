@@ -34,7 +34,7 @@ use Rattle.cmm_attempt.proofs.CauseLemmas.{if_with, quiet_installs, quiet_collec
 
 -- Steps that ask or send give no install.
 
-abbrev IsNoInstall : Step → Type 0
+abbrev pub IsNoInstall : Step → Type 0
 IsNoInstall (Send to message) = Unit {0}
 IsNoInstall (SeizeHere d kind) = Unit {0}
 IsNoInstall (NeedVotes n) = Unit {0}
@@ -46,7 +46,7 @@ abbrev IsNoInstallMaybe : Option Step → Type 0
 IsNoInstallMaybe None = Unit {0}
 IsNoInstallMaybe (Some x) = IsNoInstall x
 
-none_cons : (x : Step) (xs : List Step) → IsNoInstall x → installs_in xs ≡ None → installs_in (x ∷ xs) ≡ None
+pub none_cons : (x : Step) (xs : List Step) → IsNoInstall x → installs_in xs ≡ None → installs_in (x ∷ xs) ≡ None
 none_cons (Send to message) xs q h = h
 none_cons (SeizeHere d kind) xs q h = h
 none_cons (NeedVotes n) xs q h = h
@@ -58,11 +58,11 @@ none_option : (o : Option Step) (xs : List Step) → IsNoInstallMaybe o → inst
 none_option None xs q h = h
 none_option (Some x) xs q h = none_cons x xs q h
 
-none_sent : (plan : Plan) (b : Body) (ns : List ℕ) → installs_in (map (send_to plan b) ns) ≡ None
+pub none_sent : (plan : Plan) (b : Body) (ns : List ℕ) → installs_in (map (send_to plan b) ns) ≡ None
 none_sent plan b [] = refl
 none_sent plan b (n ∷ ns) = none_sent plan b ns
 
-none_asked : (plan : Plan) (kind : SeizeKind) (d n : ℕ) → IsNoInstall (request plan kind d n)
+pub none_asked : (plan : Plan) (kind : SeizeKind) (d n : ℕ) → IsNoInstall (request plan kind d n)
 none_asked plan kind d n =
     if_either IsNoInstall (n == plan.coordinator) (SeizeHere d kind) (Send n (record { sender = plan.coordinator; body = request_body plan kind d })) tt tt
 
@@ -71,7 +71,7 @@ none_by plan e None (Some n) = none_asked plan e.kind e.attached.device n
 none_by plan e None None = tt
 none_by plan e (Some r) o = tt
 
-none_requests : (plan : Plan) (es : List Seizing) → installs_in (filter_map (request_for plan) es) ≡ None
+pub none_requests : (plan : Plan) (es : List Seizing) → installs_in (filter_map (request_for plan) es) ≡ None
 none_requests plan [] = refl
 none_requests plan (e ∷ es) =
     none_option (request_for plan e) (filter_map (request_for plan) es) (none_by plan e e.result e.seizer) (none_requests plan es)
@@ -87,7 +87,7 @@ none_again plan [] = refl
 none_again plan (e ∷ es) =
     none_option (again_for plan e) (filter_map (again_for plan) es) (none_again_by plan e e.result e.seizer) (none_again plan es)
 
-none_again_in : (s : AttemptState) (phase : Phase) → installs_in (again_in s phase) ≡ None
+pub none_again_in : (s : AttemptState) (phase : Phase) → installs_in (again_in s phase) ≡ None
 none_again_in s Collecting = none_sent s.plan (body.Collect s.plan.epoch s.plan.members) (silent_others s)
 none_again_in s Choosing = refl
 none_again_in s SeizingVotes = none_again s.plan s.devices

@@ -9,3 +9,4 @@ pub mod Told
 pub mod Numbered
 pub mod Goes
 pub mod MachineLemmas
+pub mod Asks

@@ -37,12 +37,12 @@ use Rattle.cmm_attempt.proofs.Told.{member_of_plan}
 use Rattle.cmm_attempt.proofs.Goes.{IsChosen, IsChosenIn, ChosenIn, Goes, goes_by_call, chosen_reached}
 
 -- what all have, the one that is found has
-of_any : {X : Type 0} (p : X → Bool) (P : X → Type 0) (Q : Type 0) (xs : List X) → list_any p xs ≡ true → All P xs → ((x : X) → p x ≡ true → P x → Q) → Q
+pub of_any : {X : Type 0} (p : X → Bool) (P : X → Type 0) (Q : Type 0) (xs : List X) → list_any p xs ≡ true → All P xs → ((x : X) → p x ≡ true → P x → Q) → Q
 of_any p P Q [] h all f = absurd (false_true h)
 of_any p P Q (x ∷ xs) h all f =
     either_of (or_cases (p x) (list_any p xs) h) (λ e. f x e (All-head P x xs all)) (λ e. of_any p P Q xs e (All-tail P x xs all) f)
 
-of_all : (f : ℕ → Bool) (n : ℕ) (ns : List ℕ) → list_all f ns ≡ true → list_any (λ m. m == n) ns ≡ true → f n ≡ true
+pub of_all : (f : ℕ → Bool) (n : ℕ) (ns : List ℕ) → list_all f ns ≡ true → list_any (λ m. m == n) ns ≡ true → f n ≡ true
 of_all f n [] all h = absurd (false_true h)
 of_all f n (m ∷ ns) all h =
     let two : (f m ≡ true) × (list_all f ns ≡ true) = and_cases (f m) (list_all f ns) all in

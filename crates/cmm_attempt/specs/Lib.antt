@@ -1,3 +1,4 @@
+pub mod Asking
 pub mod Attempts
 pub mod Counts
 pub mod Installs

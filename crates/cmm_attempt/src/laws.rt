@@ -1,5 +1,6 @@
 ghost use Rattle.cmm_attempt.specs.Laws.{EndsHaveCauses, StartsAreCounted, HeldIsTold, WishesAreNewest, FirstWishIsNewest, WishesWait, FirstWishWaits, EndsOnce, IsThenOver};
 ghost use Rattle.cmm_attempt.specs.Machine.{AttemptsBegin, CallsAreTold, ToldStays, InstallsAreCounts, StartsAreReady, StartsFollow, InstallsComeFirst};
+ghost use Rattle.cmm_attempt.specs.Asking.{DevicesBegin, CallsMove};
 
 /// The laws of attempts, over the definitions that the calls' contracts cite.
 ///
@@ -34,4 +35,13 @@ pub fn attempts_show()
     ensures installs { InstallsComeFirst }
     ensures follow { StartsFollow }
     ensures ready { StartsAreReady }
+{}
+
+/// What an attempt does at each shared device, as the device's machine has it.
+///
+/// It goes on to seize only when all have promised, asks a node only where nobody was asked before or the last one ended not registered,
+/// and counts a device as held only by the word of the node that was asked last, and any device only with its answer in hand.
+pub fn attempts_ask()
+    ensures begin { DevicesBegin }
+    ensures calls { CallsMove }
 {}
