@@ -1,13 +1,12 @@
 -- What an attempt does at one device is allowed there, and the device's machine has the attempt after it.
 use Rattle.std.proofs.Common.{◌≡◌, ℕ, ◌+◌, ◌≤◌, ◌<◌, ◌⊎◌, inl, inr, List, [], ◌∷◌, ◌++◌, length, map, zero, suc, refl, sym, ap, subst, ◌∙◌, arith}
 use Rattle.std.specs.Prelude.{All, ◌==◌, ◌&&◌, ◌||◌, nat_le, Bool, true, false, not, Option, Some, None, is_none, is_some, option_map, if◌then◌else◌}
-use Rattle.std.specs.List.{find, filter_map, cons_option, list_any, list_all}
+use Rattle.std.specs.List.{find, filter_map, cons_option, list_any}
 use Rattle.std.proofs.lemmas.List.Elements.{All-nil, All-cons, All-append}
 use Rattle.cl_base.specs.Sets.{has, set_with}
 use Rattle.cl_base.proofs.SetLemmas.{has_with, or_bit_value, has_not_zero}
-use Rattle.machine_base.specs.Put.{put}
 use Rattle.machine_base.proofs.Puts.{put_here, put_true, true_or_false}
-use Rattle.cluster_machine.specs.Cluster.{MayCome, all_after, count_at}
+use Rattle.cluster_machine.specs.Cluster.{count_at}
 use Rattle.device_machine.specs.Attempt as attempt
 use Rattle.device_machine.specs.Sharing.{Sharing, Event, Collected, Ask, AllAnswered, Allowed, after}
 use Rattle.seize.specs.declared.kind.SeizeKind.{SeizeKind}
@@ -16,7 +15,6 @@ use Rattle.seize.specs.declared.kind.SeizeResult.{SeizeResult}
 use Rattle.seize.specs.declared.kind.SeizeResult.TheVariants.{Held, NotRegistered, Greater, Expelled, Contended, Fault}
 use Rattle.wire.specs.declared.message.Body.{Body}
 use Rattle.wire.specs.declared.message.Body.TheVariants as body
-use Rattle.wire.specs.declared.message.Install.{Install}
 use Rattle.wire.specs.declared.message.Message.{Message}
 use Rattle.cmm_attempt.specs.declared.attached.AttachedDevice.{AttachedDevice}
 use Rattle.cmm_attempt.specs.declared.counting.BothVotes.{BothVotes}
@@ -31,15 +29,15 @@ use Rattle.cmm_attempt.specs.declared.step.Step.TheVariants.{NeedVotes, StartHer
 use Rattle.cmm_attempt.specs.declared.step.AttemptEnd.{AttemptEnd}
 use Rattle.cmm_attempt.specs.declared.step.AttemptEnd.TheVariants.{Silent, Superseded, Excluded}
 use Rattle.cmm_attempt.specs.Plans.{nodes_to, others_of, is_reachable}
-use Rattle.cmm_attempt.specs.Promises.{holds_valid, promised_by, shown_by, is_ready, is_promise, newest_shown, is_left_out, has_promised}
+use Rattle.cmm_attempt.specs.Promises.{holds_valid, promised_by, shown_by, is_ready, newest_shown, is_left_out, has_promised}
 use Rattle.cmm_attempt.specs.Seizings.{key_of, may_follow, may_seize, all_settled, awaits, held_set, is_asked, is_held_by, is_seized, first_seizer, vote_entry, plain_entry, plain_new, next_by, request, request_for, with_next, with_result, result_of}
 use Rattle.cmm_attempt.specs.Counts.{is_quorum, reached_set, vote_new}
 use Rattle.cmm_attempt.specs.Installs.{send_start}
-use Rattle.cmm_attempt.specs.Attempts.{AttemptState, Turn, with_steps, waits, ends, is_over, is_missing, silent_others, all_ready, starting, install_in, installs, in_phase, installing, plain_devices, asked_plain, seizing_others, shortage, counted_by, counting, settled_in, proceeding, settled, asked_next, next_asked, answered_on, answering, answering_in, asked_votes, vote_entries_under, vote_entries, seizing_votes, possible, voting, chosen, chosen_by, choosing, all_promised, collects, first_state, promises_of, begun, beginning, awaits_promise, gathered, with_promise, promising, awaits_ready, readying, is_of, taken, taking, own_readying_in, own_readying, own_answering, again_in, silenced, ticked, later, ticking, IsPromiseOf}
-use Rattle.cmm_attempt.specs.Laws.{Call, Take, With_votes, Own_seized, Own_ready, Tick, turn, May, is_held_in}
+use Rattle.cmm_attempt.specs.Attempts.{AttemptState, Turn, with_steps, waits, ends, is_over, is_missing, silent_others, all_ready, starting, in_phase, installing, plain_devices, asked_plain, seizing_others, shortage, counted_by, counting, settled_in, proceeding, settled, asked_next, next_asked, answered_on, answering, answering_in, asked_votes, vote_entries_under, vote_entries, seizing_votes, possible, voting, chosen, chosen_by, choosing, all_promised, collects, first_state, promises_of, begun, beginning, awaits_promise, gathered, with_promise, promising, awaits_ready, readying, is_of, taken, taking, own_readying_in, own_readying, own_answering, again_in, silenced, ticked, later, ticking}
+use Rattle.cmm_attempt.specs.Laws.{Take, With_votes, Own_seized, Own_ready, Tick, is_held_in}
 use Rattle.cmm_attempt.specs.Machine.{is_member, installs_in}
-use Rattle.cmm_attempt.specs.Asking.{EndedSo, TellsAt, IsToldAt, IsUnasked, IsOpen, IsFresh, is_vote, EndedAs, IsAsked, AskedBy, HasEntry, entry_of, AreApart, numbers_of, HasIn, entry_numbers, HasAttempt, DeviceHas, IsAsking, CountsAt, Moves, DevicesBegin, CallsMove}
-use Rattle.cmm_attempt.proofs.QuietLemmas.{none_some, false_true, same_some, or_cases, and_cases, either_of, same_number, if_either}
+use Rattle.cmm_attempt.specs.Asking.{EndedSo, TellsAt, IsUnasked, IsOpen, IsFresh, is_vote, EndedAs, IsAsked, AskedBy, HasEntry, entry_of, AreApart, numbers_of, HasIn, entry_numbers, HasAttempt, DeviceHas, IsAsking, CountsAt, Moves, DevicesBegin, CallsMove}
+use Rattle.cmm_attempt.proofs.QuietLemmas.{none_some, false_true, same_some, and_cases, either_of, same_number, if_either}
 use Rattle.cmm_attempt.proofs.CauseLemmas.{if_with}
 use Rattle.cmm_attempt.proofs.StillHeld.{same_attached}
 use Rattle.cmm_attempt.proofs.Told.{is_among}
@@ -75,9 +73,11 @@ found_among p (m ∷ ns) n h = by_test (found_among p ns n) (p m) refl h
   where
     itself : (n : ℕ) (b : Bool) → ((n == n) || b) ≡ true
     itself n b = grind arith
+
     or_more : (a b : Bool) → b ≡ true → (a || b) ≡ true
     or_more true b h = refl
     or_more false b h = h
+
     by_test : (find p ns ≡ Some n → (p n ≡ true) × (list_any (λ k. k == n) ns ≡ true)) → (b : Bool) → p m ≡ b → (if b then Some m else find p ns) ≡ Some n
         → (p n ≡ true) × (list_any (λ k. k == n) (m ∷ ns) ≡ true)
     by_test rest true e k =
@@ -125,8 +125,10 @@ none_listed d (x ∷ es) none p is e h = by_test (λ no. none_listed d es no p i
     or_false : (a b : Bool) → (a || b) ≡ false → (a ≡ false) × (b ≡ false)
     or_false true b k = absurd (false_true (sym k))
     or_false false b k = (refl, k)
+
     two : ((x.attached.device == d) ≡ false) × (list_any (λ y. y == d) (entry_numbers es) ≡ false)
     two = or_false (x.attached.device == d) (list_any (λ y. y == d) (entry_numbers es)) none
+
     by_test : (list_any (λ y. y == d) (entry_numbers es) ≡ false → find p es ≡ Some e → ⊥) → (b : Bool) → p x ≡ b → (if b then Some x else find p es) ≡ Some e → ⊥
     by_test rest true e' k = false_true (sym two.0 ∙ is x e')
     by_test rest false e' k = rest two.1 k
@@ -141,6 +143,7 @@ entry_found d p is (x ∷ es) apart e h = by_test (entry_found d p is es apart.1
     here rest true k lacks_it f =
         absurd (none_listed d es (subst (λ n. list_any (λ y. y == n) (entry_numbers es) ≡ false) (same_number x.attached.device d k) apart.0) p is e f)
     here rest false k lacks_it f = rest f
+
     by_test : (find p es ≡ Some e → (entry_of es d ≡ Some e) × (p e ≡ true)) → (b : Bool) → p x ≡ b → (if b then Some x else find p es) ≡ Some e
         → ((if x.attached.device == d then Some x else entry_of es d) ≡ Some e) × (p e ≡ true)
     by_test rest true k f = (rw (is x k) f, subst (λ y. p y ≡ true) (same_some x e f) k)
@@ -163,6 +166,7 @@ settled_one (x ∷ es) d e all h =
   where
     two : (is_some x.result ≡ true) × (all_settled es ≡ true)
     two = and_cases (is_some x.result) (all_settled es) all
+
     by_test : (entry_of es d ≡ Some e → is_some e.result ≡ true) → (b : Bool) → (if b then Some x else entry_of es d) ≡ Some e → is_some e.result ≡ true
     by_test rest true k = subst (λ y. is_some y.result ≡ true) (same_some x e k) two.0
     by_test rest false k = rest k
@@ -216,6 +220,7 @@ entry_new f Q made (a ∷ xs) d e h = by_option (entry_new f Q made xs d e) (f a
     by_test : (entry_of (filter_map f xs) d ≡ Some e → Q e) → (x : Seizing) → Q x → (b : Bool) → (if b then Some x else entry_of (filter_map f xs) d) ≡ Some e → Q e
     by_test rest x q true k = subst Q (same_some x e k) q
     by_test rest x q false k = rest k
+
     by_option : (entry_of (filter_map f xs) d ≡ Some e → Q e) → (o : Option Seizing) → f a ≡ o → entry_of (cons_option o (filter_map f xs)) d ≡ Some e → Q e
     by_option rest None is k = rest k
     by_option rest (Some x) is k = by_test rest x (made a x is) (x.attached.device == d) k
@@ -286,6 +291,7 @@ lacks_seized plan devices (a ∷ xs) d h = by_test (lacks_seized plan devices xs
   where
     seized : (a.device == d) ≡ true → is_seized devices a.device ≡ true
     seized e = subst (λ n. is_seized devices n ≡ true) (sym (same_number a.device d e)) h
+
     by_test : list_any (λ x. x == d) (entry_numbers (filter_map (plain_new plan devices) xs)) ≡ false → (b : Bool) → (a.device == d) ≡ b
         → list_any (λ x. x == d) (entry_numbers (filter_map (plain_new plan devices) (a ∷ xs))) ≡ false
     by_test rest true e = rw (seized e) rest
@@ -294,15 +300,18 @@ lacks_seized plan devices (a ∷ xs) d h = by_test (lacks_seized plan devices xs
 apart_append : (es more : List Seizing) → AreApart (entry_numbers es) → AreApart (entry_numbers more)
     → ((d : ℕ) → is_seized es d ≡ true → list_any (λ x. x == d) (entry_numbers more) ≡ false) → AreApart (entry_numbers (es ++ more))
 apart_append [] more h k apart = k
-apart_append (e ∷ es) more h k apart =
-    (lacks_both es e.attached.device h.0 (apart e.attached.device (itself e.attached.device (is_seized es e.attached.device))),
-    apart_append es more h.1 k (λ d is. apart d (second (e.attached.device == d) (is_seized es d) is)))
+apart_append (e ∷ es) more h k apart = (
+  lacks_both es e.attached.device h.0 (apart e.attached.device (itself e.attached.device (is_seized es e.attached.device))),
+  apart_append es more h.1 k (λ d is. apart d (second (e.attached.device == d) (is_seized es d) is)),
+)
   where
     itself : (n : ℕ) (b : Bool) → ((n == n) || b) ≡ true
     itself n b = grind arith
+
     second : (a b : Bool) → b ≡ true → (a || b) ≡ true
     second true b q = refl
     second false b q = q
+
     lacks_both : (xs : List Seizing) (d : ℕ) → list_any (λ x. x == d) (entry_numbers xs) ≡ false → list_any (λ x. x == d) (entry_numbers more) ≡ false
         → list_any (λ x. x == d) (entry_numbers (xs ++ more)) ≡ false
     lacks_both [] d p q = q
@@ -421,9 +430,10 @@ moves_installing t all s d nodes attached apart opened has settled =
       events = [];
       asking = All-nil (IsAsking s.plan.epoch all);
       allowed = tt;
-      counts =
-          (may_count t s.plan.epoch s.plan.members d s.devices held refl opened has apart settled,
-          record { nodes = nodes; attached = attached; apart = apart; has = counted_as t s.plan.epoch held });
+      counts = (
+        may_count t s.plan.epoch s.plan.members d s.devices held refl opened has apart settled,
+        record { nodes = nodes; attached = attached; apart = apart; has = counted_as t s.plan.epoch held },
+      );
     }
 
 -- The attempt sits in its seizing.
@@ -646,6 +656,7 @@ result_entry t q x r e b none asked told = by_test (e.attached.device == x) b re
       before = a.before;
       ended = told here n is;
     }
+
     by_test : (y z : Bool) → (e.attached.device == x) ≡ y → is_none e.result ≡ z → HasEntry t q (Some (if y && z then record e { result = Some r } else e))
     by_test true true here unended = by_seizer here unended e.seizer refl asked
     by_test true false here unended = asked
@@ -702,9 +713,13 @@ moves_next_entry t q all d u set n e (Some m) opened asked is unended next rest 
     let range : (1 ≤ n) × (n ≤ 32) = node_in_range set n next.member in
     let e' : Seizing = record e { seizer = Some n; asked = set_with e.asked n } in
     let v : Sharing = after t (Ask q n (is_vote e.kind)) in
-    moves_first t q all d u (Ask q n (is_vote e.kind)) refl
-    (opened.collected, opened.counted, opened.members n ∙ next.member, not_asked t q n e asked.before next.unasked,
-    inr (subst (λ k. (t.node k).past.unregistered q ≡ true) (sym asked.seizer) (next.unregistered m is), asked.kind))
+    moves_first t q all d u (Ask q n (is_vote e.kind)) refl (
+      opened.collected,
+      opened.counted,
+      opened.members n ∙ next.member,
+      not_asked t q n e asked.before next.unasked,
+      inr (subst (λ k. (t.node k).past.unregistered q ≡ true) (sym asked.seizer) (next.unregistered m is), asked.kind),
+    )
     (rest v (asked_opened t q set n (is_vote e.kind) opened)
     (asked_entry t q n e' unended (λ k h. covers_next t q n k e asked.before range.0 range.1 h)))
 
@@ -855,9 +870,10 @@ moves_chosen t all s d newest None same every h fresh =
       nodes = h.nodes;
       attached = h.attached;
       apart = h.apart;
-      has =
-          (record { collected = ap (λ a. a.collected) here; counted = ap (λ a. a.counted) here ∙ fresh.0.counted; members = λ n. ap (λ a. a.members n) here ∙ same n },
-          record { asking = ap (λ a. a.asking) here ∙ fresh.0.unasked.asking; asked = λ n. ap (λ a. a.asked n) here ∙ fresh.0.unasked.asked n });
+      has = (
+        record { collected = ap (λ a. a.collected) here; counted = ap (λ a. a.counted) here ∙ fresh.0.counted; members = λ n. ap (λ a. a.members n) here ∙ same n },
+        record { asking = ap (λ a. a.asking) here ∙ fresh.0.unasked.asking; asked = λ n. ap (λ a. a.asked n) here ∙ fresh.0.unasked.asked n },
+      );
     }))
 
 moves_chosen_by : (t : Sharing) (all : ℕ → Bool) (s : AttemptState) (d : ℕ) (o : Option Shown) → ((n : ℕ) → all n ≡ is_member s.plan.members n)
@@ -898,9 +914,12 @@ moves_promise : (t : Sharing) (all : ℕ → Bool) (s : AttemptState) (d : ℕ) 
 moves_promise t all s d None same h is told = moves_waits t all s d h
 moves_promise t all s d (Some p) same h is told =
     let fresh : Fresh t s = subst (HasIn t s.plan s.promises s.devices d) is h.has in
-    let more : Fresh t (record s { promises = s.promises ++ p ∷ [] }) =
-    (fresh.0, fresh.1, All-append (λ x. s.plan.epoch ≤ (t.node x.shown.summary.node).promised) s.promises (p ∷ []) fresh.2
-    (All-cons (λ x. s.plan.epoch ≤ (t.node x.shown.summary.node).promised) p [] (told p refl) (All-nil (λ x. s.plan.epoch ≤ (t.node x.shown.summary.node).promised)))) in
+    let more : Fresh t (record s { promises = s.promises ++ p ∷ [] }) = (
+      fresh.0,
+      fresh.1,
+      All-append (λ x. s.plan.epoch ≤ (t.node x.shown.summary.node).promised) s.promises (p ∷ []) fresh.2
+          (All-cons (λ x. s.plan.epoch ≤ (t.node x.shown.summary.node).promised) p [] (told p refl) (All-nil (λ x. s.plan.epoch ≤ (t.node x.shown.summary.node).promised))),
+    ) in
     moves_gathered t all (record s { promises = s.promises ++ p ∷ [] }) d same
     (record {
       nodes = h.nodes;

@@ -1,7 +1,7 @@
 -- From the choice on every member has promised and the newest record is named; an install is given where installing begins, and a start
 -- where it ends.
-use Rattle.std.proofs.Common.{◌≡◌, ℕ, ◌+◌, ◌≤◌, ◌⊎◌, inl, inr, List, [], ◌∷◌, ◌++◌, length, map, refl, sym, ap, subst, ◌∙◌, arith}
-use Rattle.std.specs.Prelude.{◌==◌, ◌&&◌, nat_le, Bool, true, false, not, Option, Some, None, IsSome, option_map, if◌then◌else◌}
+use Rattle.std.proofs.Common.{◌≡◌, ℕ, ◌+◌, ◌⊎◌, inl, inr, List, [], ◌∷◌, ◌++◌, length, map, refl, sym, ap, subst, ◌∙◌}
+use Rattle.std.specs.Prelude.{◌==◌, ◌&&◌, nat_le, Bool, true, not, Option, Some, None, IsSome, option_map, if◌then◌else◌}
 use Rattle.std.specs.List.{find, filter_map, list_all, cons_option}
 use Rattle.seize.specs.declared.kind.SeizeKind.{SeizeKind}
 use Rattle.seize.specs.declared.kind.SeizeResult.{SeizeResult}
@@ -9,7 +9,6 @@ use Rattle.wire.specs.declared.message.Body.{Body}
 use Rattle.wire.specs.declared.message.Body.TheVariants as body
 use Rattle.wire.specs.declared.message.Install.{Install}
 use Rattle.wire.specs.declared.message.Message.{Message}
-use Rattle.cmm_attempt.specs.declared.attached.AttachedDevice.{AttachedDevice}
 use Rattle.cmm_attempt.specs.declared.counting.BothVotes.{BothVotes}
 use Rattle.cmm_attempt.specs.declared.phase.Phase.{Phase}
 use Rattle.cmm_attempt.specs.declared.phase.Phase.TheVariants.{Collecting, Choosing, SeizingVotes, SeizingOthers, Installing, Over}
@@ -26,10 +25,10 @@ use Rattle.cmm_attempt.specs.Promises.{has_promised, promised_by, shown_by, is_r
 use Rattle.cmm_attempt.specs.Seizings.{all_settled, awaits, held_set, next_by, request, request_body, request_by, request_for, again_by, again_for, result_of}
 use Rattle.cmm_attempt.specs.Counts.{reached_set}
 use Rattle.cmm_attempt.specs.Installs.{send_to, send_start}
-use Rattle.cmm_attempt.specs.Attempts.{AttemptState, Turn, with_steps, waits, ends, is_over, is_missing, silent_others, all_ready, starting, install_in, installs, in_phase, installing, plain_devices, asked_plain, seizing_others, shortage, counted_by, counting, settled_in, proceeding, settled, asked_next, next_asked, answered_on, answering, answering_in, asked_votes, vote_entries, seizing_votes, possible, voting, chosen, chosen_by, choosing, all_promised, collects, first_state, promises_of, begun, beginning, awaits_promise, gathered, with_promise, promising, awaits_ready, readying, is_of, taken, taking, own_readying_in, own_readying, own_answering, again_in, silenced, ticked, later, ticking}
+use Rattle.cmm_attempt.specs.Attempts.{AttemptState, Turn, with_steps, waits, ends, is_over, is_missing, silent_others, all_ready, starting, install_in, in_phase, installing, plain_devices, asked_plain, seizing_others, shortage, counted_by, counting, settled_in, proceeding, settled, asked_next, next_asked, answered_on, answering, answering_in, asked_votes, vote_entries, seizing_votes, possible, voting, chosen, chosen_by, choosing, all_promised, collects, first_state, promises_of, begun, beginning, awaits_promise, gathered, with_promise, promising, awaits_ready, readying, is_of, taken, taking, own_readying_in, own_readying, own_answering, again_in, silenced, ticked, later, ticking}
 use Rattle.cmm_attempt.specs.Laws.{Call, Take, With_votes, Own_seized, Own_ready, Tick, turn, May, Run, starts_in}
 use Rattle.cmm_attempt.specs.Machine.{installs_in, IsReached}
-use Rattle.cmm_attempt.proofs.QuietLemmas.{none_some, false_true, same_some, and_cases, if_either, IsQuiet, quiet_none, quiet_cons, quiet_sends, quiet_request, quiet_requests}
+use Rattle.cmm_attempt.proofs.QuietLemmas.{none_some, false_true, same_some, and_cases, if_either, IsQuiet, quiet_none, quiet_cons, quiet_request, quiet_requests}
 use Rattle.cmm_attempt.proofs.CauseLemmas.{if_with, quiet_installs, quiet_collects, quiet_again_in}
 
 -- Steps that ask or send give no install.

@@ -10,3 +10,4 @@ pub mod Numbered
 pub mod Goes
 pub mod MachineLemmas
 pub mod Asks
+pub mod Left

@@ -1,40 +1,36 @@
 -- An install is a count that the machine allows, and a start comes where every member is ready.
-use Rattle.std.proofs.Common.{◌≡◌, ℕ, ◌+◌, ◌<◌, ◌≤◌, ◌⊎◌, inl, inr, List, [], ◌∷◌, ◌++◌, length, refl, sym, ap, subst, ◌∙◌, arith}
-use Rattle.std.specs.Prelude.{All, Contains, ◌==◌, ◌&&◌, ◌||◌, Bool, true, false, Option, Some, None, option_map}
+use Rattle.std.proofs.Common.{◌≡◌, ℕ, ◌+◌, ◌<◌, ◌≤◌, ◌⊎◌, List, [], ◌∷◌, ◌++◌, length, refl, sym, ap, subst, ◌∙◌, arith}
+use Rattle.std.specs.Prelude.{All, Contains, ◌==◌, ◌||◌, Bool, true, false, Option, Some, None, option_map}
 use Rattle.std.specs.List.{find, filter_map, list_any, list_all}
 use Rattle.std.proofs.lemmas.List.{length-append}
 use Rattle.std.proofs.lemmas.List.Elements.{All-nil, All-cons, All-head, All-tail, All-contains}
 use Rattle.ccr_commit.specs.declared.summary.Summary.{Summary}
-use Rattle.ccr_commit.specs.Newest.{IsNewer, IsAsNew}
 use Rattle.ccr_commit.specs.Entries.{listed}
 use Rattle.membership_machine.specs.Records.{Saved, IsBehind}
 use Rattle.membership_machine.specs.State.{Memberships}
-use Rattle.membership_machine.specs.Events.{HasNewest, AllReady}
+use Rattle.membership_machine.specs.Events.{HasNewest}
 use Rattle.wire.specs.declared.lists.Reading.{Reading}
 use Rattle.wire.specs.declared.message.Body.{Body}
 use Rattle.wire.specs.declared.message.Body.TheVariants as body
 use Rattle.wire.specs.declared.message.Install.{Install}
 use Rattle.wire.specs.declared.message.Message.{Message}
-use Rattle.cmm_attempt.specs.declared.counting.BothVotes.{BothVotes}
-use Rattle.cmm_attempt.specs.declared.phase.Phase.{Phase}
 use Rattle.cmm_attempt.specs.declared.phase.Phase.TheVariants.{Installing}
-use Rattle.cmm_attempt.specs.declared.phase.Readied.{Readied}
 use Rattle.cmm_attempt.specs.declared.plan.Plan.{Plan}
 use Rattle.cmm_attempt.specs.declared.promised.Promised.{Promised}
 use Rattle.cmm_attempt.specs.declared.promised.Shown.{Shown}
 use Rattle.cmm_attempt.specs.Promises.{pending_count, shown_by, promised_by, has_promised, is_from, newest_shown}
 use Rattle.cmm_attempt.specs.Seizings.{reading_of}
-use Rattle.cmm_attempt.specs.Installs.{committed_in, pending_in, install_by, install_of}
+use Rattle.cmm_attempt.specs.Installs.{committed_in, pending_in, install_by}
 use Rattle.cmm_attempt.specs.Attempts.{AttemptState, has_readied, all_ready, install_in}
-use Rattle.cmm_attempt.specs.Laws.{Call, turn, HasVotes, CountsHeld}
-use Rattle.cmm_attempt.specs.Machine.{is_member, record_in, IsAnswer, HasTold, MachineHas, IsReached, IsCount, InstallsAreCounts, StartsAreReady, StartsFollow, InstallsComeFirst}
+use Rattle.cmm_attempt.specs.Laws.{turn, HasVotes, CountsHeld}
+use Rattle.cmm_attempt.specs.Machine.{is_member, record_in, IsAnswer, MachineHas, IsReached, InstallsAreCounts, StartsAreReady, StartsFollow, InstallsComeFirst}
 use Rattle.cmm_attempt.proofs.QuietLemmas.{none_some, false_true, same_some, or_cases, and_cases, either_of, same_number}
 use Rattle.cmm_attempt.proofs.NewestLemmas.{IsNotBehind, newest_is_taken}
 use Rattle.cmm_attempt.proofs.StartLemmas.{Sound, SoundIn, kept_by_call, sound_from}
 use Rattle.cmm_attempt.proofs.VotesAgree.{counted_with_held}
 use Rattle.cmm_attempt.proofs.Numbered.{numbered_by_call}
 use Rattle.cmm_attempt.proofs.Told.{member_of_plan}
-use Rattle.cmm_attempt.proofs.Goes.{IsChosen, IsChosenIn, ChosenIn, Goes, goes_by_call, chosen_reached}
+use Rattle.cmm_attempt.proofs.Goes.{IsChosen, ChosenIn, Goes, goes_by_call, chosen_reached}
 
 -- what all have, the one that is found has
 pub of_any : {X : Type 0} (p : X → Bool) (P : X → Type 0) (Q : Type 0) (xs : List X) → list_any p xs ≡ true → All P xs → ((x : X) → p x ≡ true → P x → Q) → Q

@@ -1,6 +1,6 @@
 -- The devices that an attempt seizes are among those of the header.
-use Rattle.std.proofs.Common.{◌≡◌, ℕ, ◌+◌, ◌≤◌, ◌⊎◌, inl, inr, List, [], ◌∷◌, ◌++◌, length, map, zero, suc, refl, sym, ap, subst, ◌∙◌, arith}
-use Rattle.std.specs.Prelude.{All, ◌%◌, ◌==◌, ◌&&◌, ◌||◌, nat_le, Bool, true, false, not, Option, Some, None, is_none, if◌then◌else◌}
+use Rattle.std.proofs.Common.{◌≡◌, ℕ, ◌+◌, ◌≤◌, List, [], ◌∷◌, ◌++◌, length, map, refl, sym, subst}
+use Rattle.std.specs.Prelude.{All, ◌==◌, ◌&&◌, nat_le, true, not, Option, Some, None, is_none, if◌then◌else◌}
 use Rattle.std.specs.List.{find, filter_map, cons_option}
 use Rattle.std.proofs.lemmas.List.Elements.{All-nil, All-cons, All-head, All-tail, All-append}
 use Rattle.cl_base.specs.Sets.{has, set_with}
@@ -21,14 +21,14 @@ use Rattle.cmm_attempt.specs.declared.seizing.Seizing.{Seizing}
 use Rattle.cmm_attempt.specs.declared.step.Step.TheVariants.{StartHere}
 use Rattle.cmm_attempt.specs.declared.step.AttemptEnd.{AttemptEnd}
 use Rattle.cmm_attempt.specs.Plans.{others_of, is_reachable}
-use Rattle.cmm_attempt.specs.Promises.{promised_by, shown_by, is_promise, is_ready, newest_shown, is_left_out, has_promised}
+use Rattle.cmm_attempt.specs.Promises.{promised_by, shown_by, is_ready, newest_shown, is_left_out}
 use Rattle.cmm_attempt.specs.Seizings.{all_settled, awaits, held_set, is_seized, first_seizer, vote_entry, plain_entry, plain_new, next_by, request_for, with_next, with_result, result_of}
 use Rattle.cmm_attempt.specs.Counts.{is_quorum, reached_set, vote_new}
 use Rattle.cmm_attempt.specs.Installs.{send_start}
-use Rattle.cmm_attempt.specs.Attempts.{AttemptState, Turn, with_steps, waits, is_over, is_missing, has_readied, all_ready, starting, in_phase, installing, plain_devices, asked_plain, seizing_others, shortage, counted_by, counting, settled_in, proceeding, settled, asked_next, next_asked, answered_on, answering, answering_in, asked_votes, vote_entries_under, vote_entries, seizing_votes, possible, voting, chosen, chosen_by, choosing, all_promised, collects, first_state, promises_of, begun, beginning, awaits_promise, gathered, with_promise, promising, awaits_ready, readying, is_of, taken, taking, own_readying_in, own_readying, own_answering, again_in, silenced, ticked, later, ticking, IsPromiseOf}
+use Rattle.cmm_attempt.specs.Attempts.{AttemptState, Turn, with_steps, waits, is_over, is_missing, all_ready, starting, in_phase, installing, plain_devices, asked_plain, seizing_others, shortage, counted_by, counting, settled_in, proceeding, settled, asked_next, next_asked, answered_on, answering, answering_in, asked_votes, vote_entries_under, vote_entries, seizing_votes, possible, voting, chosen, chosen_by, choosing, all_promised, collects, first_state, promises_of, begun, beginning, awaits_promise, gathered, with_promise, promising, awaits_ready, readying, is_of, taken, taking, own_readying_in, own_readying, own_answering, again_in, silenced, ticked, later, ticking}
 use Rattle.cmm_attempt.specs.Laws.{Call, Take, With_votes, Own_seized, Own_ready, Tick, turn, Run}
 use Rattle.cmm_attempt.specs.Machine.{IsDevice, IsReached}
-use Rattle.cmm_attempt.proofs.QuietLemmas.{none_some, false_true, same_some, and_cases, same_number, if_either}
+use Rattle.cmm_attempt.proofs.QuietLemmas.{if_either}
 use Rattle.cmm_attempt.proofs.StillHeld.{same_attached}
 
 abbrev pub IsNumbered : Seizing → Type 0

@@ -1,15 +1,13 @@
 -- What an attempt was told is true of the machine after a call, if it was before and what the call tells is.
-use Rattle.std.proofs.Common.{◌≡◌, ℕ, ◌+◌, ◌≤◌, ◌⊎◌, inl, inr, List, [], ◌∷◌, ◌++◌, length, map, zero, suc, refl, sym, ap, subst, ◌∙◌, arith}
+use Rattle.std.proofs.Common.{◌≡◌, ℕ, ◌+◌, List, [], ◌∷◌, ◌++◌, length, map, zero, suc, refl, sym, ap, subst, ◌∙◌, arith}
 use Rattle.std.specs.Prelude.{All, ◌%◌, ◌==◌, ◌&&◌, ◌||◌, nat_le, Bool, true, false, not, Option, Some, None, if◌then◌else◌}
 use Rattle.std.specs.List.{find, filter_map, list_any}
 use Rattle.std.proofs.lemmas.List.Folds.{list_any-append}
 use Rattle.std.proofs.lemmas.List.Elements.{All-nil, All-cons, All-head, All-tail, All-append}
 use Rattle.cl_base.specs.Sets.{has}
 use Rattle.machine_base.specs.Epochs.{coordinator}
-use Rattle.machine_base.specs.Put.{put}
 use Rattle.machine_base.proofs.Puts.{put_here}
-use Rattle.membership_machine.specs.Records.{Saved}
-use Rattle.membership_machine.specs.State.{Node, Epoch, Memberships}
+use Rattle.membership_machine.specs.State.{Memberships}
 use Rattle.membership_machine.specs.Steps as step
 use Rattle.membership_machine.specs.Events.{Begin, after}
 use Rattle.membership_machine.specs.Growth.{Grows}
@@ -18,12 +16,10 @@ use Rattle.seize.specs.declared.kind.SeizeResult.{SeizeResult}
 use Rattle.wire.specs.declared.message.Body.{Body}
 use Rattle.wire.specs.declared.message.Body.TheVariants as body
 use Rattle.wire.specs.declared.message.Message.{Message}
-use Rattle.cmm_attempt.specs.declared.attached.AttachedDevice.{AttachedDevice}
 use Rattle.cmm_attempt.specs.declared.counting.BothVotes.{BothVotes}
 use Rattle.cmm_attempt.specs.declared.phase.Phase.{Phase}
 use Rattle.cmm_attempt.specs.declared.phase.Phase.TheVariants.{Collecting, Choosing, SeizingVotes, SeizingOthers, Installing, Over}
 use Rattle.cmm_attempt.specs.declared.phase.Readied.{Readied}
-use Rattle.cmm_attempt.specs.declared.plan.Plan.{Plan}
 use Rattle.cmm_attempt.specs.declared.promised.Promised.{Promised}
 use Rattle.cmm_attempt.specs.declared.promised.Shown.{Shown}
 use Rattle.cmm_attempt.specs.declared.seizing.Seizing.{Seizing}
@@ -34,9 +30,9 @@ use Rattle.cmm_attempt.specs.Promises.{promised_by, shown_by, is_promise, is_rea
 use Rattle.cmm_attempt.specs.Seizings.{all_settled, awaits, held_set, next_by, request_for, result_of}
 use Rattle.cmm_attempt.specs.Counts.{reached_set}
 use Rattle.cmm_attempt.specs.Installs.{send_start}
-use Rattle.cmm_attempt.specs.Attempts.{AttemptState, Turn, with_steps, waits, is_over, is_missing, has_readied, all_ready, starting, in_phase, installing, plain_devices, asked_plain, seizing_others, shortage, counted_by, counting, settled_in, proceeding, settled, asked_next, next_asked, answered_on, answering, answering_in, asked_votes, vote_entries, seizing_votes, possible, voting, chosen, chosen_by, choosing, all_promised, collects, first_state, promises_of, begun, beginning, awaits_promise, gathered, with_promise, promising, awaits_ready, readying, is_of, taken, taking, own_readying_in, own_readying, own_answering, again_in, silenced, ticked, later, ticking, IsPromiseOf}
-use Rattle.cmm_attempt.specs.Laws.{Call, Take, With_votes, Own_seized, Own_ready, Tick, turn}
-use Rattle.cmm_attempt.specs.Machine.{is_member, record_in, Tells, IsTold, IsAnswer, HasTold, MachineHas, AttemptsBegin, ToldStays, CallsAreTold}
+use Rattle.cmm_attempt.specs.Attempts.{AttemptState, Turn, with_steps, waits, is_over, is_missing, all_ready, starting, in_phase, installing, plain_devices, asked_plain, seizing_others, shortage, counted_by, counting, settled_in, proceeding, settled, asked_next, next_asked, answered_on, answering, answering_in, asked_votes, vote_entries, seizing_votes, possible, voting, chosen, chosen_by, choosing, all_promised, collects, first_state, promises_of, begun, beginning, awaits_promise, gathered, with_promise, promising, awaits_ready, readying, is_of, taken, taking, own_readying_in, own_readying, own_answering, again_in, silenced, ticked, later, ticking}
+use Rattle.cmm_attempt.specs.Laws.{Take, With_votes, Own_seized, Own_ready, Tick}
+use Rattle.cmm_attempt.specs.Machine.{is_member, record_in, Tells, IsAnswer, MachineHas, AttemptsBegin, ToldStays, CallsAreTold}
 use Rattle.cmm_attempt.proofs.QuietLemmas.{none_some, false_true, same_some, and_cases, same_number, if_either}
 use Rattle.cmm_attempt.proofs.CauseLemmas.{if_with}
 

@@ -1,11 +1,11 @@
 -- What an attempt does at one shared device, as the device's machine has it: when all have promised it goes on to seize, it asks one node
 -- after another, and with every answer in hand it counts the device as held or not.
-use Rattle.std.specs.Prelude.{ℕ, ◌≡◌, ◌≤◌, ◌<◌, ◌==◌, Bool, true, false, List, [], ◌∷◌, Option, Some, None, All}
+use Rattle.std.specs.Prelude.{ℕ, ◌≡◌, ◌≢◌, ◌≤◌, ◌<◌, ◌==◌, Bool, true, false, List, [], ◌∷◌, Option, Some, None, All}
 use Rattle.std.specs.List.{find, list_any}
 use Rattle.cl_base.specs.Sets.{has}
 use Rattle.cluster_machine.specs.Cluster.{MayCome, all_after, count_at}
 use Rattle.device_machine.specs.Attempt.{Attempt}
-use Rattle.device_machine.specs.Sharing.{Sharing, Event, Collected, Ask, Allowed, after}
+use Rattle.device_machine.specs.Sharing.{Sharing, Event, Collected, Ask, Count_with, Count_without, Allowed, after}
 use Rattle.seize.specs.declared.kind.SeizeKind.{SeizeKind}
 use Rattle.seize.specs.declared.kind.SeizeKind.TheVariants.{Vote, Plain}
 use Rattle.seize.specs.declared.kind.SeizeResult.{SeizeResult}
@@ -20,7 +20,6 @@ use Rattle.cmm_attempt.specs.declared.phase.Phase.TheVariants.{Collecting, Choos
 use Rattle.cmm_attempt.specs.declared.plan.Plan.{Plan}
 use Rattle.cmm_attempt.specs.declared.promised.Promised.{Promised}
 use Rattle.cmm_attempt.specs.declared.seizing.Seizing.{Seizing}
-use Rattle.cmm_attempt.specs.declared.step.Step.{Step}
 use Rattle.cmm_attempt.specs.Plans.{nodes_to}
 use Rattle.cmm_attempt.specs.Seizings.{result_of}
 use Rattle.cmm_attempt.specs.Attempts.{AttemptState, Turn, beginning, IsPromiseOf}
@@ -160,3 +159,15 @@ DevicesBegin = (t : Sharing) (p members : ℕ) (all : ℕ → Bool) (own : Messa
 abbrev pub CallsMove : Type 0
 CallsMove = (t : Sharing) (all : ℕ → Bool) (s : AttemptState) (c : Call) (d : ℕ)
     → DeviceHas t s d → May s c → IsToldAt t s d c → ((n : ℕ) → all n ≡ is_member s.plan.members n) → Moves t s.plan.epoch all d (turn s c)
+
+-- an event of another attempt, or of a node
+abbrev pub IsOthers : ℕ → Event → Type 0
+IsOthers q (Collected p members) = p ≢ q
+IsOthers q (Ask p n quorum) = p ≢ q
+IsOthers q (Count_with p) = p ≢ q
+IsOthers q (Count_without p) = p ≢ q
+IsOthers q _ = Unit {0}
+
+-- what others do there leaves what the machine has of the attempt
+abbrev pub OthersLeave : Type 0
+OthersLeave = (t : Sharing) (e : Event) (s : AttemptState) (d : ℕ) → DeviceHas t s d → Allowed t e → IsOthers s.plan.epoch e → DeviceHas (after t e) s d

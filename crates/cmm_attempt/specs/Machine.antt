@@ -1,13 +1,13 @@
 -- What an attempt shows of the abstract machine of memberships. While what its members told it is true there, its install is a count that
 -- the machine allows, and its start one too.
-use Rattle.std.specs.Prelude.{ℕ, ◌≡◌, ◌≤◌, ◌⊎◌, ◌++◌, ◌&&◌, Bool, true, false, nat_le, List, [], ◌∷◌, length, take, Option, Some, None, IsSome, unwrap_or, All}
+use Rattle.std.specs.Prelude.{ℕ, ◌≡◌, ◌≤◌, ◌⊎◌, ◌++◌, ◌&&◌, Bool, true, nat_le, List, [], ◌∷◌, length, take, Option, Some, None, IsSome, unwrap_or, All}
 use Rattle.cl_base.specs.Sets.{has}
 use Rattle.ccr_commit.specs.Entries.{listed}
 use Rattle.machine_base.specs.Epochs.{coordinator}
 use Rattle.membership_machine.specs.Records.{Saved, first_record}
 use Rattle.membership_machine.specs.Votes.{Votes, Setting}
 use Rattle.membership_machine.specs.State.{Memberships}
-use Rattle.membership_machine.specs.Events.{Event, Begin, IsCounted, HasNewest, AllReady, Allowed, after}
+use Rattle.membership_machine.specs.Events.{Begin, IsCounted, HasNewest, AllReady, Allowed, after}
 use Rattle.membership_machine.specs.Growth.{Grows}
 use Rattle.quorum_votes.specs.Tables.{VoteTable}
 use Rattle.quorum_votes.specs.Votes.{vote_of, device_votes_of}

@@ -1,6 +1,6 @@
 ghost use Rattle.cmm_attempt.specs.Laws.{EndsHaveCauses, StartsAreCounted, HeldIsTold, WishesAreNewest, FirstWishIsNewest, WishesWait, FirstWishWaits, EndsOnce, IsThenOver};
 ghost use Rattle.cmm_attempt.specs.Machine.{AttemptsBegin, CallsAreTold, ToldStays, InstallsAreCounts, StartsAreReady, StartsFollow, InstallsComeFirst};
-ghost use Rattle.cmm_attempt.specs.Asking.{DevicesBegin, CallsMove};
+ghost use Rattle.cmm_attempt.specs.Asking.{DevicesBegin, CallsMove, OthersLeave};
 
 /// The laws of attempts, over the definitions that the calls' contracts cite.
 ///
@@ -41,7 +41,9 @@ pub fn attempts_show()
 ///
 /// It goes on to seize only when all have promised, asks a node only where nobody was asked before or the last one ended not registered,
 /// and counts a device as held only by the word of the node that was asked last, and any device only with its answer in hand.
+/// What nodes and other attempts do at the device leaves that.
 pub fn attempts_ask()
     ensures begin { DevicesBegin }
     ensures calls { CallsMove }
+    ensures others { OthersLeave }
 {}
