@@ -292,11 +292,46 @@ questions devices = record { ask = name.Collect; reply = name.Promise } ∷ reco
 abbrev pub is_overdue : ℕ → ℕ → List Moment → Question → Bool
 is_overdue c m moments q = are_eight (ticks_after (sends c m q.ask) c moments) && not (is_exchanged q.ask q.reply c m moments)
 
+abbrev pub is_question : MessageName → Bool
+is_question name.Collect = true
+is_question name.Install = true
+is_question (name.SeizeQuorum d) = true
+is_question (name.SeizeData d) = true
+is_question _ = false
+
+-- how many ticks of c came since it last asked something for the first time, in the moments of one attempt
+abbrev pub ticks_of_phase : ℕ → List Moment → ℕ
+ticks_of_phase c [] = 0
+ticks_of_phase c (ticked n ∷ before) = if n == c then ticks_of_phase c before + 1 else ticks_of_phase c before
+ticks_of_phase c (sent p a b called bytes ∷ before) =
+    if (a == c) && is_question called && not (list_any (sends c b called) before) then 0 else ticks_of_phase c before
+ticks_of_phase c (_ ∷ before) = ticks_of_phase c before
+
+-- the coordinator has a task of its own on d: there is none before each other member has promised
+abbrev pub has_task : Setting → ℕ → ℕ → List Moment → Bool
+has_task S e d before =
+    list_any (λ x. x == d) (S.queue before (coordinator e)) && list_all (has_promised e (coordinator e) before) (others e (members_of e before))
+
+-- how many of its ticks in the attempt, up to the last, found it with this task
+abbrev pub ticks_of_task : Setting → ℕ → ℕ → List Moment → ℕ
+ticks_of_task S e d [] = 0
+ticks_of_task S e d (attempt f members ∷ before) = if f == e then 0 else ticks_of_task S e d before
+ticks_of_task S e d (ticked n ∷ before) =
+    if n == coordinator e then (if has_task S e d before then ticks_of_task S e d before + 1 else 0) else ticks_of_task S e d before
+ticks_of_task S e d (_ ∷ before) = ticks_of_task S e d before
+
+-- A phase begins, and its ticks are counted anew, where the coordinator asks something new or gets tasks of its own: so many ticks came
+-- since then.
+abbrev pub has_waited : Setting → ℕ → ℕ → List Moment → Bool
+has_waited S e k before =
+    nat_le k (ticks_of_phase (coordinator e) (since (is_attempt e) before))
+    && list_all (λ d. nat_le k (ticks_of_task S e d before)) (S.queue before (coordinator e))
+
 -- the coordinator's own part is its device commands
 abbrev pub is_silent : Setting → ℕ → ℕ → List Moment → Bool
 is_silent S e m before =
     if m == coordinator e
-    then are_eight (ticks_after (is_attempt e) m before) && nat_lt 0 (length (S.queue before m))
+    then has_waited S e 8 before && nat_lt 0 (length (S.queue before m))
     else list_any (is_overdue (coordinator e) m (since (is_attempt e) before)) (questions (length S.header.devices))
 
 -- ---- an attempt does end at the eighth tick, where an answer is missing then
@@ -311,25 +346,6 @@ is_over e (start f members held count) = f == e
 is_over e (down n why) = n == coordinator e
 is_over e _ = false
 
-abbrev pub is_question : MessageName → Bool
-is_question name.Collect = true
-is_question name.Install = true
-is_question (name.SeizeQuorum d) = true
-is_question (name.SeizeData d) = true
-is_question _ = false
-
--- how many ticks of c came since it last asked something for the first time, in the moments of one attempt
-abbrev pub ticks_of_phase : ℕ → List Moment → Option ℕ
-ticks_of_phase c [] = None
-ticks_of_phase c (ticked n ∷ before) = if n == c then option_map (λ k. k + 1) (ticks_of_phase c before) else ticks_of_phase c before
-ticks_of_phase c (sent p a b called bytes ∷ before) =
-    if (a == c) && is_question called && not (list_any (sends c b called) before) then Some 0 else ticks_of_phase c before
-ticks_of_phase c (_ ∷ before) = ticks_of_phase c before
-
-abbrev pub are_seven : Option ℕ → Bool
-are_seven None = false
-are_seven (Some k) = nat_le 7 k
-
 -- c asked m, and no answer that was sent after it came has reached c
 abbrev pub is_unanswered : ℕ → List Moment → ℕ → Question → Bool
 is_unanswered c moments m q = list_any (sends c m q.ask) moments && not (is_exchanged q.ask q.reply c m moments)
@@ -340,7 +356,7 @@ lacks_answer S c asked_nodes moments = list_any (λ m. list_any (is_unanswered c
 -- the attempt e is under way, the next tick of c is the eighth, or a later one, since c last asked something new, and an answer is missing
 abbrev pub is_overtime : Setting → ℕ → ℕ → List Moment → Bool
 is_overtime S c e before =
-    not (list_any (is_over e) (since (is_attempt e) before)) && are_seven (ticks_of_phase c (since (is_attempt e) before))
+    not (list_any (is_over e) (since (is_attempt e) before)) && nat_le 7 (ticks_of_phase c (since (is_attempt e) before))
     && lacks_answer S c (others e (members_of e before)) (since (is_attempt e) before)
 
 abbrev pub ends_silent_or_falls : ℕ → Moment → Bool

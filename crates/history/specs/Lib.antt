@@ -30,3 +30,4 @@ pub mod SampleAnswers
 pub mod SampleValidity
 pub mod SampleResults
 pub mod SampleLines
+pub mod SampleSilence

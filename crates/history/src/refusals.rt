@@ -31,6 +31,8 @@ ghost use Rattle.history.specs.SampleAnswers as answers;
 ghost use Rattle.history.specs.SampleResults as results;
 ghost use Rattle.history.specs.SampleResults.{asking, wordless, working};
 ghost use Rattle.history.specs.SampleLines as lined;
+ghost use Rattle.history.specs.SampleSilence as silence;
+ghost use Rattle.history.specs.SampleSilence.{seizing};
 
 /// Device: a line ends `failed` exactly where a fault is armed, a later `fault` line stands in the place of an earlier one, and the
 /// device answers by what was done.
@@ -271,6 +273,18 @@ pub fn results()
     ensures not_registered_but_valid { OfNewest (HasCause pair) results.not_registered_but_valid → ⊥ }
     ensures silent_without_a_task { OfNewest (HasCause pair) results.silent_without_a_task → ⊥ }
     ensures superseded_by_itself { OfNewest (HasCause pair) results.superseded_by_itself → ⊥ }
+{}
+
+/// Answers: a coordinator ends its attempt over its own silence where its task was there at each of its last eight ticks, all Promises had
+/// come before these, and it asked nothing new since.
+#[tactic(auto, unfolding(cl_base::specs::Sets::has))]
+pub fn own_silence()
+    ensures own_silence { OfNewest (HasCause seizing) silence.own_silence }
+    ensures later_silence { OfNewest (HasCause seizing) silence.later_silence }
+    ensures silence_after_asking { OfNewest (HasCause seizing) silence.silence_after_asking }
+    ensures own_silence_too_early { OfNewest (HasCause seizing) silence.own_silence_too_early → ⊥ }
+    ensures later_silence_too_early { OfNewest (HasCause seizing) silence.later_silence_too_early → ⊥ }
+    ensures silence_soon_after_asking { OfNewest (HasCause seizing) silence.silence_soon_after_asking → ⊥ }
 {}
 
 /// Answers: an attempt ends at the eighth tick after its coordinator last asked something new, where an answer is missing.
