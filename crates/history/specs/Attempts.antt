@@ -30,7 +30,7 @@ use Rattle.history.specs.Starts.{starts, base_of, Start}
 use Rattle.history.specs.Seizing.{is_attempt, is_start, is_members_key}
 use Rattle.history.specs.Validated.{validity, is_valid}
 use Rattle.history.specs.Contact.{is_number, others}
-use Rattle.history.specs.Contents.{shown_of, is_newer, Shown}
+use Rattle.history.specs.Contents.{shown_of, is_pending, committed_of, is_newer, Shown}
 
 -- ---- an attempt begins only in a tick of its coordinator, which is the least of what it sees
 
@@ -176,16 +176,20 @@ promises_in e c (x ∷ before) = if is_attempt e x then [] else option_to_list (
 abbrev pub has_promised : ℕ → ℕ → List Moment → ℕ → Bool
 has_promised e c before m = reached_since (is_attempt e) (λ l. is_letter name.Promise m c l && is_number e (promised_to l.before)) before
 
--- the coordinator's own record, of which the last text may be pending
-abbrev pub own_counted : Option Shown → List Counted
-own_counted None = []
-own_counted (Some r) = record { shown = r; committed = length r.texts } ∷ record { shown = r; committed = length r.texts - 1 } ∷ []
+-- the coordinator's own record; where the trace does not tell whether its last text is pending, either
+abbrev pub own_counted : Shown → Option Bool → List Counted
+own_counted r (Some pending) = record { shown = r; committed = committed_of r pending } ∷ []
+own_counted r None = record { shown = r; committed = committed_of r false } ∷ record { shown = r; committed = committed_of r true } ∷ []
 
-abbrev pub records_in : ℕ → List Moment → List Counted
-records_in e before = own_counted (shown_of (coordinator e) (before_last (is_attempt e) before)) ++ promises_in e (coordinator e) before
+abbrev pub owned : ℕ → Shown → List Moment → List Counted
+owned c r before = own_counted r (is_pending c r before)
+
+-- of records with one epoch and as many updates the one with more committed is newer
+abbrev pub exceeds : Counted → Counted → Bool
+exceeds a b = is_newer a.shown b.shown || (not (is_newer b.shown a.shown) && nat_lt b.committed a.committed)
 
 abbrev pub is_newest : List Counted → Counted → Bool
-is_newest records r = not (list_any (λ other. is_newer other.shown r.shown) records)
+is_newest records r = not (list_any (λ other. exceeds other r) records)
 
 -- the votes of its committed texts, or with the pending one
 abbrev pub votes_of : Setting → Counted → List VoteTable
@@ -212,13 +216,18 @@ counts h v members have need lacking =
     (held_of v members (set_of (counted_devices 16 v lacking)) == have) && (needed_of v == need)
     && list_all (λ d. nat_lt 0 (length (attached_members h d members))) (counted_devices 16 v lacking)
 
+-- the counts are those under votes of the newest of these records
+abbrev pub is_counted : Setting → ℕ → ℕ → ℕ → List Lack → List Counted → Bool
+is_counted S members have need lacking records =
+    list_any (λ r. list_any (λ v. counts S.header v members have need lacking) (votes_of S r)) (filter (is_newest records) records)
+
 pub record IsShort (S : Setting) (before : List Moment) (e have need : ℕ) (lacking : List Lack) : Type 0 where
   pub too_few : have < need
   -- every other member sent its Promise
   pub promised : list_all (has_promised e (coordinator e) before) (others e (members_of e before)) ≡ true
-  -- the counts are those under votes of the newest record, where its own record is known
-  pub counted : IfSome (shown_of (coordinator e) (before_last (is_attempt e) before)) (λ own.
-      list_any (λ r. list_any (λ v. counts S.header v (members_of e before) have need lacking) (votes_of S r)) (filter (is_newest (records_in e before)) (records_in e before)) ≡ true)
+  -- the newest record is its own at the attempt, or one of those that were promised, where its own is known
+  pub counted : IfSome (shown_of (coordinator e) (before_last (is_attempt e) before)) (λ r.
+      list_any (λ own. is_counted S (members_of e before) have need lacking (own ∷ promises_in e (coordinator e) before)) (owned (coordinator e) r (before_last (is_attempt e) before)) ≡ true)
   pub results : AllByRecursion (IsLack S.header before e) lacking
 
 -- ---- `ended e superseded q`

@@ -31,3 +31,4 @@ pub mod SampleValidity
 pub mod SampleResults
 pub mod SampleLines
 pub mod SampleSilence
+pub mod SamplePending

@@ -48,6 +48,10 @@ heartbeat n e is_member = 1 ∷ n ∷ long e ++ long e ++ is_member ∷ []
 abbrev pub promise : ℕ → ℕ → ℕ → List ℕ → List ℕ
 promise n e newest committed = 3 ∷ n ∷ long e ++ long newest ++ short 3 ++ short 0 ++ 0 ∷ committed ++ none
 
+-- a record of which the last text is pending
+abbrev pub promise_pending : ℕ → ℕ → ℕ → List ℕ → List ℕ
+promise_pending n e newest pending = 3 ∷ n ∷ long e ++ long newest ++ short 3 ++ short 0 ++ 0 ∷ none ++ pending
+
 abbrev pub install : ℕ → List ℕ → List ℕ
 install e committed = 8 ∷ 1 ∷ long e ++ short 3 ++ committed ++ none ++ none
 
@@ -182,7 +186,11 @@ asked_again =
     ∷ prepared_so
 
 abbrev pub promised_what_it_has : List Moment
-promised_what_it_has = sent 10 2 1 name.Promise (promise 2 129 65 (only (letter 103))) ∷ asked_again
+promised_what_it_has = sent 10 2 1 name.Promise (promise_pending 2 129 65 (only (letter 103))) ∷ asked_again
+
+-- the update is pending, for no Commit came
+abbrev pub promised_as_committed : List Moment
+promised_as_committed = sent 10 2 1 name.Promise (promise 2 129 65 (only (letter 103))) ∷ asked_again
 
 abbrev pub promised_less : List Moment
 promised_less = sent 10 2 1 name.Promise (promise 2 129 65 none) ∷ asked_again

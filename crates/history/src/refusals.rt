@@ -33,6 +33,8 @@ ghost use Rattle.history.specs.SampleResults.{asking, wordless, working};
 ghost use Rattle.history.specs.SampleLines as lined;
 ghost use Rattle.history.specs.SampleSilence as silence;
 ghost use Rattle.history.specs.SampleSilence.{seizing};
+ghost use Rattle.history.specs.SamplePending as pending;
+ghost use Rattle.history.specs.SamplePending.{voting};
 
 /// Device: a line ends `failed` exactly where a fault is armed, a later `fault` line stands in the place of an earlier one, and the
 /// device answers by what was done.
@@ -166,6 +168,7 @@ pub fn contents()
     ensures promised_what_it_has { OfNewest contents.IsRecord carried.promised_what_it_has }
     ensures promised_less { OfNewest contents.IsRecord carried.promised_less → ⊥ }
     ensures promised_unseen { OfNewest contents.IsRecord carried.promised_unseen → ⊥ }
+    ensures promised_as_committed { OfNewest contents.IsRecord carried.promised_as_committed → ⊥ }
     ensures promised_as_new { OfNewest contents.IsRecord carried.promised_as_new → ⊥ }
     ensures requested_so { OfNewest (contents.CarriesUpdate bare) carried.requested_so }
     ensures requested_otherwise { OfNewest (contents.CarriesUpdate bare) carried.requested_otherwise → ⊥ }
@@ -253,6 +256,19 @@ pub fn attempts_end()
     ensures greater_unread { OfNewest (HasCause pair) answers.greater_unread → ⊥ }
     ensures no_path_with_a_path { OfNewest (HasCause pair) answers.no_path_with_a_path → ⊥ }
     ensures not_held_without_cause { AllAccounted pair answers.not_held_without_cause → ⊥ }
+{}
+
+/// Answers: `ended e votes` counts under the committed updates of the newest record, or with its pending one; whether the last is pending is
+/// told by acknowledgements, Commits, memberships and Installs.
+#[tactic(auto, unfolding(cl_base::specs::Sets::has, cl_base::specs::Sets::set_with, quorum_votes::specs::Sums::sum_to, wire::specs::Reads::number_at, wire::specs::Reads::byte_at, wire::specs::Reads::truth_at, wire::specs::Reads::node_at, wire::specs::Reads::device_at, wire::specs::Reads::text_at, wire::specs::Reads::devices_at, wire::specs::Reads::items_at, wire::specs::Reads::list_at, wire::specs::Reads::at_most_one_at, wire::specs::Reads::method_at, wire::specs::Reads::outcome_at, wire::specs::Reads::kind_at, wire::specs::Reads::marks_at, wire::specs::Reads::failures_at, wire::specs::Reads::reading_at, wire::specs::Reads::resource_at, wire::specs::Reads::group_at, wire::specs::Reads::report_at, wire::specs::Reads::seized_result_at, wire::specs::Reads::heartbeat_at, wire::specs::Reads::collect_at, wire::specs::Reads::promise_at, wire::specs::Reads::nack_at, wire::specs::Reads::install_at, wire::specs::Reads::ready_at, wire::specs::Reads::start_at, wire::specs::Reads::prepare_at, wire::specs::Reads::prepared_at, wire::specs::Reads::request_at, wire::specs::Reads::answer_at, wire::specs::Reads::body_at, wire::specs::Reads::message_at, wire::specs::Reads::whole_of))]
+pub fn pending_updates()
+    ensures short_when_proposed { OfNewest (HasCause voting) (pending.short_1 pending.proposed) }
+    ensures short_when_prepared { OfNewest (HasCause voting) (pending.short_2 pending.prepared) }
+    ensures short_when_committed_too_late { OfNewest (HasCause voting) (pending.short_2 pending.committed_too_late) }
+    ensures short_when_installed { OfNewest (HasCause voting) (pending.short_2 pending.pending_installed) }
+    ensures short_when_acknowledged { OfNewest (HasCause voting) (pending.short_1 pending.acknowledged) → ⊥ }
+    ensures short_when_committed { OfNewest (HasCause voting) (pending.short_2 pending.committed) → ⊥ }
+    ensures short_when_started { OfNewest (HasCause voting) (pending.short_2 pending.pending_started) → ⊥ }
 {}
 
 /// Answers: each result of a device in `ended e votes` has what shows it.
