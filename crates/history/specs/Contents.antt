@@ -195,6 +195,19 @@ promised_records e c (x ∷ before) =
 abbrev pub IsNewestOf : List Shown → List (List ℕ) → Type 0
 IsNewestOf records texts = AllByRecursion (λ r. list_any (λ other. is_newer other r) records ≡ false → texts ≡ r.texts) records
 
+-- the coordinator's own record at the attempt, and those that were promised since
+abbrev pub records_in_hand : ℕ → List Moment → Option (List Shown)
+records_in_hand e before = option_map (λ own. own ∷ promised_records e (coordinator e) before) (shown_of (coordinator e) (before_last (is_attempt e) before))
+
+-- an Install has the texts of a record that no other exceeds, as a base has
+abbrev pub IsNewestInstall : List Moment → Moment → Type 0
+IsNewestInstall before (sent p c b name.Install bytes) =
+    IfSome (attempt_of c before) (λ e. IfSome (texts_in (says bytes)) (λ texts. IfSome (records_in_hand e before) (λ records. IsNewestOf records texts)))
+IsNewestInstall before _ = Unit {0}
+
+abbrev pub NewestInstalls : List Moment → Type 0
+NewestInstalls moments = Always IsNewestInstall moments
+
 -- the coordinator's own record at the attempt, and those that were promised before the start
 abbrev pub records_for : ℕ → List Moment → Option (List Shown)
 records_for e moments =

@@ -122,6 +122,29 @@ sent_as_another_kind = sent 1 1 2 name.Start (18 ∷ 1 ∷ long 65 ++ long 65) �
 abbrev pub installed_otherwise : List Moment
 installed_otherwise = sent 5 1 2 name.Install (install 65 (only (letter 103))) ∷ installing
 
+-- an Install without the text that node 2 has promised, or with it
+abbrev pub promised_a_text : List Moment
+promised_a_text = delivered 3 2 1 ∷ line_of (event.Next 2 1) ∷ sent 3 2 1 name.Promise (promise 2 65 1 (only (letter 103))) ∷ collected
+
+abbrev pub installing_old : List Moment
+installing_old = sent 4 1 2 name.Install (install 65 none) ∷ installed 1 65 ∷ saved 1 ∷ promised_a_text
+
+abbrev pub installing_newest : List Moment
+installing_newest = sent 4 1 2 name.Install (install 65 (only (letter 103))) ∷ installed 1 65 ∷ saved 1 ∷ promised_a_text
+
+-- node 1 installs and sends no Install; node 2 installs where its Install comes, or where none does
+abbrev pub installing_nothing : List Moment
+installing_nothing = installed 1 65 ∷ saved 1 ∷ delivered 3 2 1 ∷ line_of (event.Next 2 1) ∷ promised
+
+abbrev pub installed_so : List Moment
+installed_so = installed 2 65 ∷ saved 2 ∷ delivered 4 1 2 ∷ line_of (event.Next 1 2) ∷ installing
+
+abbrev pub installed_untold : List Moment
+installed_untold = installed 2 65 ∷ saved 2 ∷ ticked 2 ∷ line_of (event.Tick 2) ∷ installing
+
+abbrev pub installed_for_another : List Moment
+installed_for_another = installed 2 129 ∷ saved 2 ∷ delivered 4 1 2 ∷ line_of (event.Next 1 2) ∷ installing
+
 -- the base has a text that the Installs have not
 abbrev pub based_otherwise : List Moment
 based_otherwise = base 65 1 (103 ∷ []) ∷ start 65 3 0 1 ∷ ready

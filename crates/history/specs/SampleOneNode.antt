@@ -84,6 +84,10 @@ forming =
     ∷ line_of (event.Disk 1)
     ∷ seizing
 
+-- it installs, and the membership does not start
+abbrev pub installed_alone : List Moment
+installed_alone = installed 1 65 ∷ saved 1 ∷ device 1 1 command.Word (Given (answer.Word 65)) ∷ line_of (event.Disk 1) ∷ seizing
+
 abbrev pub writing : List Moment
 writing =
     accepted 65 1 1 7

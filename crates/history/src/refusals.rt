@@ -25,7 +25,7 @@ ghost use Rattle.history.specs.SampleMessages as messages;
 ghost use Rattle.history.specs.SampleContents as carried;
 ghost use Rattle.history.specs.SampleValidity as changing;
 ghost use Rattle.history.specs.History.{IsWhole};
-ghost use Rattle.history.specs.SampleOneNode.{alone};
+ghost use Rattle.history.specs.SampleOneNode.{alone, installed_alone};
 ghost use Rattle.history.specs.SampleContents.{bare};
 ghost use Rattle.history.specs.SampleAnswers as answers;
 ghost use Rattle.history.specs.SampleResults as results;
@@ -123,6 +123,9 @@ pub fn member()
 pub fn contact()
     ensures started_without_ready { OfNewest contact.IsReady messages.started_without_ready → ⊥ }
     ensures ready_before_install { OfNewest contact.IsReady messages.ready_before_install → ⊥ }
+    ensures installed_so { OfNewest contact.IsInstalled carried.installed_so }
+    ensures installed_untold { OfNewest contact.IsInstalled carried.installed_untold → ⊥ }
+    ensures installed_for_another { OfNewest contact.IsInstalled carried.installed_for_another → ⊥ }
     ensures held_by_another_word { OfNewest (contact.IsHeld two_nodes) split.held_by_another_word → ⊥ }
     ensures held_by_nobody { OfNewest (contact.IsHeld two_nodes) split.held_by_nobody → ⊥ }
     ensures started_too_early { OfNewest (contact.IsHeld two_nodes) split.started_too_early → ⊥ }
@@ -158,6 +161,8 @@ pub fn contents()
     ensures promised_too_much { OfNewest contents.IsRecord carried.promised_too_much → ⊥ }
     ensures promised_an_update { OfNewest contents.IsRecord carried.promised_an_update → ⊥ }
     ensures old_base { contents.NewestBase carried.old_base → ⊥ }
+    ensures installing_newest { OfNewest contents.IsNewestInstall carried.installing_newest }
+    ensures installing_old { OfNewest contents.IsNewestInstall carried.installing_old → ⊥ }
     ensures held_unknown { OfNewest (contents.IsKnownHeld two_nodes) carried.held_unknown → ⊥ }
     ensures false_heartbeat { OfNewest contents.IsHeartbeat carried.false_heartbeat → ⊥ }
     ensures prepared_so { OfNewest (contents.CarriesUpdate pair) carried.prepared_so }
@@ -365,6 +370,9 @@ pub fn messages()
     ensures collect_unanswered { OfNewestEvent (Owes pair) answers.collect_unanswered → ⊥ }
     ensures install_unanswered { OfNewestEvent (Owes pair) answers.install_unanswered → ⊥ }
     ensures proposed_to_nobody { OfNewestEvent (Owes pair) answers.proposed_to_nobody → ⊥ }
+    ensures installing { OfNewestEvent (Owes bare) carried.installing }
+    ensures installing_nothing { OfNewestEvent (Owes bare) carried.installing_nothing → ⊥ }
+    ensures installed_alone { OfNewestEvent (Owes alone) installed_alone → ⊥ }
     ensures request_unsent { OfNewestEvent (Owes pair) answers.request_unsent → ⊥ }
     ensures doings_of_two { OfNewestEvent (Owes pair) answers.doings_of_two → ⊥ }
     ensures prepare_not_repeated { OfNewestEvent (Owes pair) answers.prepare_not_repeated → ⊥ }
