@@ -1,5 +1,5 @@
 -- Answers, of attempts: why an attempt begins, and each way in which it ends without a membership.
-use Rattle.std.specs.Prelude.{◌≡◌, ◌^◌, ◌<◌, ℕ, ◌+◌, ◌-◌, ◌==◌, ◌&&◌, ◌||◌, not, nat_lt, nat_le, Bool, true, false, if◌then◌else◌, List, [], ◌∷◌, ◌++◌, length, take, Option, Some, None, option_map, slice_get, IfSome}
+use Rattle.std.specs.Prelude.{◌≡◌, ◌^◌, ◌<◌, ℕ, ◌+◌, ◌-◌, ◌==◌, ◌&&◌, ◌||◌, not, nat_lt, nat_le, Bool, true, false, if◌then◌else◌, List, [], ◌∷◌, ◌++◌, length, take, Option, Some, None, is_some, option_map, slice_get, IfSome}
 use Rattle.std.specs.List.{list_any, list_all, filter, find, count_by, AllByRecursion}
 use Rattle.std.specs.Option.{option_and_then, option_to_list}
 use Rattle.cl_base.specs.Sets.{has, set_with}
@@ -263,26 +263,9 @@ stands_against e q before =
 
 -- ---- `ended e silent m`
 
--- how many ticks of c came after the first message of this name from c to m
-abbrev pub tick_of : ℕ → Moment → ℕ
-tick_of c (ticked n) = if n == c then 1 else 0
-tick_of c _ = 0
-
 abbrev pub sends : ℕ → ℕ → MessageName → Moment → Bool
 sends c m called (sent p a b found bytes) = (a == c) && (b == m) && same_name found called
 sends c m called _ = false
-
-abbrev pub counted_from : Bool → ℕ → Option ℕ → Option ℕ
-counted_from first tick (Some k) = Some (k + tick)
-counted_from first tick None = if first then Some 0 else None
-
-abbrev pub ticks_after : (Moment → Bool) → ℕ → List Moment → Option ℕ
-ticks_after first c [] = None
-ticks_after first c (x ∷ before) = counted_from (first x) (tick_of c x) (ticks_after first c before)
-
-abbrev pub are_eight : Option ℕ → Bool
-are_eight None = false
-are_eight (Some k) = nat_le 8 k
 
 -- a message and what answers it, for each device
 pub record Question : Type 0 where
@@ -297,9 +280,20 @@ seize_questions (d ∷ others) =
 abbrev pub questions : ℕ → List Question
 questions devices = record { ask = name.Collect; reply = name.Promise } ∷ record { ask = name.Install; reply = name.Ready } ∷ seize_questions (numbers_to devices (2 ^ 16 - 1))
 
--- c asked m eight ticks ago or more, and no answer that was sent after it came has reached it
-abbrev pub is_overdue : ℕ → ℕ → List Moment → Question → Bool
-is_overdue c m moments q = are_eight (ticks_after (sends c m q.ask) c moments) && not (is_exchanged q.ask q.reply c m moments)
+-- c asked m, and no answer that was sent after it came has reached c
+abbrev pub is_unanswered : ℕ → List Moment → ℕ → Question → Bool
+is_unanswered c moments m q = list_any (sends c m q.ask) moments && not (is_exchanged q.ask q.reply c m moments)
+
+-- the answer of m is missing; the coordinator's own part is its device commands
+abbrev pub is_missing : Setting → ℕ → List Moment → ℕ → Bool
+is_missing S e before m =
+    if m == coordinator e
+    then nat_lt 0 (length (S.queue before m))
+    else list_any (is_unanswered (coordinator e) (since (is_attempt e) before) m) (questions (length S.header.devices))
+
+-- the least member whose answer is missing
+abbrev pub first_missing : Setting → ℕ → List Moment → Option ℕ
+first_missing S e before = find (is_missing S e before) (nodes_of (members_of e before))
 
 abbrev pub is_question : MessageName → Bool
 is_question name.Collect = true
@@ -336,12 +330,8 @@ has_waited S e k before =
     nat_le k (ticks_of_phase (coordinator e) (since (is_attempt e) before))
     && list_all (λ d. nat_le k (ticks_of_task S e d before)) (S.queue before (coordinator e))
 
--- the coordinator's own part is its device commands
 abbrev pub is_silent : Setting → ℕ → ℕ → List Moment → Bool
-is_silent S e m before =
-    if m == coordinator e
-    then has_waited S e 8 before && nat_lt 0 (length (S.queue before m))
-    else list_any (is_overdue (coordinator e) m (since (is_attempt e) before)) (questions (length S.header.devices))
+is_silent S e m before = has_waited S e 8 before && is_number m (first_missing S e before)
 
 -- ---- an attempt does end at the eighth tick, where an answer is missing then
 
@@ -355,18 +345,9 @@ is_over e (start f members held count) = f == e
 is_over e (down n why) = n == coordinator e
 is_over e _ = false
 
--- c asked m, and no answer that was sent after it came has reached c
-abbrev pub is_unanswered : ℕ → List Moment → ℕ → Question → Bool
-is_unanswered c moments m q = list_any (sends c m q.ask) moments && not (is_exchanged q.ask q.reply c m moments)
-
-abbrev pub lacks_answer : Setting → ℕ → List ℕ → List Moment → Bool
-lacks_answer S c asked_nodes moments = list_any (λ m. list_any (is_unanswered c moments m) (questions (length S.header.devices))) asked_nodes
-
--- the attempt e is under way, the next tick of c is the eighth, or a later one, since c last asked something new, and an answer is missing
-abbrev pub is_overtime : Setting → ℕ → ℕ → List Moment → Bool
-is_overtime S c e before =
-    not (list_any (is_over e) (since (is_attempt e) before)) && nat_le 7 (ticks_of_phase c (since (is_attempt e) before))
-    && lacks_answer S c (others e (members_of e before)) (since (is_attempt e) before)
+-- the attempt e is under way, its next tick is the eighth of a phase, or a later one, and an answer is missing
+abbrev pub is_overtime : Setting → ℕ → List Moment → Bool
+is_overtime S e before = not (list_any (is_over e) (since (is_attempt e) before)) && has_waited S e 7 before && is_some (first_missing S e before)
 
 abbrev pub ends_silent_or_falls : ℕ → Moment → Bool
 ends_silent_or_falls e (ended_silent f m) = f == e
@@ -376,7 +357,7 @@ ends_silent_or_falls e _ = false
 -- where that is so, the attempt ends silent in this tick, or c goes down in it
 abbrev pub TickEnds : Setting → List Moment → Option Event → List Moment → Type 0
 TickEnds S before (Some (Tick c)) entries =
-    IfSome (attempt_of c before) (λ e. is_overtime S c e before ≡ true → list_any (ends_silent_or_falls e) entries ≡ true)
+    IfSome (attempt_of c before) (λ e. is_overtime S e before ≡ true → list_any (ends_silent_or_falls e) entries ≡ true)
 TickEnds S before _ entries = Unit {0}
 
 abbrev pub EndsInTime : Setting → List Moment → Moment → List Moment → Type 0

@@ -9,7 +9,7 @@ use Rattle.status_report.specs.declared.device_entry.DeviceAnswer.TheVariants.{G
 use Rattle.history.specs.Moment.{Moment}
 use Rattle.history.specs.Trace.{sent, delivered, device, attempt, ended_silent}
 use Rattle.history.specs.Setting.{Setting}
-use Rattle.history.specs.SampleOneNode.{line_of}
+use Rattle.history.specs.SampleOneNode.{line_of, ticking}
 use Rattle.history.specs.SampleSplit.{pair}
 use Rattle.history.specs.SampleAnswers.{ticks, booted}
 
@@ -30,6 +30,10 @@ three_nodes = record {
 
 abbrev pub seizing : Setting
 seizing = record pair { header = three_nodes; queue = λ moments n. if n == 1 then own_tasks moments else [] }
+
+-- node 1 has nothing to do
+abbrev pub collecting : Setting
+collecting = record seizing { queue = λ moments n. [] }
 
 abbrev pub asked_both : List Moment
 asked_both = sent 2 1 3 name.Collect [] ∷ sent 1 1 2 name.Collect [] ∷ attempt 65 7 ∷ booted
@@ -85,3 +89,43 @@ silence_after_asking = ended_silent 65 1 ∷ ticks 8 asked_next
 
 abbrev pub silence_soon_after_asking : List Moment
 silence_soon_after_asking = ended_silent 65 1 ∷ ticks 7 asked_next
+
+-- node 1 does nothing for its device, and the attempt goes on
+abbrev pub own_task_too_long : List Moment
+own_task_too_long = ticks 8 promised
+
+abbrev pub own_task_in_time : List Moment
+own_task_in_time = ticks 7 promised
+
+abbrev pub later_task_too_long : List Moment
+later_task_too_long = ticks 8 seized
+
+abbrev pub later_task_in_time : List Moment
+later_task_in_time = ticks 7 seized
+
+-- alone it asks nobody
+abbrev pub alone_too_long : List Moment
+alone_too_long = ticks 8 ticking
+
+abbrev pub alone_in_time : List Moment
+alone_in_time = ticks 7 ticking
+
+-- of nodes 2 and 3, which do not answer, the least is named; and node 1 before node 2
+abbrev pub named_the_least : List Moment
+named_the_least = ended_silent 65 2 ∷ ticks 8 asked_both
+
+abbrev pub named_the_greater : List Moment
+named_the_greater = ended_silent 65 3 ∷ ticks 8 asked_both
+
+abbrev pub named_another : List Moment
+named_another = ended_silent 65 2 ∷ ticks 8 (sent 5 1 2 (name.SeizeQuorum 3) [] ∷ promised)
+
+-- node 2, which was asked for a device, and node 3, which was asked for another four ticks later, do not answer
+abbrev pub asked_later : List Moment
+asked_later = sent 6 1 3 (name.SeizeQuorum 1) [] ∷ ticks 4 (sent 5 1 2 (name.SeizeQuorum 3) [] ∷ promised)
+
+abbrev pub silence_of_2 : List Moment
+silence_of_2 = ended_silent 65 2 ∷ ticks 8 asked_later
+
+abbrev pub silence_of_2_too_early : List Moment
+silence_of_2_too_early = ended_silent 65 2 ∷ ticks 7 asked_later

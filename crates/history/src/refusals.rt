@@ -32,7 +32,7 @@ ghost use Rattle.history.specs.SampleResults as results;
 ghost use Rattle.history.specs.SampleResults.{asking, wordless, working};
 ghost use Rattle.history.specs.SampleLines as lined;
 ghost use Rattle.history.specs.SampleSilence as silence;
-ghost use Rattle.history.specs.SampleSilence.{seizing};
+ghost use Rattle.history.specs.SampleSilence.{seizing, collecting};
 ghost use Rattle.history.specs.SamplePending as pending;
 ghost use Rattle.history.specs.SamplePending.{voting};
 
@@ -306,6 +306,28 @@ pub fn own_silence()
     ensures own_silence_too_early { OfNewest (HasCause seizing) silence.own_silence_too_early → ⊥ }
     ensures later_silence_too_early { OfNewest (HasCause seizing) silence.later_silence_too_early → ⊥ }
     ensures silence_soon_after_asking { OfNewest (HasCause seizing) silence.silence_soon_after_asking → ⊥ }
+{}
+
+/// Answers: the least member whose answer is missing is named, eight ticks after the coordinator last asked something new.
+#[tactic(auto, unfolding(cl_base::specs::Sets::has))]
+pub fn silence_of_others()
+    ensures named_the_least { OfNewest (HasCause collecting) silence.named_the_least }
+    ensures silence_of_2 { OfNewest (HasCause collecting) silence.silence_of_2 }
+    ensures named_the_greater { OfNewest (HasCause collecting) silence.named_the_greater → ⊥ }
+    ensures named_another { OfNewest (HasCause seizing) silence.named_another → ⊥ }
+    ensures silence_of_2_too_early { OfNewest (HasCause collecting) silence.silence_of_2_too_early → ⊥ }
+{}
+
+/// Answers: an attempt ends at the eighth tick of a phase, where the coordinator's own task is left.
+#[tactic(auto, unfolding(cl_base::specs::Sets::has))]
+pub fn own_tasks_end_in_time()
+    ensures own_task_in_time { OfNewestEvent (EndsInTime seizing) silence.own_task_in_time }
+    ensures own_silence { OfNewestEvent (EndsInTime seizing) silence.own_silence }
+    ensures later_task_in_time { OfNewestEvent (EndsInTime seizing) silence.later_task_in_time }
+    ensures alone_in_time { OfNewestEvent (EndsInTime alone) silence.alone_in_time }
+    ensures own_task_too_long { OfNewestEvent (EndsInTime seizing) silence.own_task_too_long → ⊥ }
+    ensures later_task_too_long { OfNewestEvent (EndsInTime seizing) silence.later_task_too_long → ⊥ }
+    ensures alone_too_long { OfNewestEvent (EndsInTime alone) silence.alone_too_long → ⊥ }
 {}
 
 /// Answers: an attempt ends at the eighth tick after its coordinator last asked something new, where an answer is missing.
