@@ -191,10 +191,6 @@ exceeds a b = is_newer a.shown b.shown || (not (is_newer b.shown a.shown) && nat
 abbrev pub is_newest : List Counted → Counted → Bool
 is_newest records r = not (list_any (λ other. exceeds other r) records)
 
--- the votes of its committed texts, or with the pending one
-abbrev pub votes_of : Setting → Counted → List VoteTable
-votes_of S r = S.votes (take r.committed r.shown.texts) ∷ S.votes r.shown.texts ∷ []
-
 abbrev pub is_enabled : DevState → Bool
 is_enabled Enabled = true
 is_enabled _ = false
@@ -216,10 +212,20 @@ counts h v members have need lacking =
     (held_of v members (set_of (counted_devices 16 v lacking)) == have) && (needed_of v == need)
     && list_all (λ d. nat_lt 0 (length (attached_members h d members))) (counted_devices 16 v lacking)
 
--- the counts are those under votes of the newest of these records
+-- whether the votes may be enough, were each device that has no listed result held
+abbrev pub may_be_enough : Header → VoteTable → ℕ → List Lack → Bool
+may_be_enough h v members lacking =
+    nat_le (needed_of v) (held_of v members (set_of (filter (λ d. nat_lt 0 (length (attached_members h d members))) (counted_devices 16 v lacking))))
+
+-- the counts are those under the votes of its committed texts, or, where these may be enough, with the pending one
+abbrev pub counts_for : Setting → Counted → ℕ → ℕ → ℕ → List Lack → Bool
+counts_for S r members have need lacking =
+    counts S.header (S.votes (take r.committed r.shown.texts)) members have need lacking
+    || (may_be_enough S.header (S.votes (take r.committed r.shown.texts)) members lacking && counts S.header (S.votes r.shown.texts) members have need lacking)
+
+-- .. of the newest of these records
 abbrev pub is_counted : Setting → ℕ → ℕ → ℕ → List Lack → List Counted → Bool
-is_counted S members have need lacking records =
-    list_any (λ r. list_any (λ v. counts S.header v members have need lacking) (votes_of S r)) (filter (is_newest records) records)
+is_counted S members have need lacking records = list_any (λ r. counts_for S r members have need lacking) (filter (is_newest records) records)
 
 pub record IsShort (S : Setting) (before : List Moment) (e have need : ℕ) (lacking : List Lack) : Type 0 where
   pub too_few : have < need
@@ -424,7 +430,7 @@ abbrev pub HasCause : Setting → List Moment → Moment → Type 0
 HasCause S before (attempt e members) = IsWanted S before e members
 HasCause S before (ended_votes e have need lacking) = IsShort S before e have need lacking
 HasCause S before (ended_superseded e q) = stands_against e q before ≡ true
-HasCause S before (ended_silent e m) = is_silent S e m before ≡ true
+HasCause S before (ended_silent e m) = (under_way before ≡ Some (Tick (coordinator e))) × (is_silent S e m before ≡ true)
 HasCause S before (ended_excluded e m) = is_excluded e m before ≡ true
 HasCause S before _ = Unit {0}
 

@@ -109,6 +109,9 @@ silent_after_eight = ended_silent 65 2 ∷ ticks 8 asked_node_2
 abbrev pub silent_too_early : List Moment
 silent_too_early = ended_silent 65 2 ∷ ticks 7 asked_node_2
 
+abbrev pub silent_after_the_tick : List Moment
+silent_after_the_tick = ended_silent 65 2 ∷ saved 1 ∷ line_of (event.Disk 1) ∷ ticks 8 asked_node_2
+
 abbrev pub silent_and_answered : List Moment
 silent_and_answered =
     ended_silent 65 2 ∷ ticks 8 (delivered 2 2 1 ∷ sent 2 2 1 name.Promise [] ∷ delivered 1 1 2 ∷ asked_node_2)

@@ -25,6 +25,10 @@ short_1 before = ended_votes 129 1 2 [] ∷ attempt 129 1 ∷ before
 abbrev pub short_2 : List Moment → List Moment
 short_2 before = ended_votes 130 1 2 [] ∷ attempt 130 2 ∷ before
 
+-- or node 1 with the counts after it: no vote of one
+abbrev pub voteless_1 : List Moment → List Moment
+voteless_1 before = ended_votes 129 0 1 [] ∷ attempt 129 1 ∷ before
+
 -- the president has proposed the update, and has acknowledged it
 abbrev pub proposed : List Moment
 proposed = propose 65 1 (103 ∷ []) ∷ formed

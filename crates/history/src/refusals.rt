@@ -251,6 +251,7 @@ pub fn attempts_end()
     ensures excluded_rightly { OfNewest (HasCause pair) answers.excluded_rightly }
     ensures split { OfNewest (HasCause pair) split.split }
     ensures silent_too_early { OfNewest (HasCause pair) answers.silent_too_early → ⊥ }
+    ensures silent_after_the_tick { OfNewest (HasCause pair) answers.silent_after_the_tick → ⊥ }
     ensures silent_and_answered { OfNewest (HasCause pair) answers.silent_and_answered → ⊥ }
     ensures superseded_by_nothing { OfNewest (HasCause pair) answers.superseded_by_nothing → ⊥ }
     ensures superseded_by_a_smaller { OfNewest (HasCause pair) answers.superseded_by_a_smaller → ⊥ }
@@ -263,14 +264,16 @@ pub fn attempts_end()
     ensures not_held_without_cause { AllAccounted pair answers.not_held_without_cause → ⊥ }
 {}
 
-/// Answers: `ended e votes` counts under the committed updates of the newest record, or with its pending one; whether the last is pending is
-/// told by acknowledgements, Commits, memberships and Installs.
+/// Answers: `ended e votes` counts under the committed updates of the newest record, or, where these may be enough, with its pending one;
+/// whether the last is pending is told by acknowledgements, Commits, memberships and Installs.
 #[tactic(auto, unfolding(cl_base::specs::Sets::has, cl_base::specs::Sets::set_with, quorum_votes::specs::Sums::sum_to, wire::specs::Reads::number_at, wire::specs::Reads::byte_at, wire::specs::Reads::truth_at, wire::specs::Reads::node_at, wire::specs::Reads::device_at, wire::specs::Reads::text_at, wire::specs::Reads::devices_at, wire::specs::Reads::items_at, wire::specs::Reads::list_at, wire::specs::Reads::at_most_one_at, wire::specs::Reads::method_at, wire::specs::Reads::outcome_at, wire::specs::Reads::kind_at, wire::specs::Reads::marks_at, wire::specs::Reads::failures_at, wire::specs::Reads::reading_at, wire::specs::Reads::resource_at, wire::specs::Reads::group_at, wire::specs::Reads::report_at, wire::specs::Reads::seized_result_at, wire::specs::Reads::heartbeat_at, wire::specs::Reads::collect_at, wire::specs::Reads::promise_at, wire::specs::Reads::nack_at, wire::specs::Reads::install_at, wire::specs::Reads::ready_at, wire::specs::Reads::start_at, wire::specs::Reads::prepare_at, wire::specs::Reads::prepared_at, wire::specs::Reads::request_at, wire::specs::Reads::answer_at, wire::specs::Reads::body_at, wire::specs::Reads::message_at, wire::specs::Reads::whole_of))]
 pub fn pending_updates()
     ensures short_when_proposed { OfNewest (HasCause voting) (pending.short_1 pending.proposed) }
     ensures short_when_prepared { OfNewest (HasCause voting) (pending.short_2 pending.prepared) }
     ensures short_when_committed_too_late { OfNewest (HasCause voting) (pending.short_2 pending.committed_too_late) }
     ensures short_when_installed { OfNewest (HasCause voting) (pending.short_2 pending.pending_installed) }
+    ensures voteless_when_acknowledged { OfNewest (HasCause voting) (pending.voteless_1 pending.acknowledged) }
+    ensures voteless_when_proposed { OfNewest (HasCause voting) (pending.voteless_1 pending.proposed) → ⊥ }
     ensures short_when_acknowledged { OfNewest (HasCause voting) (pending.short_1 pending.acknowledged) → ⊥ }
     ensures short_when_committed { OfNewest (HasCause voting) (pending.short_2 pending.committed) → ⊥ }
     ensures short_when_started { OfNewest (HasCause voting) (pending.short_2 pending.pending_started) → ⊥ }
