@@ -1,7 +1,7 @@
 -- Answers, of attempts: why an attempt begins, and each way in which it ends without a membership.
-use Rattle.std.specs.Prelude.{◌≡◌, ◌^◌, ◌<◌, ℕ, ◌+◌, ◌-◌, ◌==◌, ◌&&◌, ◌||◌, not, nat_lt, nat_le, Bool, true, false, if◌then◌else◌, List, [], ◌∷◌, ◌++◌, length, take, Option, Some, None, is_some, option_map, slice_get, IfSome}
+use Rattle.std.specs.Prelude.{◌≡◌, ◌^◌, ◌<◌, ℕ, ◌+◌, ◌-◌, ◌==◌, ◌&&◌, ◌||◌, not, nat_lt, nat_le, Bool, true, false, if◌then◌else◌, List, [], ◌∷◌, length, take, Option, Some, None, is_some, option_map, slice_get, IfSome}
 use Rattle.std.specs.List.{list_any, list_all, filter, find, count_by, AllByRecursion}
-use Rattle.std.specs.Option.{option_and_then, option_to_list}
+use Rattle.std.specs.Option.{option_and_then}
 use Rattle.cl_base.specs.Sets.{has, set_with}
 use Rattle.cl_base.specs.declared.header.Header.{Header}
 use Rattle.pgr_device.specs.declared.command.PrCommand.TheVariants as command
@@ -24,13 +24,13 @@ use Rattle.history.specs.Moment.{Moment, event_of}
 use Rattle.history.specs.Trace.{up, down, ticked, delivered, device, attempt, start, ended_votes, ended_superseded, ended_silent, ended_excluded, stopped, disk_failed, sent}
 use Rattle.history.specs.Order.{Always, EachEvent, since, before_last, under_way, somewhere}
 use Rattle.history.specs.Setting.{Setting, coordinator, nodes_of, numbers_to, key_of, paths_of}
-use Rattle.history.specs.Letters.{Letter, letter_of, arriving, passes, reached_since, is_letter, is_exchanged, same_name, says}
+use Rattle.history.specs.Letters.{Letter, letter_of, passes, reached_since, is_letter, is_exchanged, same_name, says}
 use Rattle.history.specs.Member.{member_of, members_of, attempt_of, number_of, promised_to, is_promise, last_installed}
 use Rattle.history.specs.Starts.{starts, base_of, Start}
 use Rattle.history.specs.Seizing.{is_attempt, is_start, is_members_key}
 use Rattle.history.specs.Validated.{validity, is_valid}
 use Rattle.history.specs.Contact.{is_number, others}
-use Rattle.history.specs.Contents.{shown_of, is_pending, committed_of, is_newer, Shown}
+use Rattle.history.specs.Contents.{shown_of, Counted, promises_in, owned, is_newest}
 
 -- ---- an attempt begins only in a tick of its coordinator, which is the least of what it sees
 
@@ -155,41 +155,8 @@ pub record IsLack (h : Header) (before : List Moment) (e : ℕ) (x : Lack) : Typ
 
 -- ---- `ended e votes`
 
--- a record as a coordinator may have it in hand: its texts, and how many of them are committed
-pub record Counted : Type 0 where
-  pub shown : Shown
-  pub committed : ℕ
-
-abbrev pub counted_in : Option Body → Option Counted
-counted_in (Some (body.Promise epoch newest members valid flagged committed pending)) =
-    Some (record { shown = record { installed = newest; texts = committed ++ option_to_list pending }; committed = length committed })
-counted_in _ = None
-
-abbrev pub promise_in : ℕ → ℕ → Option Letter → Option Counted
-promise_in e c None = None
-promise_in e c (Some l) = if is_letter name.Promise l.from c l && is_number e (promised_to l.before) then counted_in (says l.bytes) else None
-
-abbrev pub promises_in : ℕ → ℕ → List Moment → List Counted
-promises_in e c [] = []
-promises_in e c (x ∷ before) = if is_attempt e x then [] else option_to_list (promise_in e c (arriving before x)) ++ promises_in e c before
-
 abbrev pub has_promised : ℕ → ℕ → List Moment → ℕ → Bool
 has_promised e c before m = reached_since (is_attempt e) (λ l. is_letter name.Promise m c l && is_number e (promised_to l.before)) before
-
--- the coordinator's own record; where the trace does not tell whether its last text is pending, either
-abbrev pub own_counted : Shown → Option Bool → List Counted
-own_counted r (Some pending) = record { shown = r; committed = committed_of r pending } ∷ []
-own_counted r None = record { shown = r; committed = committed_of r false } ∷ record { shown = r; committed = committed_of r true } ∷ []
-
-abbrev pub owned : ℕ → Shown → List Moment → List Counted
-owned c r before = own_counted r (is_pending c r before)
-
--- of records with one epoch and as many updates the one with more committed is newer
-abbrev pub exceeds : Counted → Counted → Bool
-exceeds a b = is_newer a.shown b.shown || (not (is_newer b.shown a.shown) && nat_lt b.committed a.committed)
-
-abbrev pub is_newest : List Counted → Counted → Bool
-is_newest records r = not (list_any (λ other. exceeds other r) records)
 
 abbrev pub is_enabled : DevState → Bool
 is_enabled Enabled = true

@@ -153,7 +153,7 @@ commits n f v before _ = false
 abbrev pub is_pending : ℕ → Shown → List Moment → Option Bool
 is_pending n r before =
     if length (later_texts n r.installed before) == 0
-    then (if list_any (is_membership n r.installed) before then Some false else install_pending r.installed before)
+    then (if (length r.texts == 0) || list_any (is_membership n r.installed) before then Some false else install_pending r.installed before)
     else Some (not (somewhere (commits n r.installed (length r.texts)) before))
 
 -- how many texts of the record are committed: all but the last, where that is pending
@@ -162,6 +162,7 @@ committed_of r true = length r.texts - 1
 committed_of r false = length r.texts
 
 abbrev pub committed_in : Option Body → Option ℕ
+committed_in (Some (body.Install i)) = Some (length i.committed)
 committed_in (Some (body.Promise epoch newest members valid flagged committed pending)) = Some (length committed)
 committed_in _ = None
 
@@ -199,10 +200,59 @@ IsNewestOf records texts = AllByRecursion (λ r. list_any (λ other. is_newer ot
 abbrev pub records_in_hand : ℕ → List Moment → Option (List Shown)
 records_in_hand e before = option_map (λ own. own ∷ promised_records e (coordinator e) before) (shown_of (coordinator e) (before_last (is_attempt e) before))
 
--- an Install has the texts of a record that no other exceeds, as a base has
+-- a record as a coordinator may have it in hand, and how many of its texts are committed
+pub record Counted : Type 0 where
+  pub shown : Shown
+  pub committed : ℕ
+
+abbrev pub counted_in : Option Body → Option Counted
+counted_in (Some (body.Promise epoch newest members valid flagged committed pending)) =
+    Some (record { shown = record { installed = newest; texts = committed ++ option_to_list pending }; committed = length committed })
+counted_in _ = None
+
+abbrev pub promise_in : ℕ → ℕ → Option Letter → Option Counted
+promise_in e c None = None
+promise_in e c (Some l) = if is_letter name.Promise l.from c l && is_number e (promised_to l.before) then counted_in (says l.bytes) else None
+
+abbrev pub promises_in : ℕ → ℕ → List Moment → List Counted
+promises_in e c [] = []
+promises_in e c (x ∷ before) = if is_attempt e x then [] else option_to_list (promise_in e c (arriving before x)) ++ promises_in e c before
+
+-- the coordinator's own record; where the trace does not tell whether its last text is pending, either
+abbrev pub own_counted : Shown → Option Bool → List Counted
+own_counted r (Some pending) = record { shown = r; committed = committed_of r pending } ∷ []
+own_counted r None = record { shown = r; committed = committed_of r false } ∷ record { shown = r; committed = committed_of r true } ∷ []
+
+abbrev pub owned : ℕ → Shown → List Moment → List Counted
+owned c r before = own_counted r (is_pending c r before)
+
+-- of records with one epoch and as many updates the one with more committed is newer
+abbrev pub exceeds : Counted → Counted → Bool
+exceeds a b = is_newer a.shown b.shown || (not (is_newer b.shown a.shown) && nat_lt b.committed a.committed)
+
+abbrev pub is_newest : List Counted → Counted → Bool
+is_newest records r = not (list_any (λ other. exceeds other r) records)
+
+-- the same records, with what is committed of the coordinator's own
+abbrev pub counted_in_hand : ℕ → Option Shown → List Moment → Option (List Counted)
+counted_in_hand e None before = None
+counted_in_hand e (Some r) before =
+    option_map (λ pending. record { shown = r; committed = committed_of r pending } ∷ promises_in e (coordinator e) before)
+    (is_pending (coordinator e) r (before_last (is_attempt e) before))
+
+-- an Install has the texts of a record that no other exceeds, as a base has ..
+abbrev pub HasNewestTexts : ℕ → Option (List (List ℕ)) → List Moment → Type 0
+HasNewestTexts e found before = IfSome found (λ texts. IfSome (records_in_hand e before) (λ records. IsNewestOf records texts))
+
+-- .. and leaves pending what is pending there
+abbrev pub HasNewestCount : ℕ → Option ℕ → List Moment → Type 0
+HasNewestCount e found before =
+    IfSome found (λ k. IfSome (counted_in_hand e (shown_of (coordinator e) (before_last (is_attempt e) before)) before) (λ records.
+    AllByRecursion (λ r. is_newest records r ≡ true → r.committed ≡ k) records))
+
 abbrev pub IsNewestInstall : List Moment → Moment → Type 0
 IsNewestInstall before (sent p c b name.Install bytes) =
-    IfSome (attempt_of c before) (λ e. IfSome (texts_in (says bytes)) (λ texts. IfSome (records_in_hand e before) (λ records. IsNewestOf records texts)))
+    IfSome (attempt_of c before) (λ e. HasNewestTexts e (texts_in (says bytes)) before × HasNewestCount e (committed_in (says bytes)) before)
 IsNewestInstall before _ = Unit {0}
 
 abbrev pub NewestInstalls : List Moment → Type 0

@@ -132,6 +132,18 @@ installing_old = sent 4 1 2 name.Install (install 65 none) ∷ installed 1 65 �
 abbrev pub installing_newest : List Moment
 installing_newest = sent 4 1 2 name.Install (install 65 (only (letter 103))) ∷ installed 1 65 ∷ saved 1 ∷ promised_a_text
 
+-- the text is pending in the Promise, and the Install leaves it so, or has it committed
+abbrev pub promised_a_pending_text : List Moment
+promised_a_pending_text =
+    delivered 3 2 1 ∷ line_of (event.Next 2 1) ∷ sent 3 2 1 name.Promise (promise_pending 2 65 1 (only (letter 103))) ∷ collected
+
+abbrev pub installing_as_pending : List Moment
+installing_as_pending =
+    sent 4 1 2 name.Install (8 ∷ 1 ∷ long 65 ++ short 3 ++ none ++ only (letter 103) ++ none) ∷ installed 1 65 ∷ saved 1 ∷ promised_a_pending_text
+
+abbrev pub installing_as_committed : List Moment
+installing_as_committed = sent 4 1 2 name.Install (install 65 (only (letter 103))) ∷ installed 1 65 ∷ saved 1 ∷ promised_a_pending_text
+
 -- node 1 installs and sends no Install; node 2 installs where its Install comes, or where none does
 abbrev pub installing_nothing : List Moment
 installing_nothing = installed 1 65 ∷ saved 1 ∷ delivered 3 2 1 ∷ line_of (event.Next 2 1) ∷ promised

@@ -9,7 +9,7 @@ use Rattle.history.specs.Moment.{Moment}
 use Rattle.history.specs.Trace.{saved, installed, member, sent, delivered, attempt, ended_votes, propose, ack}
 use Rattle.history.specs.Setting.{Setting}
 use Rattle.history.specs.SampleOneNode.{line_of}
-use Rattle.history.specs.SampleContents.{no_device, bare, long, short, letter, none, only, promised, formed, prepared_so, promise}
+use Rattle.history.specs.SampleContents.{no_device, bare, long, short, letter, none, only, promised, formed, prepared_so}
 
 abbrev pub votes_after : List (List ℕ) → VoteTable
 votes_after [] = first_of no_device

@@ -162,7 +162,9 @@ pub fn contents()
     ensures promised_an_update { OfNewest contents.IsRecord carried.promised_an_update → ⊥ }
     ensures old_base { contents.NewestBase carried.old_base → ⊥ }
     ensures installing_newest { OfNewest contents.IsNewestInstall carried.installing_newest }
+    ensures installing_as_pending { OfNewest contents.IsNewestInstall carried.installing_as_pending }
     ensures installing_old { OfNewest contents.IsNewestInstall carried.installing_old → ⊥ }
+    ensures installing_as_committed { OfNewest contents.IsNewestInstall carried.installing_as_committed → ⊥ }
     ensures held_unknown { OfNewest (contents.IsKnownHeld two_nodes) carried.held_unknown → ⊥ }
     ensures false_heartbeat { OfNewest contents.IsHeartbeat carried.false_heartbeat → ⊥ }
     ensures prepared_so { OfNewest (contents.CarriesUpdate pair) carried.prepared_so }
