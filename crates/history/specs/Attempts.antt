@@ -75,6 +75,22 @@ pub record IsWanted (S : Setting) (before : List Moment) (e members : ℕ) : Typ
   pub least : slice_get (nodes_of members) 0 ≡ Some (coordinator e)
   pub reason : has_reason (coordinator e) members before (member_of (coordinator e) before) ≡ true
 
+-- ---- an attempt is under way until it ends
+
+-- with this the attempt e is over: it ended or started, or its coordinator went down
+abbrev pub is_over : ℕ → Moment → Bool
+is_over e (ended_votes f have need lacking) = f == e
+is_over e (ended_superseded f q) = f == e
+is_over e (ended_silent f m) = f == e
+is_over e (ended_excluded f m) = f == e
+is_over e (start f members held count) = f == e
+is_over e (down n why) = n == coordinator e
+is_over e _ = false
+
+-- e is the last attempt of its coordinator, and it is not over
+abbrev pub is_under_way : ℕ → List Moment → Bool
+is_under_way e before = is_number e (attempt_of (coordinator e) before) && not (list_any (is_over e) (since (is_attempt e) before))
+
 -- ---- results of seizing a device, in the attempt e, and what shows each
 
 -- some member m of e and a moment since the attempt at which m was answered by d
@@ -296,8 +312,8 @@ ticks_of_task S e d (ticked n ∷ before) =
     if n == coordinator e then (if has_task S e d before then ticks_of_task S e d before + 1 else 0) else ticks_of_task S e d before
 ticks_of_task S e d (_ ∷ before) = ticks_of_task S e d before
 
--- A phase begins, and its ticks are counted anew, where the coordinator asks something new or gets tasks of its own: so many ticks came
--- since then.
+-- So many ticks of a phase came. It begins where the coordinator asks something new, or gets its own tasks, or both; and where it asks
+-- something new later, its ticks are counted anew.
 abbrev pub has_waited : Setting → ℕ → ℕ → List Moment → Bool
 has_waited S e k before =
     nat_le k (ticks_of_phase (coordinator e) (since (is_attempt e) before))
@@ -308,19 +324,9 @@ is_silent S e m before = has_waited S e 8 before && is_number m (first_missing S
 
 -- ---- an attempt does end at the eighth tick, where an answer is missing then
 
--- with this the attempt e is over: it ended or started, or its coordinator went down
-abbrev pub is_over : ℕ → Moment → Bool
-is_over e (ended_votes f have need lacking) = f == e
-is_over e (ended_superseded f q) = f == e
-is_over e (ended_silent f m) = f == e
-is_over e (ended_excluded f m) = f == e
-is_over e (start f members held count) = f == e
-is_over e (down n why) = n == coordinator e
-is_over e _ = false
-
--- the attempt e is under way, its next tick is the eighth of a phase, or a later one, and an answer is missing
+-- the next tick of the attempt e, which is under way, is the eighth of a phase, or a later one, and an answer is missing
 abbrev pub is_overtime : Setting → ℕ → List Moment → Bool
-is_overtime S e before = not (list_any (is_over e) (since (is_attempt e) before)) && has_waited S e 7 before && is_some (first_missing S e before)
+is_overtime S e before = is_under_way e before && has_waited S e 7 before && is_some (first_missing S e before)
 
 abbrev pub ends_silent_or_falls : ℕ → Moment → Bool
 ends_silent_or_falls e (ended_silent f m) = f == e
@@ -395,10 +401,12 @@ AllAccounted S moments =
 
 abbrev pub HasCause : Setting → List Moment → Moment → Type 0
 HasCause S before (attempt e members) = IsWanted S before e members
-HasCause S before (ended_votes e have need lacking) = IsShort S before e have need lacking
-HasCause S before (ended_superseded e q) = stands_against e q before ≡ true
-HasCause S before (ended_silent e m) = (under_way before ≡ Some (Tick (coordinator e))) × (is_silent S e m before ≡ true)
-HasCause S before (ended_excluded e m) = is_excluded e m before ≡ true
+HasCause S before (ended_votes e have need lacking) = (is_under_way e before ≡ true) × IsShort S before e have need lacking
+HasCause S before (ended_superseded e q) = (is_under_way e before ≡ true) × (stands_against e q before ≡ true)
+HasCause S before (ended_silent e m) =
+    (is_under_way e before ≡ true) × (under_way before ≡ Some (Tick (coordinator e))) × (is_silent S e m before ≡ true)
+HasCause S before (ended_excluded e m) = (is_under_way e before ≡ true) × (is_excluded e m before ≡ true)
+HasCause S before (start e members held count) = is_under_way e before ≡ true
 HasCause S before _ = Unit {0}
 
 abbrev pub Attempts : Setting → List Moment → Type 0

@@ -254,6 +254,9 @@ pub fn attempts_end()
     ensures split { OfNewest (HasCause pair) split.split }
     ensures silent_too_early { OfNewest (HasCause pair) answers.silent_too_early → ⊥ }
     ensures silent_after_the_tick { OfNewest (HasCause pair) answers.silent_after_the_tick → ⊥ }
+    ensures silent_twice { OfNewest (HasCause pair) answers.silent_twice → ⊥ }
+    ensures silent_after_a_crash { OfNewest (HasCause pair) answers.silent_after_a_crash → ⊥ }
+    ensures started_at_the_end { OfNewest (HasCause pair) answers.started_at_the_end → ⊥ }
     ensures silent_and_answered { OfNewest (HasCause pair) answers.silent_and_answered → ⊥ }
     ensures superseded_by_nothing { OfNewest (HasCause pair) answers.superseded_by_nothing → ⊥ }
     ensures superseded_by_a_smaller { OfNewest (HasCause pair) answers.superseded_by_a_smaller → ⊥ }
