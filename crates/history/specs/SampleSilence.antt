@@ -107,6 +107,9 @@ later_task_in_time = ticks 7 seized
 abbrev pub alone_too_long : List Moment
 alone_too_long = ticks 8 ticking
 
+abbrev pub alone_and_silent : List Moment
+alone_and_silent = ended_silent 65 1 ∷ ticks 8 ticking
+
 abbrev pub alone_in_time : List Moment
 alone_in_time = ticks 7 ticking
 
