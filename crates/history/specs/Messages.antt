@@ -10,7 +10,7 @@ use Rattle.status_report.specs.declared.entry.Entry.TheVariants as entry
 use Rattle.status_report.specs.declared.call_entry.CallEntry.TheVariants as call
 use Rattle.history.specs.Moment.{Moment, event_of}
 use Rattle.history.specs.Moment.{Told}
-use Rattle.history.specs.Trace.{up, down, ticked, saved, installed, member, sent, delivered, device, accepted, refused, attempt, ended_votes, ended_superseded, ended_silent, ended_excluded, start, base, adopt, propose, ack, asked, answered}
+use Rattle.history.specs.Trace.{up, down, stopped, ticked, saved, installed, member, sent, delivered, device, accepted, refused, attempt, ended_votes, ended_superseded, ended_silent, ended_excluded, start, base, adopt, propose, ack, asked, answered}
 use Rattle.history.specs.Order.{EachEvent, since}
 use Rattle.history.specs.Setting.{Setting, coordinator, numbers_to}
 use Rattle.history.specs.Letters.{Letter, letter_of, same_name, is_exchanged, reached_since, is_letter}
@@ -123,14 +123,18 @@ EachProposal before entries (propose e v words ∷ later) =
     × EachProposal before entries later
 EachProposal before entries (x ∷ later) = EachProposal before entries later
 
--- ---- Installs: a coordinator that installs sends them at once, and where there is no other member the membership starts
+-- ---- Installs: a coordinator that installs sends them at once, and where there is no other member the membership starts at once, or the
+-- node stops in the save of that start
 
-abbrev pub starts_or_falls : ℕ → ℕ → List Moment → Bool
-starts_or_falls n e entries = list_any (λ x. is_start e x || is_down_of n x) entries
+abbrev pub is_stop_of : ℕ → Moment → Bool
+is_stop_of n (stopped m) = m == n
+is_stop_of n _ = false
 
 abbrev pub passes_on : ℕ → ℕ → List ℕ → List Moment → Bool
 passes_on n e members_but_n entries =
-    if length members_but_n == 0 then starts_or_falls n e entries else list_all (λ m. sends_or_falls n m name.Install entries) members_but_n
+    if length members_but_n == 0
+    then list_any (λ x. is_start e x || is_stop_of n x) entries
+    else list_all (λ m. list_any (is_sent_to n m name.Install) entries) members_but_n
 
 abbrev pub EachInstall : List Moment → List Moment → List Moment → Type 0
 EachInstall before entries [] = Unit {0}

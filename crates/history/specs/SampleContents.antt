@@ -1,12 +1,14 @@
 -- What messages carry: two nodes without a device form membership 65, with the bytes of the messages that matter.
 use Rattle.std.specs.Prelude.{ℕ, true, false, List, [], ◌∷◌, ◌++◌, Some}
 use Rattle.cl_base.specs.declared.header.Header.{Header}
+use Rattle.cl_base.specs.declared.panic.Panic.TheVariants as panic
 use Rattle.quorum_votes.specs.Votes.{first_of}
 use Rattle.schedule_text.specs.declared.event.Event.TheVariants as event
+use Rattle.status_report.specs.declared.node_entry.DownCause.TheVariants as cause
 use Rattle.status_report.specs.declared.packet_entry.MessageName.TheVariants as name
 use Rattle.status_report.specs.declared.command_entry.Answer.TheVariants as answer
 use Rattle.history.specs.Moment.{Moment}
-use Rattle.history.specs.Trace.{up, ticked, saved, installed, member, sent, delivered, attempt, start, base, propose, asked, answered, gives}
+use Rattle.history.specs.Trace.{up, down, ticked, saved, installed, member, sent, delivered, attempt, start, base, propose, asked, answered, gives}
 use Rattle.history.specs.Setting.{Setting}
 use Rattle.history.specs.SampleOneNode.{line_of}
 
@@ -147,6 +149,9 @@ installing_as_committed = sent 4 1 2 name.Install (install 65 (only (letter 103)
 -- node 1 installs and sends no Install; node 2 installs where its Install comes, or where none does
 abbrev pub installing_nothing : List Moment
 installing_nothing = installed 1 65 ∷ saved 1 ∷ delivered 3 2 1 ∷ line_of (event.Next 2 1) ∷ promised
+
+abbrev pub installing_and_down : List Moment
+installing_and_down = down 1 (cause.Panic (panic.Excluded 65)) ∷ installing_nothing
 
 abbrev pub installed_so : List Moment
 installed_so = installed 2 65 ∷ saved 2 ∷ delivered 4 1 2 ∷ line_of (event.Next 1 2) ∷ installing

@@ -25,7 +25,7 @@ ghost use Rattle.history.specs.SampleMessages as messages;
 ghost use Rattle.history.specs.SampleContents as carried;
 ghost use Rattle.history.specs.SampleValidity as changing;
 ghost use Rattle.history.specs.History.{IsWhole};
-ghost use Rattle.history.specs.SampleOneNode.{alone, installed_alone};
+ghost use Rattle.history.specs.SampleOneNode.{alone, installed_alone, stopped_alone};
 ghost use Rattle.history.specs.SampleContents.{bare};
 ghost use Rattle.history.specs.SampleAnswers as answers;
 ghost use Rattle.history.specs.SampleResults as results;
@@ -402,6 +402,8 @@ pub fn messages()
     ensures proposed_to_nobody { OfNewestEvent (Owes pair) answers.proposed_to_nobody → ⊥ }
     ensures installing { OfNewestEvent (Owes bare) carried.installing }
     ensures installing_nothing { OfNewestEvent (Owes bare) carried.installing_nothing → ⊥ }
+    ensures installing_and_down { OfNewestEvent (Owes bare) carried.installing_and_down → ⊥ }
+    ensures stopped_alone { OfNewestEvent (Owes alone) stopped_alone }
     ensures installed_alone { OfNewestEvent (Owes alone) installed_alone → ⊥ }
     ensures request_unsent { OfNewestEvent (Owes pair) answers.request_unsent → ⊥ }
     ensures doings_of_two { OfNewestEvent (Owes pair) answers.doings_of_two → ⊥ }
