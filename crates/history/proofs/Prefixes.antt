@@ -24,6 +24,7 @@ tail_of P later x before h = (always P later (x ∷ before) h).1
 contact_of : (S : Setting) (later : List Moment) (x : Moment) (before : List Moment) → goes_on x ≡ false → Contact S (later ++ x ∷ before) → Contact S before
 contact_of S later x before whole h = record {
   ready = tail_of _ later x before h.ready;
+  installed = tail_of _ later x before h.installed;
   held = tail_of _ later x before h.held;
   votes = prefixes _ later x before whole h.votes;
   placed = prefixes _ later x before whole h.placed;
@@ -40,6 +41,7 @@ contents_of S later x before whole h = record {
   installed = prefixes _ later x before whole h.installed;
   records = tail_of _ later x before h.records;
   newest = prefixes _ later x before whole h.newest;
+  newest_installs = tail_of _ later x before h.newest_installs;
   held = tail_of _ later x before h.held;
   heartbeats = tail_of _ later x before h.heartbeats;
   updates = tail_of _ later x before h.updates;

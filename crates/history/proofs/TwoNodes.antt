@@ -54,7 +54,7 @@ spelled = (tt, (tt, (tt, (tt, (start, (tt, (tt, (tt, (tt, (tt, spelled_ready))))
 
 contact : Contact sample.bare sample.formed
 unfolding has sum_to
-contact = record { ready = search; held = search; votes = search arith; placed = search; prepared = search; told = search; asked = search; answered = search }
+contact = record { ready = search; installed = search; held = search; votes = search arith; placed = search; prepared = search; told = search; asked = search; answered = search }
 
 contents : Contents sample.bare sample.formed
 unfolding has number_at byte_at truth_at node_at device_at text_at devices_at items_at list_at at_most_one_at method_at outcome_at kind_at marks_at failures_at reading_at resource_at group_at report_at seized_result_at heartbeat_at collect_at promise_at nack_at install_at ready_at start_at prepare_at prepared_at request_at answer_at body_at message_at whole_of
@@ -64,6 +64,7 @@ contents = record {
   installed = search;
   records = search;
   newest = search;
+  newest_installs = search;
   held = search;
   heartbeats = search;
   updates = search;

@@ -1,7 +1,7 @@
 -- Answers, of attempts: why an attempt begins, and each way in which it ends without a membership.
-use Rattle.std.specs.Prelude.{◌≡◌, ◌^◌, ◌<◌, ℕ, ◌+◌, ◌-◌, ◌==◌, ◌&&◌, ◌||◌, not, nat_lt, nat_le, Bool, true, false, if◌then◌else◌, List, [], ◌∷◌, ◌++◌, length, take, Option, Some, None, option_map, slice_get, IfSome}
+use Rattle.std.specs.Prelude.{◌≡◌, ◌^◌, ◌<◌, ℕ, ◌+◌, ◌-◌, ◌==◌, ◌&&◌, ◌||◌, not, nat_lt, nat_le, Bool, true, false, if◌then◌else◌, List, [], ◌∷◌, length, take, Option, Some, None, is_some, option_map, slice_get, IfSome}
 use Rattle.std.specs.List.{list_any, list_all, filter, find, count_by, AllByRecursion}
-use Rattle.std.specs.Option.{option_and_then, option_to_list}
+use Rattle.std.specs.Option.{option_and_then}
 use Rattle.cl_base.specs.Sets.{has, set_with}
 use Rattle.cl_base.specs.declared.header.Header.{Header}
 use Rattle.pgr_device.specs.declared.command.PrCommand.TheVariants as command
@@ -24,13 +24,13 @@ use Rattle.history.specs.Moment.{Moment, event_of}
 use Rattle.history.specs.Trace.{up, down, ticked, delivered, device, attempt, start, ended_votes, ended_superseded, ended_silent, ended_excluded, stopped, disk_failed, sent}
 use Rattle.history.specs.Order.{Always, EachEvent, since, before_last, under_way, somewhere}
 use Rattle.history.specs.Setting.{Setting, coordinator, nodes_of, numbers_to, key_of, paths_of}
-use Rattle.history.specs.Letters.{Letter, letter_of, arriving, passes, reached_since, is_letter, is_exchanged, same_name, says}
+use Rattle.history.specs.Letters.{Letter, letter_of, passes, reached_since, is_letter, is_exchanged, same_name, says}
 use Rattle.history.specs.Member.{member_of, members_of, attempt_of, number_of, promised_to, is_promise, last_installed}
 use Rattle.history.specs.Starts.{starts, base_of, Start}
 use Rattle.history.specs.Seizing.{is_attempt, is_start, is_members_key}
 use Rattle.history.specs.Validated.{validity, is_valid}
 use Rattle.history.specs.Contact.{is_number, others}
-use Rattle.history.specs.Contents.{shown_of, is_newer, Shown}
+use Rattle.history.specs.Contents.{shown_of, Counted, promises_in, owned, is_newest}
 
 -- ---- an attempt begins only in a tick of its coordinator, which is the least of what it sees
 
@@ -74,6 +74,22 @@ pub record IsWanted (S : Setting) (before : List Moment) (e members : ℕ) : Typ
   pub view : nodes_of members ≡ view_of S.header.nodes (coordinator e) before
   pub least : slice_get (nodes_of members) 0 ≡ Some (coordinator e)
   pub reason : has_reason (coordinator e) members before (member_of (coordinator e) before) ≡ true
+
+-- ---- an attempt is under way until it ends
+
+-- with this the attempt e is over: it ended or started, or its coordinator went down
+abbrev pub is_over : ℕ → Moment → Bool
+is_over e (ended_votes f have need lacking) = f == e
+is_over e (ended_superseded f q) = f == e
+is_over e (ended_silent f m) = f == e
+is_over e (ended_excluded f m) = f == e
+is_over e (start f members held count) = f == e
+is_over e (down n why) = n == coordinator e
+is_over e _ = false
+
+-- e is the last attempt of its coordinator, and it is not over
+abbrev pub is_under_way : ℕ → List Moment → Bool
+is_under_way e before = is_number e (attempt_of (coordinator e) before) && not (list_any (is_over e) (since (is_attempt e) before))
 
 -- ---- results of seizing a device, in the attempt e, and what shows each
 
@@ -155,41 +171,8 @@ pub record IsLack (h : Header) (before : List Moment) (e : ℕ) (x : Lack) : Typ
 
 -- ---- `ended e votes`
 
--- a record as a coordinator may have it in hand: its texts, and how many of them are committed
-pub record Counted : Type 0 where
-  pub shown : Shown
-  pub committed : ℕ
-
-abbrev pub counted_in : Option Body → Option Counted
-counted_in (Some (body.Promise epoch newest members valid flagged committed pending)) =
-    Some (record { shown = record { installed = newest; texts = committed ++ option_to_list pending }; committed = length committed })
-counted_in _ = None
-
-abbrev pub promise_in : ℕ → ℕ → Option Letter → Option Counted
-promise_in e c None = None
-promise_in e c (Some l) = if is_letter name.Promise l.from c l && is_number e (promised_to l.before) then counted_in (says l.bytes) else None
-
-abbrev pub promises_in : ℕ → ℕ → List Moment → List Counted
-promises_in e c [] = []
-promises_in e c (x ∷ before) = if is_attempt e x then [] else option_to_list (promise_in e c (arriving before x)) ++ promises_in e c before
-
 abbrev pub has_promised : ℕ → ℕ → List Moment → ℕ → Bool
 has_promised e c before m = reached_since (is_attempt e) (λ l. is_letter name.Promise m c l && is_number e (promised_to l.before)) before
-
--- the coordinator's own record, of which the last text may be pending
-abbrev pub own_counted : Option Shown → List Counted
-own_counted None = []
-own_counted (Some r) = record { shown = r; committed = length r.texts } ∷ record { shown = r; committed = length r.texts - 1 } ∷ []
-
-abbrev pub records_in : ℕ → List Moment → List Counted
-records_in e before = own_counted (shown_of (coordinator e) (before_last (is_attempt e) before)) ++ promises_in e (coordinator e) before
-
-abbrev pub is_newest : List Counted → Counted → Bool
-is_newest records r = not (list_any (λ other. is_newer other.shown r.shown) records)
-
--- the votes of its committed texts, or with the pending one
-abbrev pub votes_of : Setting → Counted → List VoteTable
-votes_of S r = S.votes (take r.committed r.shown.texts) ∷ S.votes r.shown.texts ∷ []
 
 abbrev pub is_enabled : DevState → Bool
 is_enabled Enabled = true
@@ -212,13 +195,28 @@ counts h v members have need lacking =
     (held_of v members (set_of (counted_devices 16 v lacking)) == have) && (needed_of v == need)
     && list_all (λ d. nat_lt 0 (length (attached_members h d members))) (counted_devices 16 v lacking)
 
+-- whether the votes may be enough, were each device that has no listed result held
+abbrev pub may_be_enough : Header → VoteTable → ℕ → List Lack → Bool
+may_be_enough h v members lacking =
+    nat_le (needed_of v) (held_of v members (set_of (filter (λ d. nat_lt 0 (length (attached_members h d members))) (counted_devices 16 v lacking))))
+
+-- the counts are those under the votes of its committed texts, or, where these may be enough, with the pending one
+abbrev pub counts_for : Setting → Counted → ℕ → ℕ → ℕ → List Lack → Bool
+counts_for S r members have need lacking =
+    counts S.header (S.votes (take r.committed r.shown.texts)) members have need lacking
+    || (may_be_enough S.header (S.votes (take r.committed r.shown.texts)) members lacking && counts S.header (S.votes r.shown.texts) members have need lacking)
+
+-- .. of the newest of these records
+abbrev pub is_counted : Setting → ℕ → ℕ → ℕ → List Lack → List Counted → Bool
+is_counted S members have need lacking records = list_any (λ r. counts_for S r members have need lacking) (filter (is_newest records) records)
+
 pub record IsShort (S : Setting) (before : List Moment) (e have need : ℕ) (lacking : List Lack) : Type 0 where
   pub too_few : have < need
   -- every other member sent its Promise
   pub promised : list_all (has_promised e (coordinator e) before) (others e (members_of e before)) ≡ true
-  -- the counts are those under votes of the newest record, where its own record is known
-  pub counted : IfSome (shown_of (coordinator e) (before_last (is_attempt e) before)) (λ own.
-      list_any (λ r. list_any (λ v. counts S.header v (members_of e before) have need lacking) (votes_of S r)) (filter (is_newest (records_in e before)) (records_in e before)) ≡ true)
+  -- the newest record is its own at the attempt, or one of those that were promised, where its own is known
+  pub counted : IfSome (shown_of (coordinator e) (before_last (is_attempt e) before)) (λ r.
+      list_any (λ own. is_counted S (members_of e before) have need lacking (own ∷ promises_in e (coordinator e) before)) (owned (coordinator e) r (before_last (is_attempt e) before)) ≡ true)
   pub results : AllByRecursion (IsLack S.header before e) lacking
 
 -- ---- `ended e superseded q`
@@ -254,26 +252,9 @@ stands_against e q before =
 
 -- ---- `ended e silent m`
 
--- how many ticks of c came after the first message of this name from c to m
-abbrev pub tick_of : ℕ → Moment → ℕ
-tick_of c (ticked n) = if n == c then 1 else 0
-tick_of c _ = 0
-
 abbrev pub sends : ℕ → ℕ → MessageName → Moment → Bool
 sends c m called (sent p a b found bytes) = (a == c) && (b == m) && same_name found called
 sends c m called _ = false
-
-abbrev pub counted_from : Bool → ℕ → Option ℕ → Option ℕ
-counted_from first tick (Some k) = Some (k + tick)
-counted_from first tick None = if first then Some 0 else None
-
-abbrev pub ticks_after : (Moment → Bool) → ℕ → List Moment → Option ℕ
-ticks_after first c [] = None
-ticks_after first c (x ∷ before) = counted_from (first x) (tick_of c x) (ticks_after first c before)
-
-abbrev pub are_eight : Option ℕ → Bool
-are_eight None = false
-are_eight (Some k) = nat_le 8 k
 
 -- a message and what answers it, for each device
 pub record Question : Type 0 where
@@ -288,28 +269,20 @@ seize_questions (d ∷ others) =
 abbrev pub questions : ℕ → List Question
 questions devices = record { ask = name.Collect; reply = name.Promise } ∷ record { ask = name.Install; reply = name.Ready } ∷ seize_questions (numbers_to devices (2 ^ 16 - 1))
 
--- c asked m eight ticks ago or more, and no answer that was sent after it came has reached it
-abbrev pub is_overdue : ℕ → ℕ → List Moment → Question → Bool
-is_overdue c m moments q = are_eight (ticks_after (sends c m q.ask) c moments) && not (is_exchanged q.ask q.reply c m moments)
+-- c asked m, and no answer that was sent after it came has reached c
+abbrev pub is_unanswered : ℕ → List Moment → ℕ → Question → Bool
+is_unanswered c moments m q = list_any (sends c m q.ask) moments && not (is_exchanged q.ask q.reply c m moments)
 
--- the coordinator's own part is its device commands
-abbrev pub is_silent : Setting → ℕ → ℕ → List Moment → Bool
-is_silent S e m before =
+-- the answer of m is missing; the coordinator's own part is its device commands
+abbrev pub is_missing : Setting → ℕ → List Moment → ℕ → Bool
+is_missing S e before m =
     if m == coordinator e
-    then are_eight (ticks_after (is_attempt e) m before) && nat_lt 0 (length (S.queue before m))
-    else list_any (is_overdue (coordinator e) m (since (is_attempt e) before)) (questions (length S.header.devices))
+    then nat_lt 0 (length (S.queue before m))
+    else list_any (is_unanswered (coordinator e) (since (is_attempt e) before) m) (questions (length S.header.devices))
 
--- ---- an attempt does end at the eighth tick, where an answer is missing then
-
--- with this the attempt e is over: it ended or started, or its coordinator went down
-abbrev pub is_over : ℕ → Moment → Bool
-is_over e (ended_votes f have need lacking) = f == e
-is_over e (ended_superseded f q) = f == e
-is_over e (ended_silent f m) = f == e
-is_over e (ended_excluded f m) = f == e
-is_over e (start f members held count) = f == e
-is_over e (down n why) = n == coordinator e
-is_over e _ = false
+-- the least member whose answer is missing
+abbrev pub first_missing : Setting → ℕ → List Moment → Option ℕ
+first_missing S e before = find (is_missing S e before) (nodes_of (members_of e before))
 
 abbrev pub is_question : MessageName → Bool
 is_question name.Collect = true
@@ -319,29 +292,41 @@ is_question (name.SeizeData d) = true
 is_question _ = false
 
 -- how many ticks of c came since it last asked something for the first time, in the moments of one attempt
-abbrev pub ticks_of_phase : ℕ → List Moment → Option ℕ
-ticks_of_phase c [] = None
-ticks_of_phase c (ticked n ∷ before) = if n == c then option_map (λ k. k + 1) (ticks_of_phase c before) else ticks_of_phase c before
+abbrev pub ticks_of_phase : ℕ → List Moment → ℕ
+ticks_of_phase c [] = 0
+ticks_of_phase c (ticked n ∷ before) = if n == c then ticks_of_phase c before + 1 else ticks_of_phase c before
 ticks_of_phase c (sent p a b called bytes ∷ before) =
-    if (a == c) && is_question called && not (list_any (sends c b called) before) then Some 0 else ticks_of_phase c before
+    if (a == c) && is_question called && not (list_any (sends c b called) before) then 0 else ticks_of_phase c before
 ticks_of_phase c (_ ∷ before) = ticks_of_phase c before
 
-abbrev pub are_seven : Option ℕ → Bool
-are_seven None = false
-are_seven (Some k) = nat_le 7 k
+-- the coordinator has a task of its own on d: there is none before each other member has promised
+abbrev pub has_task : Setting → ℕ → ℕ → List Moment → Bool
+has_task S e d before =
+    list_any (λ x. x == d) (S.queue before (coordinator e)) && list_all (has_promised e (coordinator e) before) (others e (members_of e before))
 
--- c asked m, and no answer that was sent after it came has reached c
-abbrev pub is_unanswered : ℕ → List Moment → ℕ → Question → Bool
-is_unanswered c moments m q = list_any (sends c m q.ask) moments && not (is_exchanged q.ask q.reply c m moments)
+-- how many of its ticks in the attempt, up to the last, found it with this task
+abbrev pub ticks_of_task : Setting → ℕ → ℕ → List Moment → ℕ
+ticks_of_task S e d [] = 0
+ticks_of_task S e d (attempt f members ∷ before) = if f == e then 0 else ticks_of_task S e d before
+ticks_of_task S e d (ticked n ∷ before) =
+    if n == coordinator e then (if has_task S e d before then ticks_of_task S e d before + 1 else 0) else ticks_of_task S e d before
+ticks_of_task S e d (_ ∷ before) = ticks_of_task S e d before
 
-abbrev pub lacks_answer : Setting → ℕ → List ℕ → List Moment → Bool
-lacks_answer S c asked_nodes moments = list_any (λ m. list_any (is_unanswered c moments m) (questions (length S.header.devices))) asked_nodes
+-- So many ticks of a phase came. It begins where the coordinator asks something new, or gets its own tasks, or both; and where it asks
+-- something new later, its ticks are counted anew.
+abbrev pub has_waited : Setting → ℕ → ℕ → List Moment → Bool
+has_waited S e k before =
+    nat_le k (ticks_of_phase (coordinator e) (since (is_attempt e) before))
+    && list_all (λ d. nat_le k (ticks_of_task S e d before)) (S.queue before (coordinator e))
 
--- the attempt e is under way, the next tick of c is the eighth, or a later one, since c last asked something new, and an answer is missing
-abbrev pub is_overtime : Setting → ℕ → ℕ → List Moment → Bool
-is_overtime S c e before =
-    not (list_any (is_over e) (since (is_attempt e) before)) && are_seven (ticks_of_phase c (since (is_attempt e) before))
-    && lacks_answer S c (others e (members_of e before)) (since (is_attempt e) before)
+abbrev pub is_silent : Setting → ℕ → ℕ → List Moment → Bool
+is_silent S e m before = has_waited S e 8 before && is_number m (first_missing S e before)
+
+-- ---- an attempt does end at the eighth tick, where an answer is missing then
+
+-- the next tick of the attempt e, which is under way, is the eighth of a phase, or a later one, and an answer is missing
+abbrev pub is_overtime : Setting → ℕ → List Moment → Bool
+is_overtime S e before = is_under_way e before && has_waited S e 7 before && is_some (first_missing S e before)
 
 abbrev pub ends_silent_or_falls : ℕ → Moment → Bool
 ends_silent_or_falls e (ended_silent f m) = f == e
@@ -351,7 +336,7 @@ ends_silent_or_falls e _ = false
 -- where that is so, the attempt ends silent in this tick, or c goes down in it
 abbrev pub TickEnds : Setting → List Moment → Option Event → List Moment → Type 0
 TickEnds S before (Some (Tick c)) entries =
-    IfSome (attempt_of c before) (λ e. is_overtime S c e before ≡ true → list_any (ends_silent_or_falls e) entries ≡ true)
+    IfSome (attempt_of c before) (λ e. is_overtime S e before ≡ true → list_any (ends_silent_or_falls e) entries ≡ true)
 TickEnds S before _ entries = Unit {0}
 
 abbrev pub EndsInTime : Setting → List Moment → Moment → List Moment → Type 0
@@ -416,10 +401,12 @@ AllAccounted S moments =
 
 abbrev pub HasCause : Setting → List Moment → Moment → Type 0
 HasCause S before (attempt e members) = IsWanted S before e members
-HasCause S before (ended_votes e have need lacking) = IsShort S before e have need lacking
-HasCause S before (ended_superseded e q) = stands_against e q before ≡ true
-HasCause S before (ended_silent e m) = is_silent S e m before ≡ true
-HasCause S before (ended_excluded e m) = is_excluded e m before ≡ true
+HasCause S before (ended_votes e have need lacking) = (is_under_way e before ≡ true) × IsShort S before e have need lacking
+HasCause S before (ended_superseded e q) = (is_under_way e before ≡ true) × (stands_against e q before ≡ true)
+HasCause S before (ended_silent e m) =
+    (is_under_way e before ≡ true) × (under_way before ≡ Some (Tick (coordinator e))) × (is_silent S e m before ≡ true)
+HasCause S before (ended_excluded e m) = (is_under_way e before ≡ true) × (is_excluded e m before ≡ true)
+HasCause S before (start e members held count) = is_under_way e before ≡ true
 HasCause S before _ = Unit {0}
 
 abbrev pub Attempts : Setting → List Moment → Type 0

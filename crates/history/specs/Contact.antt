@@ -7,11 +7,11 @@ use Rattle.quorum_votes.specs.Quorum.{IsMajority}
 use Rattle.status_report.specs.declared.packet_entry.MessageName.TheVariants as name
 use Rattle.status_report.specs.declared.command_entry.Answer.TheVariants as answer
 use Rattle.history.specs.Moment.{Moment}
-use Rattle.history.specs.Trace.{start, member, propose, ack, asked, answered, gives}
+use Rattle.history.specs.Trace.{start, installed, member, propose, ack, asked, answered, gives}
 use Rattle.history.specs.Order.{Always, since, before_last}
 use Rattle.history.specs.Setting.{Setting, coordinator, nodes_of, devices_of}
-use Rattle.history.specs.Letters.{Letter, is_letter, is_exchanged, reached, says, text_in}
-use Rattle.history.specs.Member.{member_of, members_of}
+use Rattle.history.specs.Letters.{Letter, arrived, passes, is_letter, is_exchanged, reached, says, text_in}
+use Rattle.history.specs.Member.{member_of, members_of, number_of}
 use Rattle.history.specs.Starts.{Start, Update, starts, start_of, is_started, base_of, proposed_in, acked_in, proposals, acks, updates_in}
 use Rattle.history.specs.Lineage.{start_numbers}
 use Rattle.history.specs.Seizing.{is_attempt, is_start, seizing_of}
@@ -19,6 +19,10 @@ use Rattle.history.specs.Seizing.{is_attempt, is_start, seizing_of}
 -- the members but the coordinator of e
 abbrev pub others : ℕ → ℕ → List ℕ
 others e members = filter (λ m. not (m == coordinator e)) (nodes_of members)
+
+abbrev pub is_number : ℕ → Option ℕ → Bool
+is_number e None = false
+is_number e (Some f) = f == e
 
 -- ---- Start: after `attempt e` each other member was sent an Install, and its Ready was sent after that came
 
@@ -30,6 +34,18 @@ IsReady before _ = Unit {0}
 
 abbrev pub Ready : List Moment → Type 0
 Ready moments = Always IsReady moments
+
+-- ---- Install: a node other than the coordinator installs e in the event in which an Install of e comes to it
+
+abbrev pub is_install_for : ℕ → ℕ → Letter → Bool
+is_install_for n e l = is_letter name.Install (coordinator e) n l && is_number e (number_of l)
+
+abbrev pub IsInstalled : List Moment → Moment → Type 0
+IsInstalled before (installed n e) = ((n == coordinator e) || passes (is_install_for n e) (arrived before)) ≡ true
+IsInstalled before _ = Unit {0}
+
+abbrev pub Installed : List Moment → Type 0
+Installed moments = Always IsInstalled moments
 
 -- ---- Held: each device that a start holds was seized for it
 
@@ -102,10 +118,6 @@ same_words _ _ = false
 abbrev pub are_words : List ℕ → Option (List ℕ) → Bool
 are_words words None = false
 are_words words (Some found) = same_words words found
-
-abbrev pub is_number : ℕ → Option ℕ → Bool
-is_number e None = false
-is_number e (Some f) = f == e
 
 -- the words of the command of an `asked` line, which stands right after its schedule line
 abbrev pub words_before : List Moment → Option (List ℕ)

@@ -1,5 +1,5 @@
 -- Contents: the bytes of a message spell what its sender has, and tell no more and nothing else.
-use Rattle.std.specs.Prelude.{◌≡◌, ℕ, ◌==◌, ◌&&◌, ◌||◌, nat_lt, Bool, true, false, if◌then◌else◌, List, [], ◌∷◌, ◌++◌, length, map, Option, Some, None, is_some, option_map, IfSome}
+use Rattle.std.specs.Prelude.{◌≡◌, ℕ, ◌-◌, ◌==◌, ◌&&◌, ◌||◌, not, nat_lt, Bool, true, false, if◌then◌else◌, List, [], ◌∷◌, ◌++◌, length, map, Option, Some, None, is_some, option_map, IfSome}
 use Rattle.std.specs.List.{list_any, AllByRecursion}
 use Rattle.std.specs.Option.{option_to_list, option_and_then}
 use Rattle.cl_base.specs.declared.header.Header.{Header}
@@ -13,10 +13,10 @@ use Rattle.status_report.specs.declared.packet_entry.MessageName.TheVariants as 
 use Rattle.status_report.specs.declared.command_entry.Answer.{Answer}
 use Rattle.status_report.specs.declared.command_entry.Answer.TheVariants as answer
 use Rattle.history.specs.Moment.{Moment}
-use Rattle.history.specs.Trace.{sent, start, propose, answered}
-use Rattle.history.specs.Order.{Always, Unless, before_last, since}
+use Rattle.history.specs.Trace.{sent, delivered, member, start, propose, ack, answered}
+use Rattle.history.specs.Order.{Always, Unless, before_last, since, somewhere}
 use Rattle.history.specs.Setting.{Setting, coordinator, devices_of}
-use Rattle.history.specs.Letters.{Letter, arriving, arrived, passes, name_of, is_letter, reached_since, says, text_in}
+use Rattle.history.specs.Letters.{Letter, letter_of, arriving, arrived, passes, name_of, is_letter, reached_since, says, text_in}
 use Rattle.history.specs.Member.{member_of, attempt_of, session_of, installed_of, promised_to}
 use Rattle.history.specs.Starts.{Start, starts, is_started, base_of, proposed_in}
 use Rattle.history.specs.Seizing.{Seizing, is_attempt, is_start, is_boot, seizing_of}
@@ -125,10 +125,52 @@ shown_in (Some (body.Promise epoch newest members valid flagged committed pendin
     Some (record { installed = newest; texts = committed ++ option_to_list pending })
 shown_in _ = None
 
+-- whether an Install leaves its last text pending
+abbrev pub pending_in : Option Body → Option Bool
+pending_in (Some (body.Install i)) = Some (is_some i.pending)
+pending_in _ = None
+
+abbrev pub install_pending : ℕ → List Moment → Option Bool
+install_pending f [] = None
+install_pending f (sent p c b name.Install bytes ∷ before) = if is_number f (attempt_of c before) then pending_in (says bytes) else install_pending f before
+install_pending f (_ ∷ before) = install_pending f before
+
+abbrev pub is_membership : ℕ → ℕ → Moment → Bool
+is_membership n f (member m e) = (m == n) && (e == f)
+is_membership n f _ = false
+
+abbrev pub is_commit : ℕ → ℕ → ℕ → Letter → Bool
+is_commit n f v l = is_letter (name.Commit v) (coordinator f) n l && is_number f (member_of l.from l.before)
+
+-- n, a member of f, commits the update at place v: the president where it acknowledges it, another where a Commit of it comes
+abbrev pub commits : ℕ → ℕ → ℕ → List Moment → Moment → Bool
+commits n f v before (ack g w words) = (coordinator f == n) && (g == f) && (w == v)
+commits n f v before (delivered p a b) = is_number f (member_of n before) && passes (is_commit n f v) (letter_of p before)
+commits n f v before _ = false
+
+-- Whether the last text of this record of n is pending: an update of the membership is until n commits it, and one that was installed is,
+-- where the Install leaves it so, until n is a member.
+abbrev pub is_pending : ℕ → Shown → List Moment → Option Bool
+is_pending n r before =
+    if length (later_texts n r.installed before) == 0
+    then (if (length r.texts == 0) || list_any (is_membership n r.installed) before then Some false else install_pending r.installed before)
+    else Some (not (somewhere (commits n r.installed (length r.texts)) before))
+
+-- how many texts of the record are committed: all but the last, where that is pending
+abbrev pub committed_of : Shown → Bool → ℕ
+committed_of r true = length r.texts - 1
+committed_of r false = length r.texts
+
+abbrev pub committed_in : Option Body → Option ℕ
+committed_in (Some (body.Install i)) = Some (length i.committed)
+committed_in (Some (body.Promise epoch newest members valid flagged committed pending)) = Some (length committed)
+committed_in _ = None
+
 abbrev pub IsRecord : List Moment → Moment → Type 0
 IsRecord before (sent p n b name.Promise bytes) =
     IfSome (installed_of n before) (λ f. option_map (λ r. r.installed) (shown_in (says bytes)) ≡ Some f)
-    × IfSome (shown_of n before) (λ r. shown_in (says bytes) ≡ Some r)
+    × IfSome (shown_of n before) (λ r.
+    (shown_in (says bytes) ≡ Some r) × IfSome (is_pending n r before) (λ pending. committed_in (says bytes) ≡ Some (committed_of r pending)))
 IsRecord before _ = Unit {0}
 
 abbrev pub Records : List Moment → Type 0
@@ -153,6 +195,68 @@ promised_records e c (x ∷ before) =
 -- of all records that the coordinator has in hand each that no other exceeds has the texts of the base
 abbrev pub IsNewestOf : List Shown → List (List ℕ) → Type 0
 IsNewestOf records texts = AllByRecursion (λ r. list_any (λ other. is_newer other r) records ≡ false → texts ≡ r.texts) records
+
+-- the coordinator's own record at the attempt, and those that were promised since
+abbrev pub records_in_hand : ℕ → List Moment → Option (List Shown)
+records_in_hand e before = option_map (λ own. own ∷ promised_records e (coordinator e) before) (shown_of (coordinator e) (before_last (is_attempt e) before))
+
+-- a record as a coordinator may have it in hand, and how many of its texts are committed
+pub record Counted : Type 0 where
+  pub shown : Shown
+  pub committed : ℕ
+
+abbrev pub counted_in : Option Body → Option Counted
+counted_in (Some (body.Promise epoch newest members valid flagged committed pending)) =
+    Some (record { shown = record { installed = newest; texts = committed ++ option_to_list pending }; committed = length committed })
+counted_in _ = None
+
+abbrev pub promise_in : ℕ → ℕ → Option Letter → Option Counted
+promise_in e c None = None
+promise_in e c (Some l) = if is_letter name.Promise l.from c l && is_number e (promised_to l.before) then counted_in (says l.bytes) else None
+
+abbrev pub promises_in : ℕ → ℕ → List Moment → List Counted
+promises_in e c [] = []
+promises_in e c (x ∷ before) = if is_attempt e x then [] else option_to_list (promise_in e c (arriving before x)) ++ promises_in e c before
+
+-- the coordinator's own record; where the trace does not tell whether its last text is pending, either
+abbrev pub own_counted : Shown → Option Bool → List Counted
+own_counted r (Some pending) = record { shown = r; committed = committed_of r pending } ∷ []
+own_counted r None = record { shown = r; committed = committed_of r false } ∷ record { shown = r; committed = committed_of r true } ∷ []
+
+abbrev pub owned : ℕ → Shown → List Moment → List Counted
+owned c r before = own_counted r (is_pending c r before)
+
+-- of records with one epoch and as many updates the one with more committed is newer
+abbrev pub exceeds : Counted → Counted → Bool
+exceeds a b = is_newer a.shown b.shown || (not (is_newer b.shown a.shown) && nat_lt b.committed a.committed)
+
+abbrev pub is_newest : List Counted → Counted → Bool
+is_newest records r = not (list_any (λ other. exceeds other r) records)
+
+-- the same records, with what is committed of the coordinator's own
+abbrev pub counted_in_hand : ℕ → Option Shown → List Moment → Option (List Counted)
+counted_in_hand e None before = None
+counted_in_hand e (Some r) before =
+    option_map (λ pending. record { shown = r; committed = committed_of r pending } ∷ promises_in e (coordinator e) before)
+    (is_pending (coordinator e) r (before_last (is_attempt e) before))
+
+-- an Install has the texts of a record that no other exceeds, as a base has ..
+abbrev pub HasNewestTexts : ℕ → Option (List (List ℕ)) → List Moment → Type 0
+HasNewestTexts e found before = IfSome found (λ texts. IfSome (records_in_hand e before) (λ records. IsNewestOf records texts))
+
+-- .. and leaves pending what is pending there
+abbrev pub HasNewestCount : ℕ → Option ℕ → List Moment → Type 0
+HasNewestCount e found before =
+    IfSome found (λ k. IfSome (counted_in_hand e (shown_of (coordinator e) (before_last (is_attempt e) before)) before) (λ records.
+    AllByRecursion (λ r. is_newest records r ≡ true → r.committed ≡ k) records))
+
+abbrev pub IsNewestInstall : List Moment → Moment → Type 0
+IsNewestInstall before (sent p c b name.Install bytes) =
+    IfSome (attempt_of c before) (λ e. HasNewestTexts e (texts_in (says bytes)) before × HasNewestCount e (committed_in (says bytes)) before)
+IsNewestInstall before _ = Unit {0}
+
+abbrev pub NewestInstalls : List Moment → Type 0
+NewestInstalls moments = Always IsNewestInstall moments
 
 -- the coordinator's own record at the attempt, and those that were promised before the start
 abbrev pub records_for : ℕ → List Moment → Option (List Shown)

@@ -23,6 +23,7 @@ use Rattle.history.specs.Messages.{Messages}
 -- Contact: nothing that takes part of another node comes about without the messages that tell of it.
 pub record Contact (S : Setting) (moments : List Moment) : Type 0 where
   pub ready : contact.Ready moments
+  pub installed : contact.Installed moments
   pub held : contact.Held S.header moments
   pub votes : OfPrefixes (contact.HasVotes S) moments
   pub placed : OfPrefixes contact.Placed moments
@@ -38,6 +39,7 @@ pub record Contents (S : Setting) (moments : List Moment) : Type 0 where
   pub installed : OfPrefixes contents.InstallsTheBase moments
   pub records : contents.Records moments
   pub newest : OfPrefixes contents.NewestBase moments
+  pub newest_installs : contents.NewestInstalls moments
   pub held : contents.KnownHeld S.header moments
   pub heartbeats : contents.Heartbeats moments
   pub updates : contents.CarriedUpdates S moments

@@ -30,3 +30,5 @@ pub mod SampleAnswers
 pub mod SampleValidity
 pub mod SampleResults
 pub mod SampleLines
+pub mod SampleSilence
+pub mod SamplePending

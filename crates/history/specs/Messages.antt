@@ -10,13 +10,13 @@ use Rattle.status_report.specs.declared.entry.Entry.TheVariants as entry
 use Rattle.status_report.specs.declared.call_entry.CallEntry.TheVariants as call
 use Rattle.history.specs.Moment.{Moment, event_of}
 use Rattle.history.specs.Moment.{Told}
-use Rattle.history.specs.Trace.{up, down, ticked, saved, installed, member, sent, delivered, device, accepted, refused, attempt, ended_votes, ended_superseded, ended_silent, ended_excluded, start, base, adopt, propose, ack, asked, answered}
+use Rattle.history.specs.Trace.{up, down, stopped, ticked, saved, installed, member, sent, delivered, device, accepted, refused, attempt, ended_votes, ended_superseded, ended_silent, ended_excluded, start, base, adopt, propose, ack, asked, answered}
 use Rattle.history.specs.Order.{EachEvent, since}
 use Rattle.history.specs.Setting.{Setting, coordinator, numbers_to}
 use Rattle.history.specs.Letters.{Letter, letter_of, same_name, is_exchanged, reached_since, is_letter}
-use Rattle.history.specs.Member.{member_of, session_of, number_of}
+use Rattle.history.specs.Member.{member_of, members_of, session_of, number_of}
 use Rattle.history.specs.Starts.{start_of}
-use Rattle.history.specs.Seizing.{is_boot}
+use Rattle.history.specs.Seizing.{is_boot, is_start}
 use Rattle.history.specs.Contact.{is_number, others, members_in, is_proposal}
 use Rattle.history.specs.Commands.{is_monitors, waits}
 
@@ -122,6 +122,27 @@ EachProposal before entries (propose e v words ∷ later) =
     AllByRecursion (λ m. sends_or_falls (coordinator e) m (name.Prepare v) entries ≡ true) (others e (members_in (start_of e before)))
     × EachProposal before entries later
 EachProposal before entries (x ∷ later) = EachProposal before entries later
+
+-- ---- Installs: a coordinator that installs sends them at once, and where there is no other member the membership starts at once, or the
+-- node stops in the save of that start
+
+abbrev pub is_stop_of : ℕ → Moment → Bool
+is_stop_of n (stopped m) = m == n
+is_stop_of n _ = false
+
+abbrev pub passes_on : ℕ → ℕ → List ℕ → List Moment → Bool
+passes_on n e members_but_n entries =
+    if length members_but_n == 0
+    then list_any (λ x. is_start e x || is_stop_of n x) entries
+    else list_all (λ m. list_any (is_sent_to n m name.Install) entries) members_but_n
+
+abbrev pub EachInstall : List Moment → List Moment → List Moment → Type 0
+EachInstall before entries [] = Unit {0}
+EachInstall before entries (installed n e ∷ later) =
+    ((not (n == coordinator e) || passes_on n e (others e (members_of e before)) entries) ≡ true) × EachInstall before entries later
+EachInstall before entries (x ∷ later) = EachInstall before entries later
+
+-- ---- what goes again
 
 abbrev pub one_more : Option ℕ → Option ℕ
 one_more None = None
@@ -262,6 +283,7 @@ pub record Owes (S : Setting) (before : List Moment) (x : Moment) (entries : Lis
   pub replies : RepliesTo S before x entries
   pub reports : ReportsDisk S before x (event_of x) entries
   pub prepares : EachProposal before entries entries
+  pub installs : EachInstall before entries entries
   pub prepares_again : PreparesAgain before (event_of x) entries
   pub requests : EachRequest S before entries (onto (x ∷ before) entries)
   pub requests_again : RequestsAgain before (event_of x) entries

@@ -109,6 +109,20 @@ silent_after_eight = ended_silent 65 2 ∷ ticks 8 asked_node_2
 abbrev pub silent_too_early : List Moment
 silent_too_early = ended_silent 65 2 ∷ ticks 7 asked_node_2
 
+abbrev pub silent_after_the_tick : List Moment
+silent_after_the_tick = ended_silent 65 2 ∷ saved 1 ∷ line_of (event.Disk 1) ∷ ticks 8 asked_node_2
+
+-- the attempt is over by then
+abbrev pub silent_twice : List Moment
+silent_twice = ended_silent 65 2 ∷ ticks 8 (ended_silent 65 2 ∷ ticks 8 asked_node_2)
+
+abbrev pub silent_after_a_crash : List Moment
+silent_after_a_crash =
+    ended_silent 65 2 ∷ ticks 8 (up 1 ∷ line_of (event.Boot 1) ∷ down 1 cause.Crash ∷ line_of (event.Crash 1) ∷ asked_node_2)
+
+abbrev pub started_at_the_end : List Moment
+started_at_the_end = start 65 3 0 0 ∷ ended_silent 65 2 ∷ ticks 8 asked_node_2
+
 abbrev pub silent_and_answered : List Moment
 silent_and_answered =
     ended_silent 65 2 ∷ ticks 8 (delivered 2 2 1 ∷ sent 2 2 1 name.Promise [] ∷ delivered 1 1 2 ∷ asked_node_2)

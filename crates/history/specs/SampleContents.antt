@@ -1,12 +1,14 @@
 -- What messages carry: two nodes without a device form membership 65, with the bytes of the messages that matter.
 use Rattle.std.specs.Prelude.{ℕ, true, false, List, [], ◌∷◌, ◌++◌, Some}
 use Rattle.cl_base.specs.declared.header.Header.{Header}
+use Rattle.cl_base.specs.declared.panic.Panic.TheVariants as panic
 use Rattle.quorum_votes.specs.Votes.{first_of}
 use Rattle.schedule_text.specs.declared.event.Event.TheVariants as event
+use Rattle.status_report.specs.declared.node_entry.DownCause.TheVariants as cause
 use Rattle.status_report.specs.declared.packet_entry.MessageName.TheVariants as name
 use Rattle.status_report.specs.declared.command_entry.Answer.TheVariants as answer
 use Rattle.history.specs.Moment.{Moment}
-use Rattle.history.specs.Trace.{up, ticked, saved, installed, member, sent, delivered, attempt, start, base, propose, asked, answered, gives}
+use Rattle.history.specs.Trace.{up, down, ticked, saved, installed, member, sent, delivered, attempt, start, base, propose, asked, answered, gives}
 use Rattle.history.specs.Setting.{Setting}
 use Rattle.history.specs.SampleOneNode.{line_of}
 
@@ -47,6 +49,10 @@ heartbeat n e is_member = 1 ∷ n ∷ long e ++ long e ++ is_member ∷ []
 
 abbrev pub promise : ℕ → ℕ → ℕ → List ℕ → List ℕ
 promise n e newest committed = 3 ∷ n ∷ long e ++ long newest ++ short 3 ++ short 0 ++ 0 ∷ committed ++ none
+
+-- a record of which the last text is pending
+abbrev pub promise_pending : ℕ → ℕ → ℕ → List ℕ → List ℕ
+promise_pending n e newest pending = 3 ∷ n ∷ long e ++ long newest ++ short 3 ++ short 0 ++ 0 ∷ none ++ pending
 
 abbrev pub install : ℕ → List ℕ → List ℕ
 install e committed = 8 ∷ 1 ∷ long e ++ short 3 ++ committed ++ none ++ none
@@ -118,6 +124,44 @@ sent_as_another_kind = sent 1 1 2 name.Start (18 ∷ 1 ∷ long 65 ++ long 65) �
 abbrev pub installed_otherwise : List Moment
 installed_otherwise = sent 5 1 2 name.Install (install 65 (only (letter 103))) ∷ installing
 
+-- an Install without the text that node 2 has promised, or with it
+abbrev pub promised_a_text : List Moment
+promised_a_text = delivered 3 2 1 ∷ line_of (event.Next 2 1) ∷ sent 3 2 1 name.Promise (promise 2 65 1 (only (letter 103))) ∷ collected
+
+abbrev pub installing_old : List Moment
+installing_old = sent 4 1 2 name.Install (install 65 none) ∷ installed 1 65 ∷ saved 1 ∷ promised_a_text
+
+abbrev pub installing_newest : List Moment
+installing_newest = sent 4 1 2 name.Install (install 65 (only (letter 103))) ∷ installed 1 65 ∷ saved 1 ∷ promised_a_text
+
+-- the text is pending in the Promise, and the Install leaves it so, or has it committed
+abbrev pub promised_a_pending_text : List Moment
+promised_a_pending_text =
+    delivered 3 2 1 ∷ line_of (event.Next 2 1) ∷ sent 3 2 1 name.Promise (promise_pending 2 65 1 (only (letter 103))) ∷ collected
+
+abbrev pub installing_as_pending : List Moment
+installing_as_pending =
+    sent 4 1 2 name.Install (8 ∷ 1 ∷ long 65 ++ short 3 ++ none ++ only (letter 103) ++ none) ∷ installed 1 65 ∷ saved 1 ∷ promised_a_pending_text
+
+abbrev pub installing_as_committed : List Moment
+installing_as_committed = sent 4 1 2 name.Install (install 65 (only (letter 103))) ∷ installed 1 65 ∷ saved 1 ∷ promised_a_pending_text
+
+-- node 1 installs and sends no Install; node 2 installs where its Install comes, or where none does
+abbrev pub installing_nothing : List Moment
+installing_nothing = installed 1 65 ∷ saved 1 ∷ delivered 3 2 1 ∷ line_of (event.Next 2 1) ∷ promised
+
+abbrev pub installing_and_down : List Moment
+installing_and_down = down 1 (cause.Panic (panic.Excluded 65)) ∷ installing_nothing
+
+abbrev pub installed_so : List Moment
+installed_so = installed 2 65 ∷ saved 2 ∷ delivered 4 1 2 ∷ line_of (event.Next 1 2) ∷ installing
+
+abbrev pub installed_untold : List Moment
+installed_untold = installed 2 65 ∷ saved 2 ∷ ticked 2 ∷ line_of (event.Tick 2) ∷ installing
+
+abbrev pub installed_for_another : List Moment
+installed_for_another = installed 2 129 ∷ saved 2 ∷ delivered 4 1 2 ∷ line_of (event.Next 1 2) ∷ installing
+
 -- the base has a text that the Installs have not
 abbrev pub based_otherwise : List Moment
 based_otherwise = base 65 1 (103 ∷ []) ∷ start 65 3 0 1 ∷ ready
@@ -182,7 +226,11 @@ asked_again =
     ∷ prepared_so
 
 abbrev pub promised_what_it_has : List Moment
-promised_what_it_has = sent 10 2 1 name.Promise (promise 2 129 65 (only (letter 103))) ∷ asked_again
+promised_what_it_has = sent 10 2 1 name.Promise (promise_pending 2 129 65 (only (letter 103))) ∷ asked_again
+
+-- the update is pending, for no Commit came
+abbrev pub promised_as_committed : List Moment
+promised_as_committed = sent 10 2 1 name.Promise (promise 2 129 65 (only (letter 103))) ∷ asked_again
 
 abbrev pub promised_less : List Moment
 promised_less = sent 10 2 1 name.Promise (promise 2 129 65 none) ∷ asked_again

@@ -11,7 +11,7 @@ use Rattle.schedule_text.specs.declared.event.Event.{Event}
 use Rattle.schedule_text.specs.declared.event.Event.TheVariants as event
 use Rattle.status_report.specs.declared.device_entry.DeviceAnswer.TheVariants.{Given}
 use Rattle.history.specs.Moment.{Moment, Said}
-use Rattle.history.specs.Trace.{up, ticked, saved, installed, member, device, attempt, start, accepted}
+use Rattle.history.specs.Trace.{up, stopped, ticked, saved, installed, member, device, attempt, start, accepted}
 use Rattle.history.specs.Setting.{Setting}
 use Rattle.history.specs.Seizing.{is_attempt}
 
@@ -83,6 +83,14 @@ forming =
     ∷ device 1 1 command.Word (Given (answer.Word 65))
     ∷ line_of (event.Disk 1)
     ∷ seizing
+
+-- it installs, and the membership does not start
+abbrev pub installed_alone : List Moment
+installed_alone = installed 1 65 ∷ saved 1 ∷ device 1 1 command.Word (Given (answer.Word 65)) ∷ line_of (event.Disk 1) ∷ seizing
+
+-- or it stops before that
+abbrev pub stopped_alone : List Moment
+stopped_alone = stopped 1 ∷ installed_alone
 
 abbrev pub writing : List Moment
 writing =

@@ -25,12 +25,16 @@ ghost use Rattle.history.specs.SampleMessages as messages;
 ghost use Rattle.history.specs.SampleContents as carried;
 ghost use Rattle.history.specs.SampleValidity as changing;
 ghost use Rattle.history.specs.History.{IsWhole};
-ghost use Rattle.history.specs.SampleOneNode.{alone};
+ghost use Rattle.history.specs.SampleOneNode.{alone, installed_alone, stopped_alone};
 ghost use Rattle.history.specs.SampleContents.{bare};
 ghost use Rattle.history.specs.SampleAnswers as answers;
 ghost use Rattle.history.specs.SampleResults as results;
 ghost use Rattle.history.specs.SampleResults.{asking, wordless, working};
 ghost use Rattle.history.specs.SampleLines as lined;
+ghost use Rattle.history.specs.SampleSilence as silence;
+ghost use Rattle.history.specs.SampleSilence.{seizing, collecting};
+ghost use Rattle.history.specs.SamplePending as pending;
+ghost use Rattle.history.specs.SamplePending.{voting};
 
 /// Device: a line ends `failed` exactly where a fault is armed, a later `fault` line stands in the place of an earlier one, and the
 /// device answers by what was done.
@@ -119,6 +123,9 @@ pub fn member()
 pub fn contact()
     ensures started_without_ready { OfNewest contact.IsReady messages.started_without_ready → ⊥ }
     ensures ready_before_install { OfNewest contact.IsReady messages.ready_before_install → ⊥ }
+    ensures installed_so { OfNewest contact.IsInstalled carried.installed_so }
+    ensures installed_untold { OfNewest contact.IsInstalled carried.installed_untold → ⊥ }
+    ensures installed_for_another { OfNewest contact.IsInstalled carried.installed_for_another → ⊥ }
     ensures held_by_another_word { OfNewest (contact.IsHeld two_nodes) split.held_by_another_word → ⊥ }
     ensures held_by_nobody { OfNewest (contact.IsHeld two_nodes) split.held_by_nobody → ⊥ }
     ensures started_too_early { OfNewest (contact.IsHeld two_nodes) split.started_too_early → ⊥ }
@@ -154,6 +161,10 @@ pub fn contents()
     ensures promised_too_much { OfNewest contents.IsRecord carried.promised_too_much → ⊥ }
     ensures promised_an_update { OfNewest contents.IsRecord carried.promised_an_update → ⊥ }
     ensures old_base { contents.NewestBase carried.old_base → ⊥ }
+    ensures installing_newest { OfNewest contents.IsNewestInstall carried.installing_newest }
+    ensures installing_as_pending { OfNewest contents.IsNewestInstall carried.installing_as_pending }
+    ensures installing_old { OfNewest contents.IsNewestInstall carried.installing_old → ⊥ }
+    ensures installing_as_committed { OfNewest contents.IsNewestInstall carried.installing_as_committed → ⊥ }
     ensures held_unknown { OfNewest (contents.IsKnownHeld two_nodes) carried.held_unknown → ⊥ }
     ensures false_heartbeat { OfNewest contents.IsHeartbeat carried.false_heartbeat → ⊥ }
     ensures prepared_so { OfNewest (contents.CarriesUpdate pair) carried.prepared_so }
@@ -164,6 +175,7 @@ pub fn contents()
     ensures promised_what_it_has { OfNewest contents.IsRecord carried.promised_what_it_has }
     ensures promised_less { OfNewest contents.IsRecord carried.promised_less → ⊥ }
     ensures promised_unseen { OfNewest contents.IsRecord carried.promised_unseen → ⊥ }
+    ensures promised_as_committed { OfNewest contents.IsRecord carried.promised_as_committed → ⊥ }
     ensures promised_as_new { OfNewest contents.IsRecord carried.promised_as_new → ⊥ }
     ensures requested_so { OfNewest (contents.CarriesUpdate bare) carried.requested_so }
     ensures requested_otherwise { OfNewest (contents.CarriesUpdate bare) carried.requested_otherwise → ⊥ }
@@ -241,6 +253,10 @@ pub fn attempts_end()
     ensures excluded_rightly { OfNewest (HasCause pair) answers.excluded_rightly }
     ensures split { OfNewest (HasCause pair) split.split }
     ensures silent_too_early { OfNewest (HasCause pair) answers.silent_too_early → ⊥ }
+    ensures silent_after_the_tick { OfNewest (HasCause pair) answers.silent_after_the_tick → ⊥ }
+    ensures silent_twice { OfNewest (HasCause pair) answers.silent_twice → ⊥ }
+    ensures silent_after_a_crash { OfNewest (HasCause pair) answers.silent_after_a_crash → ⊥ }
+    ensures started_at_the_end { OfNewest (HasCause pair) answers.started_at_the_end → ⊥ }
     ensures silent_and_answered { OfNewest (HasCause pair) answers.silent_and_answered → ⊥ }
     ensures superseded_by_nothing { OfNewest (HasCause pair) answers.superseded_by_nothing → ⊥ }
     ensures superseded_by_a_smaller { OfNewest (HasCause pair) answers.superseded_by_a_smaller → ⊥ }
@@ -251,6 +267,21 @@ pub fn attempts_end()
     ensures greater_unread { OfNewest (HasCause pair) answers.greater_unread → ⊥ }
     ensures no_path_with_a_path { OfNewest (HasCause pair) answers.no_path_with_a_path → ⊥ }
     ensures not_held_without_cause { AllAccounted pair answers.not_held_without_cause → ⊥ }
+{}
+
+/// Answers: `ended e votes` counts under the committed updates of the newest record, or, where these may be enough, with its pending one;
+/// whether the last is pending is told by acknowledgements, Commits, memberships and Installs.
+#[tactic(auto, unfolding(cl_base::specs::Sets::has, cl_base::specs::Sets::set_with, quorum_votes::specs::Sums::sum_to, wire::specs::Reads::number_at, wire::specs::Reads::byte_at, wire::specs::Reads::truth_at, wire::specs::Reads::node_at, wire::specs::Reads::device_at, wire::specs::Reads::text_at, wire::specs::Reads::devices_at, wire::specs::Reads::items_at, wire::specs::Reads::list_at, wire::specs::Reads::at_most_one_at, wire::specs::Reads::method_at, wire::specs::Reads::outcome_at, wire::specs::Reads::kind_at, wire::specs::Reads::marks_at, wire::specs::Reads::failures_at, wire::specs::Reads::reading_at, wire::specs::Reads::resource_at, wire::specs::Reads::group_at, wire::specs::Reads::report_at, wire::specs::Reads::seized_result_at, wire::specs::Reads::heartbeat_at, wire::specs::Reads::collect_at, wire::specs::Reads::promise_at, wire::specs::Reads::nack_at, wire::specs::Reads::install_at, wire::specs::Reads::ready_at, wire::specs::Reads::start_at, wire::specs::Reads::prepare_at, wire::specs::Reads::prepared_at, wire::specs::Reads::request_at, wire::specs::Reads::answer_at, wire::specs::Reads::body_at, wire::specs::Reads::message_at, wire::specs::Reads::whole_of))]
+pub fn pending_updates()
+    ensures short_when_proposed { OfNewest (HasCause voting) (pending.short_1 pending.proposed) }
+    ensures short_when_prepared { OfNewest (HasCause voting) (pending.short_2 pending.prepared) }
+    ensures short_when_committed_too_late { OfNewest (HasCause voting) (pending.short_2 pending.committed_too_late) }
+    ensures short_when_installed { OfNewest (HasCause voting) (pending.short_2 pending.pending_installed) }
+    ensures voteless_when_acknowledged { OfNewest (HasCause voting) (pending.voteless_1 pending.acknowledged) }
+    ensures voteless_when_proposed { OfNewest (HasCause voting) (pending.voteless_1 pending.proposed) → ⊥ }
+    ensures short_when_acknowledged { OfNewest (HasCause voting) (pending.short_1 pending.acknowledged) → ⊥ }
+    ensures short_when_committed { OfNewest (HasCause voting) (pending.short_2 pending.committed) → ⊥ }
+    ensures short_when_started { OfNewest (HasCause voting) (pending.short_2 pending.pending_started) → ⊥ }
 {}
 
 /// Answers: each result of a device in `ended e votes` has what shows it.
@@ -271,6 +302,40 @@ pub fn results()
     ensures not_registered_but_valid { OfNewest (HasCause pair) results.not_registered_but_valid → ⊥ }
     ensures silent_without_a_task { OfNewest (HasCause pair) results.silent_without_a_task → ⊥ }
     ensures superseded_by_itself { OfNewest (HasCause pair) results.superseded_by_itself → ⊥ }
+{}
+
+/// Answers: a coordinator ends its attempt over its own silence where its task was there at each of its last eight ticks, all Promises had
+/// come before these, and it asked nothing new since.
+#[tactic(auto, unfolding(cl_base::specs::Sets::has))]
+pub fn own_silence()
+    ensures own_silence { OfNewest (HasCause seizing) silence.own_silence }
+    ensures later_silence { OfNewest (HasCause seizing) silence.later_silence }
+    ensures silence_after_asking { OfNewest (HasCause seizing) silence.silence_after_asking }
+    ensures own_silence_too_early { OfNewest (HasCause seizing) silence.own_silence_too_early → ⊥ }
+    ensures later_silence_too_early { OfNewest (HasCause seizing) silence.later_silence_too_early → ⊥ }
+    ensures silence_soon_after_asking { OfNewest (HasCause seizing) silence.silence_soon_after_asking → ⊥ }
+{}
+
+/// Answers: the least member whose answer is missing is named, eight ticks after the coordinator last asked something new.
+#[tactic(auto, unfolding(cl_base::specs::Sets::has))]
+pub fn silence_of_others()
+    ensures named_the_least { OfNewest (HasCause collecting) silence.named_the_least }
+    ensures silence_of_2 { OfNewest (HasCause collecting) silence.silence_of_2 }
+    ensures named_the_greater { OfNewest (HasCause collecting) silence.named_the_greater → ⊥ }
+    ensures named_another { OfNewest (HasCause seizing) silence.named_another → ⊥ }
+    ensures silence_of_2_too_early { OfNewest (HasCause collecting) silence.silence_of_2_too_early → ⊥ }
+{}
+
+/// Answers: an attempt ends at the eighth tick of a phase, where the coordinator's own task is left.
+#[tactic(auto, unfolding(cl_base::specs::Sets::has))]
+pub fn own_tasks_end_in_time()
+    ensures own_task_in_time { OfNewestEvent (EndsInTime seizing) silence.own_task_in_time }
+    ensures own_silence { OfNewestEvent (EndsInTime seizing) silence.own_silence }
+    ensures later_task_in_time { OfNewestEvent (EndsInTime seizing) silence.later_task_in_time }
+    ensures alone_in_time { OfNewestEvent (EndsInTime alone) silence.alone_in_time }
+    ensures own_task_too_long { OfNewestEvent (EndsInTime seizing) silence.own_task_too_long → ⊥ }
+    ensures later_task_too_long { OfNewestEvent (EndsInTime seizing) silence.later_task_too_long → ⊥ }
+    ensures alone_too_long { OfNewestEvent (EndsInTime alone) silence.alone_too_long → ⊥ }
 {}
 
 /// Answers: an attempt ends at the eighth tick after its coordinator last asked something new, where an answer is missing.
@@ -335,6 +400,11 @@ pub fn messages()
     ensures collect_unanswered { OfNewestEvent (Owes pair) answers.collect_unanswered → ⊥ }
     ensures install_unanswered { OfNewestEvent (Owes pair) answers.install_unanswered → ⊥ }
     ensures proposed_to_nobody { OfNewestEvent (Owes pair) answers.proposed_to_nobody → ⊥ }
+    ensures installing { OfNewestEvent (Owes bare) carried.installing }
+    ensures installing_nothing { OfNewestEvent (Owes bare) carried.installing_nothing → ⊥ }
+    ensures installing_and_down { OfNewestEvent (Owes bare) carried.installing_and_down → ⊥ }
+    ensures stopped_alone { OfNewestEvent (Owes alone) stopped_alone }
+    ensures installed_alone { OfNewestEvent (Owes alone) installed_alone → ⊥ }
     ensures request_unsent { OfNewestEvent (Owes pair) answers.request_unsent → ⊥ }
     ensures doings_of_two { OfNewestEvent (Owes pair) answers.doings_of_two → ⊥ }
     ensures prepare_not_repeated { OfNewestEvent (Owes pair) answers.prepare_not_repeated → ⊥ }

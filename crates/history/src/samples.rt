@@ -11,11 +11,18 @@ ghost use Rattle.history.specs.SampleOneNode.{alone, writing};
 ghost use Rattle.history.specs.SampleSplit.{two_nodes, pair, split};
 ghost use Rattle.history.specs.SampleAmnesia.{amnesia};
 ghost use Rattle.history.specs.SampleContents.{bare, formed};
+ghost use Rattle.history.specs.SampleSilence.{alone_and_silent};
 
 /// A node alone seizes its device, forms a membership and writes: this trace is a history.
 #[tactic(auto, unfolding(cl_base::specs::Sets::has, quorum_votes::specs::Sums::sum_to))]
 pub fn one_node_and_its_disk()
     ensures history { History alone writing }
+{}
+
+/// A node alone does nothing for its device, and its attempt ends at the eighth tick: this trace is a history.
+#[tactic(auto, unfolding(cl_base::specs::Sets::has, quorum_votes::specs::Sums::sum_to))]
+pub fn one_node_waits_for_itself()
+    ensures history { History alone alone_and_silent }
 {}
 
 /// A cluster is split; the node that the new membership leaves out is fenced, and cannot form one by itself.
