@@ -2,7 +2,7 @@
 use Rattle.std.proofs.Common.{◌≡◌, ℕ, ◌+◌, ◌≤◌, ◌<◌, ◌⊎◌, inl, inr, List, [], ◌∷◌, ◌++◌, length, map, zero, suc, refl, sym, ap, subst, ◌∙◌, arith}
 use Rattle.std.specs.Prelude.{All, ◌==◌, ◌&&◌, ◌||◌, nat_le, Bool, true, false, not, Option, Some, None, is_none, is_some, option_map, if◌then◌else◌}
 use Rattle.std.specs.List.{find, filter_map, cons_option, list_any}
-use Rattle.std.proofs.lemmas.List.Elements.{All-nil, All-cons, All-append}
+use Rattle.std.proofs.lemmas.List.Elements.{All-nil, All-cons, All-head, All-tail, All-append}
 use Rattle.cl_base.specs.Sets.{has, set_with}
 use Rattle.cl_base.proofs.SetLemmas.{has_with, or_bit_value, has_not_zero}
 use Rattle.machine_base.proofs.Puts.{put_here, put_true, true_or_false}
@@ -25,18 +25,18 @@ use Rattle.cmm_attempt.specs.declared.promised.Promised.{Promised}
 use Rattle.cmm_attempt.specs.declared.promised.Shown.{Shown}
 use Rattle.cmm_attempt.specs.declared.seizing.Seizing.{Seizing}
 use Rattle.cmm_attempt.specs.declared.step.Step.{Step}
-use Rattle.cmm_attempt.specs.declared.step.Step.TheVariants.{NeedVotes, StartHere}
+use Rattle.cmm_attempt.specs.declared.step.Step.TheVariants.{Send, SeizeHere, NeedVotes, InstallHere, StartHere, Ended}
 use Rattle.cmm_attempt.specs.declared.step.AttemptEnd.{AttemptEnd}
 use Rattle.cmm_attempt.specs.declared.step.AttemptEnd.TheVariants.{Silent, Superseded, Excluded}
 use Rattle.cmm_attempt.specs.Plans.{nodes_to, others_of, is_reachable}
 use Rattle.cmm_attempt.specs.Promises.{holds_valid, promised_by, shown_by, is_ready, newest_shown, is_left_out, has_promised}
-use Rattle.cmm_attempt.specs.Seizings.{key_of, may_follow, may_seize, all_settled, awaits, held_set, is_asked, is_held_by, is_seized, first_seizer, vote_entry, plain_entry, plain_new, next_by, request, request_for, with_next, with_result, result_of}
+use Rattle.cmm_attempt.specs.Seizings.{key_of, may_follow, may_seize, all_settled, awaits, held_set, is_asked, is_held_by, is_seized, first_seizer, vote_entry, plain_entry, plain_new, next_by, request, request_body, request_by, request_for, again_by, again_for, with_next, with_result, result_of}
 use Rattle.cmm_attempt.specs.Counts.{is_quorum, reached_set, vote_new}
-use Rattle.cmm_attempt.specs.Installs.{send_start}
-use Rattle.cmm_attempt.specs.Attempts.{AttemptState, Turn, with_steps, waits, ends, is_over, is_missing, silent_others, all_ready, starting, in_phase, installing, plain_devices, asked_plain, seizing_others, shortage, counted_by, counting, settled_in, proceeding, settled, asked_next, next_asked, answered_on, answering, answering_in, asked_votes, vote_entries_under, vote_entries, seizing_votes, possible, voting, chosen, chosen_by, choosing, all_promised, collects, first_state, promises_of, begun, beginning, awaits_promise, gathered, with_promise, promising, awaits_ready, readying, is_of, taken, taking, own_readying_in, own_readying, own_answering, again_in, silenced, ticked, later, ticking}
+use Rattle.cmm_attempt.specs.Installs.{send_to, send_start}
+use Rattle.cmm_attempt.specs.Attempts.{AttemptState, Turn, with_steps, waits, ends, is_over, is_missing, silent_others, all_ready, starting, install_in, installs, in_phase, installing, plain_devices, asked_plain, seizing_others, shortage, counted_by, counting, settled_in, proceeding, settled, asked_next, next_asked, answered_on, answering, answering_in, asked_votes, vote_entries_under, vote_entries, seizing_votes, possible, voting, chosen, chosen_by, choosing, all_promised, collects, first_state, promises_of, begun, beginning, awaits_promise, gathered, with_promise, promising, awaits_ready, readying, is_of, taken, taking, own_readying_in, own_readying, own_answering, again_in, silenced, ticked, later, ticking}
 use Rattle.cmm_attempt.specs.Laws.{Take, With_votes, Own_seized, Own_ready, Tick, is_held_in}
 use Rattle.cmm_attempt.specs.Machine.{is_member, installs_in}
-use Rattle.cmm_attempt.specs.Asking.{EndedSo, TellsAt, IsUnasked, IsOpen, IsFresh, is_vote, EndedAs, IsAsked, AskedBy, HasEntry, entry_of, AreApart, numbers_of, HasIn, entry_numbers, HasAttempt, DeviceHas, IsAsking, CountsAt, Moves, DevicesBegin, CallsMove}
+use Rattle.cmm_attempt.specs.Asking.{EndedSo, TellsAt, IsUnasked, IsOpen, IsFresh, is_vote, EndedAs, IsAsked, AskedBy, HasEntry, HasAsked, AsksBy, AsksAt, entry_of, AreApart, numbers_of, HasIn, entry_numbers, HasAttempt, DeviceHas, IsAsking, CountsAt, Moves, DevicesBegin, CallsMove}
 use Rattle.cmm_attempt.proofs.QuietLemmas.{none_some, false_true, same_some, and_cases, either_of, same_number, if_either}
 use Rattle.cmm_attempt.proofs.CauseLemmas.{if_with}
 use Rattle.cmm_attempt.proofs.StillHeld.{same_attached}
@@ -320,18 +320,128 @@ apart_append (e ∷ es) more h k apart = (
         or_false (x.attached.device == d) (list_any (λ y. y == d) (entry_numbers xs)) p in
         rw two.0 (lacks_both xs d two.1 q)
 
+-- What is asked.
+
+sends_ask : (t : Sharing) (plan : Plan) (d : ℕ) (b : Body) → ((n : ℕ) → AsksBy t plan d n b) → (ns : List ℕ) → All (AsksAt t plan d) (map (send_to plan b) ns)
+sends_ask t plan d b each [] = All-nil (AsksAt t plan d)
+sends_ask t plan d b each (n ∷ ns) = All-cons (AsksAt t plan d) (send_to plan b n) (map (send_to plan b) ns) (each n) (sends_ask t plan d b each ns)
+
+body_asks : (t : Sharing) (plan : Plan) (d x n : ℕ) (kind : SeizeKind) → (x ≡ d → HasAsked t plan.epoch n kind) → AsksBy t plan d n (request_body plan kind x)
+body_asks t plan d x n Vote h = (refl, refl, h)
+body_asks t plan d x n Plain h = (refl, refl, h)
+
+request_asks : (t : Sharing) (plan : Plan) (d x n : ℕ) (kind : SeizeKind) → (x ≡ d → HasAsked t plan.epoch n kind) → AsksAt t plan d (request plan kind x n)
+request_asks t plan d x n kind h =
+    if_with_step (n == plan.coordinator) (n == plan.coordinator) refl
+    (λ e k. subst (λ m. HasAsked t plan.epoch m kind) (same_number n plan.coordinator e) (h k)) (body_asks t plan d x n kind h)
+  where
+    if_with_step : (b c : Bool) → b ≡ c → (b ≡ true → x ≡ d → HasAsked t plan.epoch plan.coordinator kind) → AsksBy t plan d n (request_body plan kind x)
+        → AsksAt t plan d (if c then SeizeHere x kind else Send n (record { sender = plan.coordinator; body = request_body plan kind x }))
+    if_with_step b true e p q = p e
+    if_with_step b false e p q = q
+
+AsksMaybe : Sharing → Plan → ℕ → Option Step → Type 0
+AsksMaybe t plan d None = Unit {0}
+AsksMaybe t plan d (Some x) = AsksAt t plan d x
+
+asks_option : (t : Sharing) (plan : Plan) (d : ℕ) (o : Option Step) (steps : List Step) → AsksMaybe t plan d o → All (AsksAt t plan d) steps
+    → All (AsksAt t plan d) (cons_option o steps)
+unfolding AsksMaybe
+asks_option t plan d None steps h more = more
+asks_option t plan d (Some x) steps h more = All-cons (AsksAt t plan d) x steps h more
+
+-- an entry of device d is as the machine has it
+abbrev IsAskedAt : Sharing → Plan → ℕ → Seizing → Type 0
+IsAskedAt t plan d e = e.attached.device ≡ d → AskedBy t plan.epoch e e.seizer
+
+asked_at : (t : Sharing) (plan : Plan) (d n : ℕ) (e : Seizing) (o : Option ℕ) → o ≡ Some n → AskedBy t plan.epoch e o → HasAsked t plan.epoch n e.kind
+asked_at t plan d n e None is h = absurd (none_some n is)
+asked_at t plan d n e (Some m) is h =
+    (subst (λ k. (t.attempt plan.epoch).asked k ≡ true) (same_some m n is) h.asked, h.kind)
+
+by_request : (t : Sharing) (plan : Plan) (d : ℕ) (e : Seizing) (r : Option SeizeResult) (o : Option ℕ) → e.seizer ≡ o → IsAskedAt t plan d e → AsksMaybe t plan d (request_by plan e r o)
+unfolding AsksMaybe
+by_request t plan d e None (Some n) is h = request_asks t plan d e.attached.device n e.kind (λ k. asked_at t plan d n e e.seizer is (h k))
+by_request t plan d e None None is h = tt
+by_request t plan d e (Some r) o is h = tt
+
+requests_ask : (t : Sharing) (plan : Plan) (d : ℕ) (es : List Seizing) → All (IsAskedAt t plan d) es → All (AsksAt t plan d) (filter_map (request_for plan) es)
+requests_ask t plan d [] h = All-nil (AsksAt t plan d)
+requests_ask t plan d (e ∷ es) h =
+    asks_option t plan d (request_for plan e) (filter_map (request_for plan) es) (by_request t plan d e e.result e.seizer refl (All-head (IsAskedAt t plan d) e es h))
+    (requests_ask t plan d es (All-tail (IsAskedAt t plan d) e es h))
+
+by_again : (t : Sharing) (plan : Plan) (d : ℕ) (e : Seizing) (r : Option SeizeResult) (o : Option ℕ) → e.seizer ≡ o → IsAskedAt t plan d e → AsksMaybe t plan d (again_by plan e r o)
+unfolding AsksMaybe
+by_again t plan d e None (Some n) is h =
+    if_either (AsksMaybe t plan d) (n == plan.coordinator) None (Some (request plan e.kind e.attached.device n)) tt
+    (request_asks t plan d e.attached.device n e.kind (λ k. asked_at t plan d n e e.seizer is (h k)))
+by_again t plan d e None None is h = tt
+by_again t plan d e (Some r) o is h = tt
+
+again_asks : (t : Sharing) (plan : Plan) (d : ℕ) (es : List Seizing) → All (IsAskedAt t plan d) es → All (AsksAt t plan d) (filter_map (again_for plan) es)
+again_asks t plan d [] h = All-nil (AsksAt t plan d)
+again_asks t plan d (e ∷ es) h =
+    asks_option t plan d (again_for plan e) (filter_map (again_for plan) es) (by_again t plan d e e.result e.seizer refl (All-head (IsAskedAt t plan d) e es h))
+    (again_asks t plan d es (All-tail (IsAskedAt t plan d) e es h))
+
+-- since devices are apart, an entry of device d is the entry of d
+abbrev IsTheEntry : List Seizing → ℕ → Seizing → Type 0
+IsTheEntry es d e = e.attached.device ≡ d → entry_of es d ≡ Some e
+
+each_lacks : (es : List Seizing) (k : ℕ) → list_any (λ x. x == k) (entry_numbers es) ≡ false → All (λ e. (e.attached.device == k) ≡ false) es
+each_lacks [] k h = All-nil (λ e. (e.attached.device == k) ≡ false)
+each_lacks (e ∷ es) k h =
+    let two : ((e.attached.device == k) ≡ false) × (list_any (λ x. x == k) (entry_numbers es) ≡ false) = or_false (e.attached.device == k) (list_any (λ x. x == k) (entry_numbers es)) h in
+    All-cons (λ y. (y.attached.device == k) ≡ false) e es two.0 (each_lacks es k two.1)
+
+is_itself : (n d : ℕ) → n ≡ d → (n == d) ≡ true
+is_itself n d h = grind arith
+
+is_not : (y e d : ℕ) → (y == e) ≡ false → y ≡ d → (e == d) ≡ false
+is_not y e d h k = grind arith
+
+behind_another : (x : Seizing) (es : List Seizing) (d : ℕ) (e : Seizing) → (e.attached.device == x.attached.device) ≡ false → IsTheEntry es d e → IsTheEntry (x ∷ es) d e
+behind_another x es d e ne h k = rw (is_not e.attached.device x.attached.device d ne k) (h k)
+
+map_two : (P Q R : Seizing → Type 0) → ((e : Seizing) → P e → Q e → R e) → (es : List Seizing) → All P es → All Q es → All R es
+map_two P Q R f [] h k = All-nil R
+map_two P Q R f (e ∷ es) h k =
+    All-cons R e es (f e (All-head P e es h) (All-head Q e es k)) (map_two P Q R f es (All-tail P e es h) (All-tail Q e es k))
+
+entries_apart : (es : List Seizing) (d : ℕ) → AreApart (entry_numbers es) → All (IsTheEntry es d) es
+entries_apart [] d h = All-nil (IsTheEntry [] d)
+entries_apart (x ∷ es) d h =
+    All-cons (IsTheEntry (x ∷ es) d) x es (λ k. rw (is_itself x.attached.device d k) refl)
+    (map_two (λ e. (e.attached.device == x.attached.device) ≡ false) (IsTheEntry es d) (IsTheEntry (x ∷ es) d) (behind_another x es d) es
+    (each_lacks es x.attached.device h.0) (entries_apart es d h.1))
+
+all_map : (P Q : Seizing → Type 0) → ((e : Seizing) → P e → Q e) → (es : List Seizing) → All P es → All Q es
+all_map P Q f [] h = All-nil Q
+all_map P Q f (e ∷ es) h = All-cons Q e es (f e (All-head P e es h)) (all_map P Q f es (All-tail P e es h))
+
+all_right : (P : Seizing → Type 0) (xs ys : List Seizing) → All P (xs ++ ys) → All P ys
+all_right P [] ys h = h
+all_right P (x ∷ xs) ys h = all_right P xs ys (All-tail P x (xs ++ ys) h)
+
+entries_asked : (t : Sharing) (plan : Plan) (es : List Seizing) (d : ℕ) → AreApart (entry_numbers es) → HasEntry t plan.epoch (entry_of es d) → All (IsAskedAt t plan d) es
+entries_asked t plan es d apart h =
+    all_map (IsTheEntry es d) (IsAskedAt t plan d) (λ e is k. subst (HasEntry t plan.epoch) (is k) h) es (entries_apart es d apart)
+
 -- Moves.
 
-moves_quiet : (t : Sharing) (all : ℕ → Bool) (s : AttemptState) (d : ℕ) (steps : List Step) → installs_in steps ≡ None → DeviceHas t s d → Moves t s.plan.epoch all d (with_steps s steps)
-moves_quiet t all s d steps none h = record {
+moves_quiet : (t : Sharing) (all : ℕ → Bool) (s : AttemptState) (d : ℕ) (steps : List Step) → installs_in steps ≡ None → All (AsksAt t s.plan d) steps → DeviceHas t s d
+    → Moves t s.plan.epoch all d (with_steps s steps)
+moves_quiet t all s d steps none asks h = record {
   events = [];
   asking = All-nil (IsAsking s.plan.epoch all);
   allowed = tt;
+  asked = asks;
   counts = subst (CountsAt t s d) (sym none) h;
 }
 
 moves_waits : (t : Sharing) (all : ℕ → Bool) (s : AttemptState) (d : ℕ) → DeviceHas t s d → Moves t s.plan.epoch all d (waits s)
-moves_waits t all s d h = moves_quiet t all s d [] refl h
+moves_waits t all s d h = moves_quiet t all s d [] refl (All-nil (AsksAt t s.plan d)) h
 
 over : (t : Sharing) (plan : Plan) (promises : List Promised) (devices : List Seizing) (d : ℕ) (phase : Phase) → HasAttempt t plan promises devices d phase
     → HasAttempt t plan promises devices d Over
@@ -342,6 +452,7 @@ moves_ends t all s d e h = record {
   events = [];
   asking = All-nil (IsAsking s.plan.epoch all);
   allowed = tt;
+  asked = All-cons (AsksAt t s.plan d) (Ended e) [] tt (All-nil (AsksAt t s.plan d));
   counts = over t s.plan s.promises s.devices d s.phase h;
 }
 
@@ -350,6 +461,7 @@ moves_first t q all d u e is may m = record {
   events = e ∷ m.events;
   asking = All-cons (IsAsking q all) e m.events is m.asking;
   allowed = (may, m.allowed);
+  asked = m.asked;
   counts = m.counts;
 }
 
@@ -359,6 +471,7 @@ moves_starting t all s d h =
     let o : AttemptState = record s { phase = Over } in
     if_either (Moves t s.plan.epoch all d) (s.own_ready && all_ready s) (with_steps o (StartHere ∷ map (send_start s.plan) (others_of s.plan))) (waits s)
     (moves_quiet t all o d (StartHere ∷ map (send_start s.plan) (others_of s.plan)) (none_sent s.plan (body.Start s.plan.epoch) (others_of s.plan))
+    (All-cons (AsksAt t s.plan d) StartHere (map (send_start s.plan) (others_of s.plan)) tt (sends_ask t s.plan d (body.Start s.plan.epoch) (λ n. tt) (others_of s.plan)))
     (over t s.plan s.promises s.devices d s.phase h))
     (moves_waits t all s d h)
 
@@ -430,6 +543,9 @@ moves_installing t all s d nodes attached apart opened has settled =
       events = [];
       asking = All-nil (IsAsking s.plan.epoch all);
       allowed = tt;
+      asked =
+          All-cons (AsksAt t s.plan d) (InstallHere (install_in (in_phase s Installing))) (installs (in_phase s Installing)) tt
+          (sends_ask t s.plan d (body.Install (install_in (in_phase s Installing))) (λ n. tt) (silent_others (in_phase s Installing)));
       counts = (
         may_count t s.plan.epoch s.plan.members d s.devices held refl opened has apart settled,
         record { nodes = nodes; attached = attached; apart = apart; has = counted_as t s.plan.epoch held },
@@ -476,6 +592,7 @@ moves_over t all s d e nodes attached apart = record {
   events = [];
   asking = All-nil (IsAsking s.plan.epoch all);
   allowed = tt;
+  asked = All-cons (AsksAt t s.plan d) (Ended e) [] tt (All-nil (AsksAt t s.plan d));
   counts = record { nodes = nodes; attached = attached; apart = apart; has = tt };
 }
 
@@ -554,6 +671,7 @@ moves_plain t all s d more sits is_settled new apart =
     (moves_more t s.plan.epoch all d (with_steps u steps) s.plan.members s.devices more (entry_of s.devices d) refl sits.opened sits.entry new
     (λ v opened_there has_there.
     moves_quiet v all u d steps (none_requests s.plan more)
+    (requests_ask v s.plan d more (all_right (IsAskedAt v s.plan d) s.devices more (entries_asked v s.plan (s.devices ++ more) d apart has_there)))
     (record { nodes = sits.nodes; attached = sits.attached; apart = apart; has = (opened_there, has_there) })))
 
 moves_others : (t : Sharing) (all : ℕ → Bool) (s : AttemptState) (d : ℕ) → Sits t s.plan s.devices d → all_settled s.devices ≡ true → Moves t s.plan.epoch all d (seizing_others s)
@@ -590,7 +708,8 @@ unfolding asked_votes IsSeizingIn
 moves_asked_votes t all s d is sits =
     if_with (Moves t s.plan.epoch all d) (all_settled s.devices) (all_settled s.devices) (counting s) (with_steps s (filter_map (request_for s.plan) s.devices)) refl
     (moves_counting t all s d sits)
-    (moves_quiet t all s d (filter_map (request_for s.plan) s.devices) (none_requests s.plan s.devices) (has_of t s.plan s.promises s.devices d s.phase (inl is) sits))
+    (moves_quiet t all s d (filter_map (request_for s.plan) s.devices) (none_requests s.plan s.devices)
+    (requests_ask t s.plan d s.devices (entries_asked t s.plan s.devices d sits.apart sits.entry)) (has_of t s.plan s.promises s.devices d s.phase (inl is) sits))
 
 moves_seizing_votes : (t : Sharing) (all : ℕ → Bool) (s : AttemptState) (d : ℕ) → s.phase ≡ SeizingVotes → s.plan.nodes ≡ nodes_to s.plan.members 32
     → AreApart (numbers_of s.plan.attached) → IsOpen (t.attempt s.plan.epoch) s.plan.members → IsUnasked (t.attempt s.plan.epoch) → Moves t s.plan.epoch all d (seizing_votes s)
@@ -741,10 +860,28 @@ moves_with_next t q all d x u set n (Some e) opened h next rest = by_test (e.att
     by_test true false here unended go = go t opened h
     by_test false z here unended go = go t opened h
 
+asked_by_next : (t : Sharing) (q n : ℕ) (e : Seizing) (y z : Bool) → y ≡ true → z ≡ true
+    → HasEntry t q (Some (if y && z then record e { seizer = Some n; asked = set_with e.asked n } else e)) → IsAsked t q n (record e { seizer = Some n; asked = set_with e.asked n })
+asked_by_next t q n e true true a b h = h
+asked_by_next t q n e true false a b h = absurd (false_true b)
+asked_by_next t q n e false z a b h = absurd (false_true a)
+
+-- the node that is asked next is the one that the entry has then
+next_asked_there : (t : Sharing) (q d x n : ℕ) (kind : SeizeKind) (es : List Seizing) → HasEntry t q (option_map (with_next x n) (entry_of es d))
+    → (x ≡ d → (e : Seizing) × (entry_of es d ≡ Some e) × (is_none e.result ≡ true) × (e.kind ≡ kind)) → x ≡ d → HasAsked t q n kind
+next_asked_there t q d x n kind es h awaited here =
+    let f : (e : Seizing) × (entry_of es d ≡ Some e) × (is_none e.result ≡ true) × (e.kind ≡ kind) = awaited here in
+    let there : HasEntry t q (Some (with_next x n f.0)) = subst (λ o. HasEntry t q (option_map (with_next x n) o)) f.1 h in
+    let device : (f.0.attached.device == x) ≡ true = is_itself f.0.attached.device x (found_device es d f.0 f.1 ∙ sym here) in
+    let asked : IsAsked t q n (record f.0 { seizer = Some n; asked = set_with f.0.asked n }) =
+    asked_by_next t q n f.0 (f.0.attached.device == x) (is_none f.0.result) device f.2 there in
+    (asked.asked, asked.kind ∙ ap is_vote f.3)
+
 moves_asked_next : (t : Sharing) (all : ℕ → Bool) (s : AttemptState) (d x : ℕ) (kind : SeizeKind) (n : ℕ) → IsSeizingIn s.phase → DeviceHas t s d
-    → ((e : Seizing) → entry_of s.devices d ≡ Some e → x ≡ d → IsNext t s.plan.epoch s.plan.members e n) → Moves t s.plan.epoch all d (asked_next s x kind n)
+    → ((e : Seizing) → entry_of s.devices d ≡ Some e → x ≡ d → IsNext t s.plan.epoch s.plan.members e n)
+    → (x ≡ d → (e : Seizing) × (entry_of s.devices d ≡ Some e) × (is_none e.result ≡ true) × (e.kind ≡ kind)) → Moves t s.plan.epoch all d (asked_next s x kind n)
 unfolding asked_next
-moves_asked_next t all s d x kind n is h next =
+moves_asked_next t all s d x kind n is h next awaited =
     let u : AttemptState = record s { devices = map (with_next x n) s.devices; ticks = 0 } in
     let steps : List Step = request s.plan kind x n ∷ [] in
     let same : (e : Seizing) → (with_next x n e).attached ≡ e.attached =
@@ -754,6 +891,8 @@ moves_asked_next t all s d x kind n is h next =
     (λ e there here. next e there (sym (same_number e.attached.device x here) ∙ found_device s.devices d e there))
     (λ v opened_there has_there.
     moves_quiet v all u d steps (none_cons (request s.plan kind x n) [] (none_asked s.plan kind x n) refl)
+    (All-cons (AsksAt v s.plan d) (request s.plan kind x n) []
+    (request_asks v s.plan d x n kind (next_asked_there v s.plan.epoch d x n kind s.devices has_there awaited)) (All-nil (AsksAt v s.plan d)))
     (has_of v s.plan s.promises (map (with_next x n) s.devices) d s.phase is (record {
       nodes = h.nodes;
       attached = h.attached;
@@ -801,6 +940,17 @@ awaited_at es x from d e apart h is =
     entry_found x (awaits x from) (λ y k. (three (y.attached.device == x) (is_none y.result) (is_asked y.seizer from) k).0) es apart e h in
     (subst (λ k. entry_of es k ≡ Some e) is two.0, asked_is e.seizer from (three (e.attached.device == x) (is_none e.result) (is_asked e.seizer from) two.1).1)
 
+second_of : (a b c : Bool) → (a && b && c) ≡ true → b ≡ true
+second_of true true c k = refl
+second_of true false c k = absurd (false_true k)
+second_of false b c k = absurd (false_true k)
+
+unended_by : (es : List Seizing) (x from : ℕ) (e : Seizing) → AreApart (entry_numbers es) → find (awaits x from) es ≡ Some e → is_none e.result ≡ true
+unended_by es x from e apart h =
+    let two : (entry_of es x ≡ Some e) × (awaits x from e ≡ true) =
+    entry_found x (awaits x from) (λ y k. (three (y.attached.device == x) (is_none y.result) (is_asked y.seizer from) k).0) es apart e h in
+    second_of (e.attached.device == x) (is_none e.result) (is_asked e.seizer from) two.1
+
 told_of : (t : Sharing) (q : ℕ) (es : List Seizing) (x from d : ℕ) (r : SeizeResult) (e : Seizing) → AreApart (entry_numbers es) → find (awaits x from) es ≡ Some e
     → (x ≡ d → EndedSo t q from r) → x ≡ d → IsToldOf t q es d r
 told_of t q es x from d r e apart h told is e' n there seizer =
@@ -820,6 +970,9 @@ moves_next t all s d x from r e (Some n) is h awaited told next =
     let two : (entry_of s.devices d ≡ Some e) × (e.seizer ≡ Some from) = awaited_at s.devices x from d e h.apart awaited here in
     subst (λ y. IsNext t s.plan.epoch s.plan.members y n) (same_some e e' (sym two.0 ∙ there))
     (next_of s.plan.cluster s.promises s.plan e e.kind r n t s.plan.epoch from h.nodes next two.1 (told here)))
+    (λ here.
+    let two : (entry_of s.devices d ≡ Some e) × (e.seizer ≡ Some from) = awaited_at s.devices x from d e h.apart awaited here in
+    (e, two.0, unended_by s.devices x from e h.apart awaited, refl))
 
 moves_on : (t : Sharing) (all : ℕ → Bool) (s : AttemptState) (d x from : ℕ) (r : SeizeResult) (o : Option Seizing) → IsSeizingIn s.phase → DeviceHas t s d
     → find (awaits x from) s.devices ≡ o → (x ≡ d → EndedSo t s.plan.epoch from r) → Moves t s.plan.epoch all d (answered_on s x r o)
@@ -866,7 +1019,7 @@ moves_chosen t all s d newest None same every h fresh =
     let here : v.attempt s.plan.epoch ≡ attempt.collecting (t.attempt s.plan.epoch) all = put_here t.attempt s.plan.epoch (attempt.collecting (t.attempt s.plan.epoch) all) in
     moves_first t s.plan.epoch all d (with_steps u steps) (Collected s.plan.epoch all) (refl, refl)
     (fresh.1, fresh.0.collected, promised_enough t all s same h.nodes every fresh.2)
-    (moves_quiet v all u d steps refl (record {
+    (moves_quiet v all u d steps refl (All-cons (AsksAt v s.plan d) (NeedVotes newest.summary.node) [] tt (All-nil (AsksAt v s.plan d))) (record {
       nodes = h.nodes;
       attached = h.attached;
       apart = h.apart;
@@ -895,7 +1048,8 @@ moves_begun : (t : Sharing) (all : ℕ → Bool) (s : AttemptState) (d : ℕ) �
     → Moves t s.plan.epoch all d (begun s)
 moves_begun t all s d same h fresh =
     if_with (Moves t s.plan.epoch all d) (all_promised s) (all_promised s) (choosing s) (with_steps s (collects s)) refl (moves_choosing t all s d same h fresh)
-    (moves_quiet t all s d (collects s) (none_sent s.plan (body.Collect s.plan.epoch s.plan.members) (silent_others s)) h)
+    (moves_quiet t all s d (collects s) (none_sent s.plan (body.Collect s.plan.epoch s.plan.members) (silent_others s))
+    (sends_ask t s.plan d (body.Collect s.plan.epoch s.plan.members) (λ n. tt) (silent_others s)) h)
 
 awaits_collecting : (s : AttemptState) (n : ℕ) (phase : Phase) → awaits_promise s n phase ≡ true → phase ≡ Collecting
 awaits_collecting s n Collecting h = refl
@@ -977,13 +1131,26 @@ moves_silenced : (t : Sharing) (all : ℕ → Bool) (s : AttemptState) (d : ℕ)
 moves_silenced t all s d None h = moves_waits t all s d h
 moves_silenced t all s d (Some n) h = moves_ends t all s d (Silent n) h
 
+again_in_asks : (t : Sharing) (s : AttemptState) (d : ℕ) (phase : Phase) → s.phase ≡ phase → DeviceHas t s d → All (AsksAt t s.plan d) (again_in s phase)
+unfolding IsSeizingIn
+again_in_asks t s d Collecting is h = sends_ask t s.plan d (body.Collect s.plan.epoch s.plan.members) (λ n. tt) (silent_others s)
+again_in_asks t s d Choosing is h = All-nil (AsksAt t s.plan d)
+again_in_asks t s d SeizingVotes is h =
+    let sits : Sits t s.plan s.devices d = sits_of t s.plan s.promises s.devices d s.phase (inl is) h in
+    again_asks t s.plan d s.devices (entries_asked t s.plan s.devices d sits.apart sits.entry)
+again_in_asks t s d SeizingOthers is h =
+    let sits : Sits t s.plan s.devices d = sits_of t s.plan s.promises s.devices d s.phase (inr is) h in
+    again_asks t s.plan d s.devices (entries_asked t s.plan s.devices d sits.apart sits.entry)
+again_in_asks t s d Installing is h = sends_ask t s.plan d (body.Install (install_in s)) (λ n. tt) (silent_others s)
+again_in_asks t s d Over is h = All-nil (AsksAt t s.plan d)
+
 moves_ticked : (t : Sharing) (all : ℕ → Bool) (s : AttemptState) (d : ℕ) → DeviceHas t s d → Moves t s.plan.epoch all d (ticked s)
 moves_ticked t all s d h =
     if_either (Moves t s.plan.epoch all d) (nat_le 8 s.ticks) (silenced s (find (is_missing s) s.plan.nodes))
     (if s.ticks == 4 then with_steps s (again_in s s.phase) else waits s)
     (moves_silenced t all s d (find (is_missing s) s.plan.nodes) h)
     (if_either (Moves t s.plan.epoch all d) (s.ticks == 4) (with_steps s (again_in s s.phase)) (waits s)
-    (moves_quiet t all s d (again_in s s.phase) (none_again_in s s.phase) h) (moves_waits t all s d h))
+    (moves_quiet t all s d (again_in s s.phase) (none_again_in s s.phase) (again_in_asks t s d s.phase refl h) h) (moves_waits t all s d h))
 
 pub calls_move : CallsMove
 unfolding own_answering own_readying ticking

@@ -20,6 +20,8 @@ use Rattle.cmm_attempt.specs.declared.phase.Phase.TheVariants.{Collecting, Choos
 use Rattle.cmm_attempt.specs.declared.plan.Plan.{Plan}
 use Rattle.cmm_attempt.specs.declared.promised.Promised.{Promised}
 use Rattle.cmm_attempt.specs.declared.seizing.Seizing.{Seizing}
+use Rattle.cmm_attempt.specs.declared.step.Step.{Step}
+use Rattle.cmm_attempt.specs.declared.step.Step.TheVariants.{Send, SeizeHere, NeedVotes, InstallHere, StartHere, Ended}
 use Rattle.cmm_attempt.specs.Plans.{nodes_to}
 use Rattle.cmm_attempt.specs.Seizings.{result_of}
 use Rattle.cmm_attempt.specs.Attempts.{AttemptState, Turn, beginning, IsPromiseOf}
@@ -142,11 +144,30 @@ CountsAt t s d None = DeviceHas t s d
 CountsAt t s d (Some i) =
     Allowed t (count_at (is_held_in s.devices d) s.plan.epoch) × DeviceHas (after t (count_at (is_held_in s.devices d) s.plan.epoch)) s d
 
--- The machine allows these events of the attempt, and has the attempt after them.
+-- the machine has node n as asked to seize the device, so
+abbrev pub HasAsked : Sharing → ℕ → ℕ → SeizeKind → Type 0
+HasAsked t q n kind = ((t.attempt q).asked n ≡ true) × ((t.attempt q).quorum ≡ is_vote kind)
+
+-- A step that asks a node to seize device d asks one that the machine has as asked so.
+abbrev pub AsksBy : Sharing → Plan → ℕ → ℕ → Body → Type 0
+AsksBy t plan d n (body.SeizeQuorum p members x) = (p ≡ plan.epoch) × (members ≡ plan.members) × (x ≡ d → HasAsked t plan.epoch n Vote)
+AsksBy t plan d n (body.SeizeData p members x) = (p ≡ plan.epoch) × (members ≡ plan.members) × (x ≡ d → HasAsked t plan.epoch n Plain)
+AsksBy t plan d n _ = Unit {0}
+
+abbrev pub AsksAt : Sharing → Plan → ℕ → Step → Type 0
+AsksAt t plan d (SeizeHere x kind) = x ≡ d → HasAsked t plan.epoch plan.coordinator kind
+AsksAt t plan d (Send n m) = AsksBy t plan d n m.body
+AsksAt t plan d (NeedVotes n) = Unit {0}
+AsksAt t plan d (InstallHere i) = Unit {0}
+AsksAt t plan d StartHere = Unit {0}
+AsksAt t plan d (Ended e) = Unit {0}
+
+-- The machine allows these events of the attempt, and has the attempt after them, with all that its steps ask for.
 pub record Moves (t : Sharing) (q : ℕ) (members : ℕ → Bool) (d : ℕ) (u : Turn) : Type 0 where
   pub events : List Event
   pub asking : All (IsAsking q members) events
   pub allowed : MayCome t events
+  pub asked : All (AsksAt (all_after t events) u.after.plan d) u.steps
   pub counts : CountsAt (all_after t events) u.after d (installs_in u.steps)
 
 -- The laws.

@@ -41,7 +41,7 @@ pub fn attempts_show()
 ///
 /// It goes on to seize only when all have promised, asks a node only where nobody was asked before or the last one ended not registered,
 /// and counts a device as held only by the word of the node that was asked last, and any device only with its answer in hand.
-/// What nodes and other attempts do at the device leaves that.
+/// Each request among its steps is for a node that the machine has as asked so. What nodes and other attempts do at the device leaves that.
 pub fn attempts_ask()
     ensures begin { DevicesBegin }
     ensures calls { CallsMove }
