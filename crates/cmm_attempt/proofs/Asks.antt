@@ -67,7 +67,7 @@ has_still set n m low high h = ap (λ s. has s m) (sym (or_bit_value set n high)
     or_second false b h = h
 
 -- the node that is found is in the list
-found_among : (p : ℕ → Bool) (ns : List ℕ) (n : ℕ) → find p ns ≡ Some n → (p n ≡ true) × (list_any (λ m. m == n) ns ≡ true)
+pub found_among : (p : ℕ → Bool) (ns : List ℕ) (n : ℕ) → find p ns ≡ Some n → (p n ≡ true) × (list_any (λ m. m == n) ns ≡ true)
 found_among p [] n h = absurd (none_some n h)
 found_among p (m ∷ ns) n h = by_test (found_among p ns n) (p m) refl h
   where

@@ -11,3 +11,5 @@ pub mod Goes
 pub mod MachineLemmas
 pub mod Asks
 pub mod Left
+pub mod Steady
+pub mod Waits

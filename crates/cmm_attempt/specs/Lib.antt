@@ -7,3 +7,4 @@ pub mod Machine
 pub mod Plans
 pub mod Promises
 pub mod Seizings
+pub mod Waiting

@@ -1,6 +1,7 @@
 ghost use Rattle.cmm_attempt.specs.Laws.{EndsHaveCauses, StartsAreCounted, HeldIsTold, WishesAreNewest, FirstWishIsNewest, WishesWait, FirstWishWaits, EndsOnce, IsThenOver};
 ghost use Rattle.cmm_attempt.specs.Machine.{AttemptsBegin, CallsAreTold, ToldStays, InstallsAreCounts, StartsAreReady, StartsFollow, InstallsComeFirst};
 ghost use Rattle.cmm_attempt.specs.Asking.{DevicesBegin, CallsMove, OthersLeave};
+ghost use Rattle.cmm_attempt.specs.Waiting.{SomeoneIsMissing, EighthTickEnds};
 
 /// The laws of attempts, over the definitions that the calls' contracts cite.
 ///
@@ -46,4 +47,10 @@ pub fn attempts_ask()
     ensures begin { DevicesBegin }
     ensures calls { CallsMove }
     ensures others { OthersLeave }
+{}
+
+/// No attempt hangs: while it collects, seizes or installs, a member's answer is missing, and at the eighth tick of the phase it ends.
+pub fn attempts_end()
+    ensures missing { SomeoneIsMissing }
+    ensures eighth { EighthTickEnds }
 {}

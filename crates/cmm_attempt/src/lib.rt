@@ -19,7 +19,7 @@ mod tests;
 pub use attached::{AttachedDevice, AttachedDevices};
 pub use attempt::Attempt;
 pub use counting::BothVotes;
-pub use laws::{attempts_ask, attempts_keep, attempts_show};
+pub use laws::{attempts_ask, attempts_end, attempts_keep, attempts_show};
 pub use phase::{Phase, Readied};
 pub use plan::{Nodes, Plan};
 pub use promised::{Promised, Shown};
