@@ -207,7 +207,7 @@ installs_are_counts S w s c i both reached may gives h given votes =
       newest = newest;
       votes =
           counted_with_held S ((w.node t.newest).showed t.plan.epoch) both t.plan.members t.counted t.devices (w.epoch t.plan.epoch).members votes h.members enough.1
-          (numbered_by_call s c reached) (subst (λ o. HasVotes o t.plan.members t.counted) given enough.0);
+          (numbered_by_call s c reached may) (subst (λ o. HasVotes o t.plan.members t.counted) given enough.0);
       entries = carried_all.entries;
       committed = carried_all.committed;
       epoch = carried_all.epoch;

@@ -1,37 +1,30 @@
 -- One walk over the calls: what holds of an attempt at rest, and what holds of it between the small steps of a call.
-use Rattle.std.proofs.Common.{◌≡◌, ℕ, ◌+◌, ◌≤◌, ◌⊎◌, inl, inr, ap, ◌∙◌, List, [], ◌∷◌, ◌++◌, length, map, refl, sym, subst}
-use Rattle.std.specs.Prelude.{All, ◌==◌, ◌&&◌, nat_le, Bool, true, false, not, Option, Some, None, is_none, if◌then◌else◌}
-use Rattle.std.specs.List.{find, filter_map, cons_option}
-use Rattle.std.proofs.lemmas.List.Elements.{All-nil, All-cons, All-head, All-tail, All-append}
-use Rattle.cl_base.specs.Sets.{has, set_with}
+use Rattle.std.proofs.Common.{◌≡◌, ℕ, ◌+◌, ◌⊎◌, inl, inr, ap, ◌∙◌, List, [], ◌∷◌, ◌++◌, length, map, refl, sym, subst}
+use Rattle.std.specs.Prelude.{◌==◌, ◌&&◌, nat_le, Bool, true, false, not, Option, Some, None, if◌then◌else◌}
+use Rattle.std.specs.List.{find, filter_map}
 use Rattle.seize.specs.declared.kind.SeizeKind.{SeizeKind}
 use Rattle.seize.specs.declared.kind.SeizeResult.{SeizeResult}
 use Rattle.wire.specs.declared.message.Body.{Body}
 use Rattle.wire.specs.declared.message.Body.TheVariants as body
 use Rattle.wire.specs.declared.message.Message.{Message}
-use Rattle.cmm_attempt.specs.declared.attached.AttachedDevice.{AttachedDevice}
 use Rattle.cmm_attempt.specs.declared.counting.BothVotes.{BothVotes}
 use Rattle.cmm_attempt.specs.declared.phase.Phase.{Phase}
 use Rattle.cmm_attempt.specs.declared.phase.Phase.TheVariants.{Collecting, Choosing, SeizingVotes, SeizingOthers, Installing, Over}
-use Rattle.cmm_attempt.specs.declared.phase.Readied.{Readied}
-use Rattle.cmm_attempt.specs.declared.plan.Plan.{Plan}
 use Rattle.cmm_attempt.specs.declared.promised.Promised.{Promised}
 use Rattle.cmm_attempt.specs.declared.promised.Shown.{Shown}
 use Rattle.cmm_attempt.specs.declared.seizing.Seizing.{Seizing}
 use Rattle.cmm_attempt.specs.declared.step.Step.TheVariants.{StartHere}
 use Rattle.cmm_attempt.specs.declared.step.AttemptEnd.{AttemptEnd}
-use Rattle.cmm_attempt.specs.Plans.{others_of, is_reachable}
+use Rattle.cmm_attempt.specs.Plans.{others_of}
 use Rattle.cmm_attempt.specs.Promises.{promised_by, shown_by, is_ready, newest_shown, is_left_out}
-use Rattle.cmm_attempt.specs.Seizings.{all_settled, awaits, held_set, is_seized, first_seizer, vote_entry, plain_entry, plain_new, next_by, request_for, with_next, with_result, result_of}
-use Rattle.cmm_attempt.specs.Counts.{is_quorum, reached_set, vote_new}
+use Rattle.cmm_attempt.specs.Seizings.{all_settled, awaits, held_set, next_by, request_for, with_next, with_result, result_of}
+use Rattle.cmm_attempt.specs.Counts.{reached_set}
 use Rattle.cmm_attempt.specs.Installs.{send_start}
-use Rattle.cmm_attempt.specs.Attempts.{AttemptState, Turn, with_steps, waits, is_over, is_missing, all_ready, starting, in_phase, installing, plain_devices, asked_plain, seizing_others, shortage, counted_by, counting, settled_in, proceeding, settled, asked_next, next_asked, answered_on, answering, answering_in, asked_votes, vote_entries_under, vote_entries, seizing_votes, possible, voting, chosen, chosen_by, choosing, all_promised, collects, first_state, promises_of, begun, beginning, awaits_promise, gathered, with_promise, promising, awaits_ready, readying, is_of, taken, taking, own_readying_in, own_readying, own_answering, again_in, silenced, ticked, later, ticking}
+use Rattle.cmm_attempt.specs.Attempts.{AttemptState, Turn, with_steps, waits, is_over, is_missing, all_ready, starting, in_phase, installing, plain_devices, asked_plain, seizing_others, shortage, counted_by, counting, settled_in, proceeding, settled, asked_next, next_asked, answered_on, answering, answering_in, asked_votes, vote_entries, seizing_votes, possible, voting, chosen, chosen_by, choosing, all_promised, collects, first_state, promises_of, begun, beginning, awaits_promise, gathered, with_promise, promising, awaits_ready, readying, is_of, taken, taking, own_readying_in, own_readying, own_answering, again_in, silenced, ticked, later, ticking}
 use Rattle.cmm_attempt.specs.Laws.{Call, Take, With_votes, Own_seized, Own_ready, Tick, turn, May, Run}
 use Rattle.cmm_attempt.specs.Machine.{IsReached}
-use Rattle.cmm_attempt.proofs.QuietLemmas.{if_either}
 use Rattle.cmm_attempt.proofs.CauseLemmas.{if_with}
 use Rattle.cmm_attempt.proofs.QuietLemmas.{and_cases, false_true}
-
 
 abbrev pub IsSeizing : Phase → Type 0
 IsSeizing phase = (phase ≡ SeizingVotes) ⊎ (phase ≡ SeizingOthers)

@@ -1,5 +1,5 @@
 -- Somebody's answer is missing while an attempt waits.
-use Rattle.std.proofs.Common.{◌≡◌, ℕ, ◌+◌, ◌≤◌, ◌⊎◌, inl, inr, List, [], ◌∷◌, ◌++◌, length, map, refl, sym, ap, subst, ◌∙◌, arith}
+use Rattle.std.proofs.Common.{◌≡◌, ℕ, ◌+◌, ◌≤◌, inl, inr, List, [], ◌∷◌, ◌++◌, length, map, refl, sym, ap, subst, ◌∙◌, arith}
 use Rattle.std.specs.Prelude.{All, ◌==◌, ◌&&◌, ◌||◌, nat_le, Bool, true, false, not, Option, Some, None, IsSome, is_none, is_some, if◌then◌else◌}
 use Rattle.std.specs.List.{find, filter_map, cons_option, list_any, list_all}
 use Rattle.std.proofs.lemmas.List.Elements.{All-nil, All-cons, All-head, All-tail, All-append}
@@ -14,18 +14,17 @@ use Rattle.cmm_attempt.specs.declared.counting.BothVotes.{BothVotes}
 use Rattle.cmm_attempt.specs.declared.phase.Phase.{Phase}
 use Rattle.cmm_attempt.specs.declared.phase.Phase.TheVariants.{Collecting, Choosing, SeizingVotes, SeizingOthers, Installing, Over}
 use Rattle.cmm_attempt.specs.declared.plan.Plan.{Plan}
-use Rattle.cmm_attempt.specs.declared.phase.Readied.{Readied}
 use Rattle.cmm_attempt.specs.declared.promised.Promised.{Promised}
 use Rattle.cmm_attempt.specs.declared.seizing.Seizing.{Seizing}
 use Rattle.cmm_attempt.specs.Plans.{is_reachable}
 use Rattle.cmm_attempt.specs.Promises.{has_promised, newest_shown}
 use Rattle.cmm_attempt.specs.Seizings.{may_follow, may_seize, awaits_from, all_settled, is_asked, is_seized, first_seizer, vote_entry, plain_entry, plain_new, next_by, with_next, with_result}
 use Rattle.cmm_attempt.specs.Counts.{is_quorum, vote_new}
-use Rattle.cmm_attempt.specs.Attempts.{AttemptState, Turn, waits, is_over, is_missing, is_missing_in, is_unready, has_readied, all_ready, all_promised, plain_devices, vote_entries_under, vote_entries, first_state, promises_of, silenced, ticked, ticking, later, again_in, with_steps}
-use Rattle.cmm_attempt.specs.Laws.{Call, turn, Tick}
+use Rattle.cmm_attempt.specs.Attempts.{AttemptState, waits, is_over, is_missing, is_missing_in, is_unready, has_readied, all_ready, all_promised, plain_devices, vote_entries_under, vote_entries, silenced, ticked, ticking, later}
+use Rattle.cmm_attempt.specs.Laws.{Call}
 use Rattle.cmm_attempt.specs.Machine.{IsReached}
 use Rattle.cmm_attempt.specs.Waiting.{IsWaiting, HasCoordinator, SomeoneIsMissing, EighthTickEnds}
-use Rattle.cmm_attempt.proofs.QuietLemmas.{none_some, false_true, or_cases, and_cases, either_of, same_number, if_either}
+use Rattle.cmm_attempt.proofs.QuietLemmas.{none_some, false_true, if_either}
 use Rattle.cmm_attempt.proofs.MachineLemmas.{of_all}
 use Rattle.cmm_attempt.proofs.Asks.{found_among}
 use Rattle.cmm_attempt.proofs.Steady.{Steady, IsSeizing, reached_keeps}
@@ -210,16 +209,18 @@ steady c = record {
       let two : (s.own_ready ≡ false) × All (AwaitsMember s.plan.nodes) s.devices = own_seizing s.plan.nodes s.devices s.own_ready s.phase is (i m).0 in
       seizing_kept s.plan.nodes (map (with_result d r) s.devices) s.own_ready s.phase is (two.0, results_await s.plan.nodes d r s.devices two.1);
   next = λ s d n e kind r is found i m.
-      let two : (s.own_ready ≡ false) × All (AwaitsMember s.plan.nodes) s.devices = own_seizing s.plan.nodes s.devices s.own_ready s.phase is (i m).0 in
-      (seizing_kept s.plan.nodes (map (with_next d n) s.devices) s.own_ready s.phase is
-      (two.0, next_await s.plan.nodes d n s.devices (next_member s.plan.cluster s.promises s.plan.nodes e kind r n found) two.1),
-      seizing_rests (record s { devices = map (with_next d n) s.devices; ticks = 0 }) s.phase is (next_settled d n s.devices ∙ rests_seizing s s.phase is (i m).1));
+      let two : (s.own_ready ≡ false) × All (AwaitsMember s.plan.nodes) s.devices = own_seizing s.plan.nodes s.devices s.own_ready s.phase is (i m).0 in (
+        seizing_kept s.plan.nodes (map (with_next d n) s.devices) s.own_ready s.phase is
+            (two.0, next_await s.plan.nodes d n s.devices (next_member s.plan.cluster s.promises s.plan.nodes e kind r n found) two.1),
+        seizing_rests (record s { devices = map (with_next d n) s.devices; ticks = 0 }) s.phase is (next_settled d n s.devices ∙ rests_seizing s s.phase is (i m).1),
+      );
   seizing = λ s is e k m. (k m, seizing_rests s s.phase is e);
   counted = λ s is h k m. k m;
   others = λ s is ne k m.
-      let two : (s.own_ready ≡ false) × All (AwaitsMember s.plan.nodes) s.devices = own_seizing s.plan.nodes s.devices s.own_ready s.phase (inl is) (k m) in
-      ((two.0, All-append (AwaitsMember s.plan.nodes) s.devices (plain_devices s) two.1 (plain_await s.plan s.devices s.plan.attached)),
-      appended_unsettled s.devices (plain_devices s) (unsettled (plain_devices s) (plain_unended s.plan s.devices s.plan.attached) ne));
+      let two : (s.own_ready ≡ false) × All (AwaitsMember s.plan.nodes) s.devices = own_seizing s.plan.nodes s.devices s.own_ready s.phase (inl is) (k m) in (
+        (two.0, All-append (AwaitsMember s.plan.nodes) s.devices (plain_devices s) two.1 (plain_await s.plan s.devices s.plan.attached)),
+        appended_unsettled s.devices (plain_devices s) (unsettled (plain_devices s) (plain_unended s.plan s.devices s.plan.attached) ne),
+      );
   installs = λ s is k m. (tt, and_of_false s.own_ready (all_ready s) (own_seizing s.plan.nodes s.devices s.own_ready s.phase is (k m)).0);
   ready = λ s from message is at of ready_body i m. subst (KeptIn s.plan.nodes s.devices s.own_ready) (sym at) tt;
   own = λ s is at i m. subst (KeptIn s.plan.nodes s.devices true) (sym at) tt;
@@ -247,8 +248,10 @@ found_if_any p n (m ∷ ns) h is = by_test (λ k. found_if_any p n ns k is) (p m
     here : (a b : Bool) → (a || b) ≡ true → a ≡ false → b ≡ true
     here true b k e = absurd (false_true (sym e))
     here false b k e = k
+
     differs : (m n : ℕ) (b c : Bool) → b ≡ true → c ≡ false → (m ≡ n → c ≡ b) → (m == n) ≡ false
     differs m n b c is no_such same = grind arith
+
     by_test : (list_any (λ k. k == n) ns ≡ true → IsSome (find p ns)) → (b : Bool) → p m ≡ b → IsSome (if b then Some m else find p ns)
     by_test rest true e = refl
     by_test rest false e = rest (here (m == n) (list_any (λ k. k == n) ns) h (differs m n (p n) (p m) is e (λ k. ap p k)))
@@ -271,11 +274,14 @@ awaited_one nodes (e ∷ es) h k = by_result (awaited_one nodes es (All-tail (Aw
   where
     first_or : (a b : Bool) → a ≡ true → (a || b) ≡ true
     first_or a b q = rw q refl
+
     second_or : (a b : Bool) → b ≡ true → (a || b) ≡ true
     second_or true b q = refl
     second_or false b q = q
+
     asked : (o : Option ℕ) (r : Option SeizeResult) (n : ℕ) → o ≡ Some n → r ≡ None → (is_none r && is_asked o n) ≡ true
     asked o r n is none = rw (is, none) (grind arith)
+
     by_result : (all_settled es ≡ false → (n : ℕ) × (list_any (λ m. m == n) nodes ≡ true) × (list_any (awaits_from n) es ≡ true)) → (r : Option SeizeResult) → e.result ≡ r
         → (is_some r && all_settled es) ≡ false → (n : ℕ) × (list_any (λ m. m == n) nodes ≡ true) × (list_any (awaits_from n) (e ∷ es) ≡ true)
     by_result rest (Some r) is q =
@@ -290,14 +296,17 @@ unready_one s m h = by_own s.own_ready refl h
   where
     own_missing : (a b c : Bool) → a ≡ true → c ≡ false → (if a then not c else b) ≡ true
     own_missing a b c e k = rw (e, k) refl
+
     itself : (n : ℕ) → (n == n) ≡ true
     itself n = grind arith
+
     other_missing : (n c : ℕ) (own r : Bool) → not ((n == c) || r) ≡ true → (if n == c then not own else not r) ≡ true
     other_missing n c own r e = by_test (n == c) e
       where
         by_test : (b : Bool) → not (b || r) ≡ true → (if b then not own else not r) ≡ true
         by_test true k = absurd (false_true k)
         by_test false k = k
+
     by_own : (b : Bool) → s.own_ready ≡ b → (b && all_ready s) ≡ false → IsSome (find (is_unready s) s.plan.nodes)
     by_own false e k =
         found_if_any (is_unready s) s.plan.coordinator s.plan.nodes m

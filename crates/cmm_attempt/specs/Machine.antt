@@ -139,9 +139,11 @@ AttemptsBegin = (S : Setting) (w : Memberships) (p members : ℕ) (own : Message
 abbrev pub ToldStays : Type 0
 ToldStays = (w v : Memberships) (s : AttemptState) → MachineHas w s → Grows w v → MachineHas v s
 
+-- what a call tells, where it is true, is told with the rest
 abbrev pub CallsAreTold : Type 0
-CallsAreTold = (w : Memberships) (s : AttemptState) (c : Call) → MachineHas w s → IsTold w s c → MachineHas w (turn s c).after
+CallsAreTold = (w : Memberships) (s : AttemptState) (c : Call) → May s c → MachineHas w s → IsTold w s c → MachineHas w (turn s c).after
 
+-- an install is a count, under each setting whose votes of the newest record are those given
 abbrev pub InstallsAreCounts : Type 0
 InstallsAreCounts = (S : Setting) (w : Memberships) (s : AttemptState) (c : Call) (i : Install) (both : BothVotes)
     → IsReached s → May s c → installs_in (turn s c).steps ≡ Some i → MachineHas w (turn s c).after
@@ -153,9 +155,11 @@ abbrev pub StartsAreReady : Type 0
 StartsAreReady = (w : Memberships) (s : AttemptState) (c : Call) → IsReached s → May s c → starts_in (turn s c).steps ≡ true
     → MachineHas w (turn s c).after → AllReady w (turn s c).after.plan.epoch
 
+-- a start comes only after an install ..
 abbrev pub StartsFollow : Type 0
 StartsFollow = (s : AttemptState) (c : Call) → IsReached s → May s c → starts_in (turn s c).steps ≡ true → s.phase ≡ Installing
 
+-- .. since nothing else leads to where one may come
 abbrev pub InstallsComeFirst : Type 0
 InstallsComeFirst = (s : AttemptState) (c : Call) → IsReached s → May s c → (turn s c).after.phase ≡ Installing
     → (s.phase ≡ Installing) ⊎ IsSome (installs_in (turn s c).steps)

@@ -1,5 +1,5 @@
 -- An attempt never waits for nobody: while it collects, seizes or installs, an answer is missing, and at the eighth tick it ends.
-use Rattle.std.specs.Prelude.{ℕ, ◌≡◌, ◌≤◌, ◌==◌, true, List, IsSome}
+use Rattle.std.specs.Prelude.{◌≡◌, ◌≤◌, ◌==◌, true, IsSome}
 use Rattle.std.specs.List.{find, list_any}
 use Rattle.cmm_attempt.specs.declared.phase.Phase.{Phase}
 use Rattle.cmm_attempt.specs.declared.phase.Phase.TheVariants.{Collecting, Choosing, SeizingVotes, SeizingOthers, Installing, Over}
