@@ -1,6 +1,6 @@
 -- From the choice on every member has promised and the newest record is named; an install is given where installing begins, and a start
 -- where it ends.
-use Rattle.std.proofs.Common.{◌≡◌, ℕ, ◌+◌, ◌⊎◌, inl, inr, List, [], ◌∷◌, ◌++◌, length, map, refl, sym, ap, subst, ◌∙◌}
+use Rattle.std.proofs.Common.{◌≡◌, ℕ, ◌⊎◌, inl, inr, List, [], ◌∷◌, ◌++◌, length, map, refl, sym, ap, subst, ◌∙◌}
 use Rattle.std.specs.Prelude.{◌==◌, ◌&&◌, nat_le, Bool, true, not, Option, Some, None, IsSome, option_map, if◌then◌else◌}
 use Rattle.std.specs.List.{find, filter_map, list_all, cons_option}
 use Rattle.seize.specs.declared.kind.SeizeKind.{SeizeKind}

@@ -2,7 +2,6 @@
 use Rattle.std.proofs.Common.{◌≡◌, ◌≢◌, ℕ, ◌≤◌, ◌<◌, ◌⊎◌, inl, inr, List, [], ◌∷◌, refl, sym, ap, subst, ◌∙◌, arith}
 use Rattle.std.specs.Prelude.{All, true, false, Option, Some, None}
 use Rattle.std.proofs.lemmas.List.Elements.{All-nil, All-cons, All-head, All-tail}
-use Rattle.cl_base.specs.Sets.{has}
 use Rattle.machine_base.specs.Put.{put}
 use Rattle.machine_base.proofs.Puts.{put_here, put_there, put_true_stays, same_or_not}
 use Rattle.device_machine.specs.Attempt.{Attempt}

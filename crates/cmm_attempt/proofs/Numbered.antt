@@ -12,7 +12,7 @@ use Rattle.cmm_attempt.specs.declared.seizing.Seizing.{Seizing}
 use Rattle.cmm_attempt.specs.Plans.{is_reachable}
 use Rattle.cmm_attempt.specs.Seizings.{is_seized, first_seizer, vote_entry, plain_entry, plain_new, with_next, with_result}
 use Rattle.cmm_attempt.specs.Counts.{is_quorum, vote_new}
-use Rattle.cmm_attempt.specs.Attempts.{AttemptState, installing, plain_devices, vote_entries_under, chosen, ticked}
+use Rattle.cmm_attempt.specs.Attempts.{AttemptState, plain_devices, vote_entries_under}
 use Rattle.cmm_attempt.specs.Laws.{Call, turn, May}
 use Rattle.cmm_attempt.specs.Machine.{IsDevice, IsReached}
 use Rattle.cmm_attempt.proofs.QuietLemmas.{if_either}

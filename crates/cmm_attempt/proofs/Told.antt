@@ -20,7 +20,7 @@ use Rattle.cmm_attempt.specs.declared.phase.Readied.{Readied}
 use Rattle.cmm_attempt.specs.declared.promised.Promised.{Promised}
 use Rattle.cmm_attempt.specs.Plans.{nodes_to}
 use Rattle.cmm_attempt.specs.Promises.{promised_by, shown_by, is_promise, is_ready, has_promised}
-use Rattle.cmm_attempt.specs.Attempts.{AttemptState, installing, chosen, first_state, promises_of, begun, beginning, awaits_promise, promising, is_of, taken, ticked}
+use Rattle.cmm_attempt.specs.Attempts.{AttemptState, first_state, promises_of, beginning, awaits_promise, is_of}
 use Rattle.cmm_attempt.specs.Laws.{Call, Take, With_votes, Own_seized, Own_ready, Tick}
 use Rattle.cmm_attempt.specs.Machine.{is_member, record_in, Tells, IsTold, IsAnswer, MachineHas, AttemptsBegin, ToldStays, CallsAreTold}
 use Rattle.cmm_attempt.proofs.QuietLemmas.{none_some, false_true, same_some, and_cases, same_number}

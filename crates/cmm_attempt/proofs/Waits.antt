@@ -20,7 +20,7 @@ use Rattle.cmm_attempt.specs.Plans.{is_reachable}
 use Rattle.cmm_attempt.specs.Promises.{has_promised, newest_shown}
 use Rattle.cmm_attempt.specs.Seizings.{may_follow, may_seize, awaits_from, all_settled, is_asked, is_seized, first_seizer, vote_entry, plain_entry, plain_new, next_by, with_next, with_result}
 use Rattle.cmm_attempt.specs.Counts.{is_quorum, vote_new}
-use Rattle.cmm_attempt.specs.Attempts.{AttemptState, waits, is_over, is_missing, is_missing_in, is_unready, has_readied, all_ready, all_promised, plain_devices, vote_entries_under, vote_entries, silenced, ticked, ticking, later}
+use Rattle.cmm_attempt.specs.Attempts.{AttemptState, is_over, is_missing, is_missing_in, is_unready, has_readied, all_ready, all_promised, plain_devices, vote_entries_under, vote_entries, silenced, ticking, later}
 use Rattle.cmm_attempt.specs.Laws.{Call}
 use Rattle.cmm_attempt.specs.Machine.{IsReached}
 use Rattle.cmm_attempt.specs.Waiting.{IsWaiting, HasCoordinator, SomeoneIsMissing, EighthTickEnds}
