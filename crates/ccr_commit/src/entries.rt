@@ -1,7 +1,7 @@
 ghost use Rattle.std.specs.Prelude.{◌≡◌, ◌↔◌, ◌+◌, IsTrue, IsSome, IfOk, OnErr, option_copied, length, if◌then◌else◌};
 ghost use Rattle.ccr_commit.specs.Entries.{no_entries, texts_of, all_committed, answer_for, left_by};
 
-use crate::text::Text;
+use cl_base::Bytes;
 use std::alloc::{AllocError, Global};
 use std::marker::Model;
 
@@ -21,7 +21,7 @@ pub enum Prepared {
 /// and the pending one.
 #[derive(Debug, Drop)]
 pub struct Entries {
-    texts: Vec<Text>,
+    texts: Vec<Bytes>,
     // All the texts, or all but the last.
     committed: usize,
 }
@@ -49,14 +49,14 @@ impl Entries {
     }
 
     /// The committed texts, in order of places from 1.
-    pub fn committed(&self) -> &[Text]
+    pub fn committed(&self) -> &[Bytes]
         ensures value { result.now ≡ self.now.committed }
     {
         &self.texts[..self.committed]
     }
 
     /// The pending text, whose place is the one after the committed ones.
-    pub fn pending(&self) -> Option<&Text>
+    pub fn pending(&self) -> Option<&Bytes>
         ensures value { option_copied result ≡ self.now.pending }
     {
         self.texts.get(self.committed)
@@ -80,7 +80,7 @@ impl Entries {
             return Ok(Prepared::Gap(wanted));
         }
         let copy = text.to_vec(*self.texts.allocator())?;
-        self.texts.push(Text::new(copy))?;
+        self.texts.push(Bytes::new(copy))?;
         self.committed = count;
         Ok(Prepared::Taken)
     }

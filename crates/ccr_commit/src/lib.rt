@@ -4,11 +4,9 @@
 
 mod entries;
 mod summary;
-mod text;
 
 pub use entries::{Entries, Prepared};
 pub use summary::{Summary, newest};
-pub use text::Text;
 
 #[cfg(test)]
 mod tests;

@@ -1,8 +1,16 @@
 -- The lines of rows, one after another.
-use Rattle.std.proofs.Common.{◌≡◌, ◌≢◌, ℕ, ◌+◌, ◌<◌, List, [], ◌∷◌, ◌++◌, length, take, get_or, refl, ap, subst, sym, ◌∙◌, append_assoc, append-nil, arith}
+use Rattle.std.proofs.Common.{◌≡◌, ◌≢◌, ◌⊎◌, inl, inr, Bool, true, false, not, ◌||◌, ℕ, ◌+◌, ◌<◌, List, [], ◌∷◌, ◌++◌, length, take, get_or, refl, ap, subst, sym, ◌∙◌, append_assoc, append-nil, arith}
 use Rattle.std.proofs.lemmas.List.{take_more}
 use Rattle.ccr_text.specs.declared.rows.Row.{Row}
-use Rattle.std.proofs.lemmas.List.Elements.{All-append, All-cons, All-weaker}
+use Rattle.std.specs.Prelude.{All, nat_eq}
+use Rattle.std.specs.List.{list_any}
+use Rattle.std.specs.List.Sorted.{IsPermutation}
+use Rattle.std.specs.Cmp.Lexicographic.{pointwise, bytes_decides}
+use Rattle.std.proofs.lemmas.List.Sorted.{list_any-IsPermutation}
+use Rattle.std.proofs.lemmas.List.Folds.{list_any-append}
+use Rattle.std.proofs.lemmas.List.Elements.{All-append, All-cons, All-head, All-nil, All-tail, All-weaker}
+use Rattle.std.specs.Bool.{MatchBool}
+use Rattle.ccr_text.specs.Reading.{StopsAt}
 use Rattle.ccr_text.specs.TableText.{AreRows, IsPlain, IsRow, MayFollow, MayAllFollow, row_line, row_lines}
 use Rattle.ccr_text.proofs.CutLemmas.{Lacks, lacks_none, cut_same}
 
@@ -71,25 +79,107 @@ rows_same before (r ∷ rows) (o ∷ others) x y a b nx ny e =
     let tails : rows ≡ others = rest.0 in
     ((cc), rest.1)
 
+-- ---- tests
+
+neither : (a b : Bool) → (a || b) ≡ false → (a ≡ false) × (b ≡ false)
+neither false b e = (refl, e)
+neither true b e = absurd (cc)
+
+one_of : (a b : Bool) → (a || b) ≡ true → (a ≡ true) ⊎ (b ≡ true)
+one_of true b e = inl refl
+one_of false b e = inr e
+
+swapped : (a b : Bool) → (a || b) ≡ (b || (a || false))
+swapped true true = refl
+swapped true false = refl
+swapped false true = refl
+swapped false false = refl
+
 -- ---- texts that no row begins
 
-pub no_row_line : (before : List Row) (text : List ℕ) → Lacks 10 text → NoNext before text
-no_row_line before text lacks row more h e =
+abbrev pub NoRow : List ℕ → Type 0
+NoRow text = (row : Row) (more : List ℕ) → IsRow row → text ≢ row_line row ++ more
+
+pub no_row_line : (text : List ℕ) → Lacks 10 text → NoRow text
+no_row_line text lacks row more h e =
     lacks_none 10 (row.key ++ 9 ∷ row.value) more (subst (Lacks 10) (e ∙ row_regroup row more) lacks)
 
 row_cut : (text line rest : List ℕ) (row : Row) (more : List ℕ) → text ≡ line ++ 10 ∷ rest → Lacks 10 line → IsRow row → text ≡ row_line row ++ more → line ≡ row.key ++ 9 ∷ row.value
 row_cut text line rest row more is lacks h e =
     (cut_same 10 line (row.key ++ 9 ∷ row.value) rest more lacks (row_lacks_newline row h) (sym is ∙ e ∙ row_regroup row more)).0
 
-pub no_row_tab : (before : List Row) (text line rest : List ℕ) → text ≡ line ++ 10 ∷ rest → Lacks 10 line → Lacks 9 line → NoNext before text
-no_row_tab before text line rest is lacks none row more h e =
-    lacks_none 9 row.key row.value (subst (Lacks 9) (row_cut text line rest row more is lacks h.form e) none)
+pub no_row_tab : (text line rest : List ℕ) → text ≡ line ++ 10 ∷ rest → Lacks 10 line → Lacks 9 line → NoRow text
+no_row_tab text line rest is lacks none row more h e =
+    lacks_none 9 row.key row.value (subst (Lacks 9) (row_cut text line rest row more is lacks h e) none)
 
-pub other_row : (before : List Row) (text line rest key value : List ℕ) → text ≡ line ++ 10 ∷ rest → Lacks 10 line → line ≡ key ++ 9 ∷ value → Lacks 9 key → (MayFollow before (row_of key value) → ⊥) → NoNext before text
-other_row before text line rest key value is lacks cut tab none row more h e =
-    let parts = cut_same 9 key row.key value row.value tab (plain_lacks_tab row.key h.form.key) (sym cut ∙ row_cut text line rest row more is lacks h.form e) in
+pub other_row : (text line rest key value : List ℕ) → text ≡ line ++ 10 ∷ rest → Lacks 10 line → line ≡ key ++ 9 ∷ value → Lacks 9 key → (IsRow (row_of key value) → ⊥) → NoRow text
+other_row text line rest key value is lacks cut tab none row more h e =
+    let parts = cut_same 9 key row.key value row.value tab (plain_lacks_tab row.key h.key) (sym cut ∙ row_cut text line rest row more is lacks h e) in
     let same : row_of key value ≡ row = ap (λ k. row_of k value) parts.0 ∙ ap (λ v. row_of row.key v) parts.1 in
-    none (subst (MayFollow before) (sym same) h)
+    none (subst IsRow (sym same) h)
+
+-- ---- keys that were read
+
+-- whether one of the rows has the key
+abbrev pub has_key : List ℕ → List Row → Bool
+has_key key rows = list_any (λ r. pointwise nat_eq key r.key) rows
+
+differs : (key other : List ℕ) → pointwise nat_eq key other ≡ false → other ≢ key
+differs key other off e = let on : pointwise nat_eq key other ≡ true = (bytes_decides key other).1 (sym e) in absurd (cc)
+
+pub no_key : (key : List ℕ) (rows : List Row) → has_key key rows ≡ false → All (λ other. other.key ≢ key) rows
+no_key key [] none = All-nil (λ other. other.key ≢ key)
+no_key key (r ∷ rows) none =
+    let parts = neither (pointwise nat_eq key r.key) (has_key key rows) none in
+    All-cons (λ other. other.key ≢ key) r rows (differs key r.key parts.0) (no_key key rows parts.1)
+
+a_key : (key : List ℕ) (rows : List Row) → has_key key rows ≡ true → All (λ other. other.key ≢ key) rows → ⊥
+a_key key [] some all = absurd (cc)
+a_key key (r ∷ rows) some all =
+    elim (one_of (pointwise nat_eq key r.key) (has_key key rows) some) [
+      | inl here ↦ All-head (λ other. other.key ≢ key) r rows all (sym ((bytes_decides key r.key).0 here))
+      | inr there ↦ a_key key rows there (All-tail (λ other. other.key ≢ key) r rows all)
+    ]
+
+-- a row whose key is there already begins no other row that may follow
+pub repeated : (rows : List Row) (rest more : List ℕ) (row : Row) → IsRow row → rest ≡ row_line row ++ more → has_key row.key rows ≡ true → (next : Row) (tail : List ℕ) → MayFollow rows next → rest ≢ row_line next ++ tail
+repeated rows rest more row form is there next tail may e =
+    let same : row ≡ next = (row_same row next more tail form may.form (sym is ∙ e)).0 in
+    a_key row.key rows there (subst (λ (r : Row). All (λ other. other.key ≢ r.key) rows) (sym same) may.fresh)
+
+-- one key more
+pub keys_more : {K : Type 0} (q key : List ℕ) (test : K → Bool) (x : K) (keys new : List K) (rows : List Row) (value : List ℕ) → test x ≡ pointwise nat_eq q key → IsPermutation (x ∷ keys) new
+    → list_any test keys ≡ has_key q rows → list_any test new ≡ has_key q (rows ++ row_of key value ∷ [])
+keys_more q key test x keys new rows value at moved old =
+    sym (list_any-IsPermutation test (x ∷ keys) new moved)
+    ∙ ap (λ b. b || list_any test keys) at
+    ∙ ap (λ b. pointwise nat_eq q key || b) old
+    ∙ swapped (pointwise nat_eq q key) (has_key q rows)
+    ∙ sym (list_any-append (λ r. pointwise nat_eq q r.key) rows (row_of key value ∷ []))
+
+-- a key that was added was not there before, and one that was not added was
+pub fresh_row : (rows : List Row) (row : Row) (added there : Bool) → IsRow row → added ≡ not there → added ≡ true → there ≡ has_key row.key rows → MayFollow rows row
+fresh_row rows row added true form is new at = absurd (cc)
+fresh_row rows row added false form is new at = record { form = form; fresh = no_key row.key rows (sym at) }
+
+pub was_added : (P Q : Type 0) (added : Bool) → added ≡ true → MatchBool added P Q → P
+was_added P Q true e h = h
+was_added P Q false e h = absurd (cc)
+
+pub stops_at_repeat : (body rest more : List ℕ) (rows : List Row) (row : Row) (n : ℕ) (added there : Bool) → n ≡ length rows → AreRows rows → body ≡ row_lines rows ++ rest → IsRow row → rest ≡ row_line row ++ more
+    → added ≡ not there → added ≡ false → there ≡ has_key row.key rows → StopsAt body (n + 3)
+stops_at_repeat body rest more rows row n added false place form begun is_row is told repeats at = absurd (cc)
+stops_at_repeat body rest more rows row n added true place form begun is_row is told repeats at = record {
+  rows = rows;
+  rest = rest;
+  place = ap (λ k. k + 3) place;
+  form = form;
+  begun = begun;
+  bad = record {
+    left = λ e. not_empty row.key (row.value ++ 10 ∷ []) more (sym e ∙ is);
+    none = repeated rows rest more row is_row is (sym at);
+  };
+}
 
 -- ---- a loop over rows
 

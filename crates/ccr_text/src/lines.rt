@@ -2,11 +2,10 @@
 ghost use Rattle.std.specs.Prelude.{◌≡◌, ◌≢◌, ℕ, List, ◌<◌, ◌^◌, ◌∷◌, [], ◌++◌, All, MatchOption, IsTrue, ◌↔◌};
 ghost use Rattle.std.specs.Fmt.{decimal};
 ghost use Rattle.hex.specs.Hex.{encode_lower};
-ghost use Rattle.ccr_text.specs.TableText.{IsDigest, IsRow, MayFollow, gennum_line, checksum_line, row_line};
+ghost use Rattle.ccr_text.specs.TableText.{IsDigest, IsRow, gennum_line, checksum_line, row_line};
 ghost use Rattle.ccr_text.specs.declared.rows.Row.{Row};
 
 use crate::error::Digest;
-use crate::rows::Row;
 use hex::FromHex;
 use itoa::Buffer;
 
@@ -34,15 +33,15 @@ pub struct RowLine<'a> {
     pub rest: &'a [u8],
 }
 
-/// The line of a row that may follow those before it.
-pub fn next_row<'a>(before: &[Row], text: &'a [u8]) -> Option<RowLine<'a>>
+/// The line of a row.
+pub fn next_row(text: &[u8]) -> Option<RowLine<'_>>
     ensures { MatchOption result
-        ((row : Row) (rest : List ℕ) → MayFollow before.now row → text.now ≢ row_line row ++ rest)
-        (λ l. let row : Row = record { key = l.key.now; value = l.value.now } in MayFollow before.now row × (text.now ≡ row_line row ++ l.rest.now)) }
+        ((row : Row) (rest : List ℕ) → IsRow row → text.now ≢ row_line row ++ rest)
+        (λ l. let row : Row = record { key = l.key.now; value = l.value.now } in IsRow row × (text.now ≡ row_line row ++ l.rest.now)) }
 {
     let (line, rest) = cut_at(b'\n', text)?;
     let (key, value) = cut_at(b'\t', line)?;
-    if is_row(key, value) && is_fresh(before, key) {
+    if is_row(key, value) {
         Some(RowLine { key, value, rest })
     } else {
         None
@@ -59,12 +58,6 @@ fn is_plain(bytes: &[u8]) -> bool
     ensures { IsTrue result ↔ All (λ b. (b ≢ 9) × (b ≢ 10)) bytes.now }
 {
     bytes.iter().all(|b| *b != b'\t' && *b != b'\n')
-}
-
-fn is_fresh(before: &[Row], key: &[u8]) -> bool
-    ensures { IsTrue result ↔ All (λ other. other.key ≢ key.now) before.now }
-{
-    before.iter().all(|row| row.key.items() != key)
 }
 
 // What stands on a line after its tag, and what follows the line.

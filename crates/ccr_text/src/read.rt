@@ -5,18 +5,17 @@ ghost use Rattle.sha2.specs.Sha256.{sha256};
 ghost use Rattle.ccr_text.specs.Reading.{ReadsRows};
 ghost use Rattle.ccr_text.specs.declared.rows.Row.{Row};
 
-use crate::bytes::Bytes;
 use crate::error::{Digest, TextError};
 use crate::lines::{RowLine, first_line, next_row, second_line};
 use crate::rows::{Row, TableRows};
+use cl_base::Bytes;
 use sha2::Sha256;
 use std::alloc::{AllocError, Global};
+use std::collections::HashSet;
 
 /// The generation number and the rows of the table whose text this is. A line that the form does
-/// not allow comes before a checksum that is not that of the rows.
-///
-/// Each key is compared with those before it, so the time grows with the square of the number of
-/// rows; a table of the repository has few.
+/// not allow comes before a checksum that is not that of the rows. The keys stand in a hash set, so
+/// the time is in proportion to the text.
 pub fn read_table(alloc: Global, text: &[u8]) -> Result<(u64, TableRows), TextError>
     ensures ok { IfOk result (λ found. IsTable text.now found.0 found.1) }
     ensures answer { (result ≡ Err TextError.NoMemory) ⊎ IsAnswer text.now result }
@@ -55,11 +54,15 @@ fn read_rows(alloc: Global, body: &[u8]) -> Result<TableRows, TextError>
     ensures { ReadsRows body.now result }
 {
     let mut rows = Vec::new(alloc);
+    let mut keys = HashSet::new(alloc);
     let mut rest = body;
     while !rest.is_empty() {
-        let Some(line) = next_row(rows.as_slice(), rest) else {
+        let Some(line) = next_row(rest) else {
             return Err(TextError::BadLine(rows.len() as u64 + 3));
         };
+        if !keys.insert(line.key)? {
+            return Err(TextError::BadLine(rows.len() as u64 + 3));
+        }
         push_row(&mut rows, alloc, line)?;
         rest = line.rest;
     }

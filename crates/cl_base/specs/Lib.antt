@@ -1,4 +1,10 @@
+pub mod Keys
+pub mod Kinds
+pub mod Limits
 pub mod Methods
 pub mod NameFields
 pub mod Names
+pub mod Numbers
+pub mod Padded
+pub mod Seizings
 pub mod Sets

@@ -1,5 +1,5 @@
 -- A name has 1 to 32 bytes of `a` to `z`, digits, `_` and `-`, and begins with a letter.
-use Rattle.std.specs.Prelude.{◌≡◌, ℕ, ◌-◌, ◌≤◌, nat_le, ◌==◌, Bool, true, ◌&&◌, ◌||◌, List, length, drop, replicate, slice_index}
+use Rattle.std.specs.Prelude.{◌≡◌, ℕ, ◌≤◌, nat_le, ◌==◌, Bool, true, ◌&&◌, ◌||◌, List, length, slice_index}
 use Rattle.std.specs.List.{AllPass}
 
 abbrev pub is_letter : ℕ → Bool
@@ -10,9 +10,3 @@ is_name_byte b = is_letter b || (nat_le 48 b && nat_le b 57) || (b == 95) || (b 
 
 abbrev pub IsName : List ℕ → Type 0
 IsName bytes = (1 ≤ length bytes) × (length bytes ≤ 32) × (is_letter (slice_index bytes 0) ≡ true) × AllPass is_name_byte bytes
-
--- How a name is kept in place: its bytes, then zeros up to 32 bytes.
-pub record IsPadded (places : List ℕ) (used : ℕ) : Type 0 where
-  pub whole : length places ≡ 32
-  pub most : used ≤ 32
-  pub zeros : drop used places ≡ replicate (32 - used) 0

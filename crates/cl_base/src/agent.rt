@@ -1,4 +1,6 @@
 ghost use Rattle.std.specs.Prelude.{◌≡◌, List, ℕ};
+ghost use Rattle.cl_base.specs.declared.agent.Call.{Call};
+ghost use Rattle.cl_base.specs.declared.method.Outcome.{Outcome};
 
 use crate::method::{Method, Outcome};
 use crate::name::Name;
@@ -18,10 +20,17 @@ pub struct Call {
 }
 
 /// Who carries out the methods of the resource types that name it. It promises nothing about the
-/// outcomes.
+/// outcomes: `answers` may allow each.
 pub trait Agent: Drop {
     /// The name that resource types name it by.
     ghost named: { Self → List ℕ };
+
+    /// What it has kept of the calls so far, as a list of numbers.
+    ghost kept: { Self → List ℕ };
+
+    /// Which outcome a call may have, and what is kept then: the state before the call, the call, the
+    /// outcome, the state after it.
+    ghost answers: { List ℕ → Call → Outcome → List ℕ → Type 0 };
 
     /// The agent's name.
     fn name(&self) -> &[u8]
@@ -29,5 +38,6 @@ pub trait Agent: Drop {
 
     /// Carries out the call. The name stays.
     fn call(&mut self, call: &Call) -> Outcome
-        ensures same_name { named self.new ≡ named self.old };
+        ensures same_name { named self.new ≡ named self.old }
+        ensures answer { answers (kept self.old) call.now result (kept self.new) };
 }

@@ -12,6 +12,19 @@ pub enum Table {
     Groups,
     /// Resources.
     Resources,
+    /// Shared addresses.
+    Addresses,
+}
+
+/// How the node is chosen that serves a client of a shared address.
+#[derive(Clone, Copy, Debug, PartialEq, Eq)]
+pub enum Policy {
+    /// In turn, each as often as its weight.
+    Weighted,
+    /// A client goes to the node that served it before.
+    Sticky,
+    /// A client and port go to the node that served them before.
+    StickyPort,
 }
 
 /// What the president is asked to do without an update of the configuration.

@@ -1,4 +1,5 @@
 ghost use Rattle.std.specs.Prelude.{◌≡◌, ◌<◌, ◌≤◌, ◌⊎◌, ℕ, MatchResult};
+ghost use Rattle.cl_base.specs.Limits.{most_devices};
 
 use crate::number::BadNumber;
 use std::marker::Model;
@@ -11,12 +12,13 @@ pub struct DevId {
 
 impl Model for DevId {
     ghost use Rattle.std.specs.Prelude.{ℕ, ◌≤◌};
+    ghost use Rattle.cl_base.specs.Limits.{most_devices};
 
     ghost Value = { ℕ };
 
     ghost view = { λ n. n.number };
 
-    ghost invariant = { λ n. (1 ≤ n.number) × (n.number ≤ 16) };
+    ghost invariant = { λ n. (1 ≤ n.number) × (n.number ≤ most_devices) };
 
     ghost inverse = { λ n. record { number = n } };
 }
@@ -27,7 +29,7 @@ impl DevId {
 
     /// The device with this number, or `BadNumber` where it is 0 or above 16.
     pub fn new(n: u64) -> Result<DevId, BadNumber>
-        ensures answer { MatchResult result (λ dev. (dev ≡ n) × (1 ≤ n) × (n ≤ 16)) (λ e. (e.0 ≡ n) × ((n ≡ 0) ⊎ (16 < n))) }
+        ensures answer { MatchResult result (λ dev. (dev ≡ n) × (1 ≤ n) × (n ≤ most_devices)) (λ e. (e.0 ≡ n) × ((n ≡ 0) ⊎ (most_devices < n))) }
     {
         if n == 0 || n > DevId::MOST {
             return Err(BadNumber(n));
@@ -39,7 +41,7 @@ impl DevId {
     pub fn number(self) -> u64
         ensures value { result ≡ self }
         ensures low { 1 ≤ result }
-        ensures high { result ≤ 16 }
+        ensures high { result ≤ most_devices }
     {
         self.number as u64
     }

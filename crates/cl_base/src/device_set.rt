@@ -1,8 +1,13 @@
-ghost use Rattle.std.specs.Prelude.{◌≡◌, ◌<◌, ◌≤◌, ◌==◌, ◌||◌, ◌&&◌, not, true, false, ℕ, MatchOption};
+ghost use Rattle.std.specs.Prelude.{◌≡◌, ◌<◌, ◌≤◌, ◌==◌, ◌||◌, ◌&&◌, not, true, false, ℕ, MatchOption, IfOk};
+ghost use Rattle.std.specs.String.{string_bytes};
 ghost use Rattle.cl_base.specs.Sets.{has, count_to, set_with, set_without};
+ghost use Rattle.cl_base.specs.Numbers.{set_text};
+ghost use Rattle.cl_base.specs.Limits.{most_devices};
 
 use crate::device::DevId;
 use crate::number_set::NumberSet;
+use crate::numbers::set_text;
+use std::alloc::{AllocError, Global};
 use std::marker::Model;
 
 /// A set of devices. Contracts see it through `has set n`, which tells whether device n is in it.
@@ -74,7 +79,7 @@ impl DevSet {
     pub fn has(self, n: DevId) -> bool
         ensures value { result ≡ has self n }
         ensures low { 1 ≤ n }
-        ensures high { n ≤ 16 }
+        ensures high { n ≤ most_devices }
     {
         self.numbers.has(n.number() as u8)
     }
@@ -89,9 +94,16 @@ impl DevSet {
 
     /// How many devices the set has.
     pub fn count(self) -> u64
-        ensures value { result ≡ count_to self 16 }
-        ensures most { result ≤ 16 }
+        ensures value { result ≡ count_to self most_devices }
+        ensures most { result ≤ most_devices }
     {
         self.numbers.count_to(16)
+    }
+
+    /// The numbers of the set's devices by commas, or `none`.
+    pub fn text(self, alloc: Global) -> Result<String, AllocError>
+        ensures value { IfOk result (λ text. string_bytes text ≡ set_text self) }
+    {
+        set_text(alloc, self.numbers)
     }
 }

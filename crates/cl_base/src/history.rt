@@ -1,6 +1,4 @@
-ghost use Rattle.std.specs.Prelude.{◌≡◌};
-
-use std::marker::Model;
+use crate::items::Seconds;
 
 /// What the president does where a method of a resource fails.
 #[derive(Clone, Copy, Debug, PartialEq, Eq)]
@@ -15,36 +13,6 @@ pub enum FailoverMode {
     RestartOnly,
     /// A failed probe is logged alone.
     LogOnly,
-}
-
-/// Seconds in the order in which they were recorded. Contracts see the list of them.
-#[derive(Debug, Drop)]
-pub struct Seconds {
-    seconds: Vec<u64>,
-}
-
-impl Model for Seconds {
-    ghost use Rattle.std.specs.Prelude.{List, ℕ};
-
-    ghost Value = { List ℕ };
-
-    ghost view = { λ s. s.seconds.items };
-}
-
-impl Seconds {
-    /// These seconds.
-    pub fn new(items: Vec<u64>) -> Seconds
-        ensures value { result ≡ items.items }
-    {
-        Seconds { seconds: items }
-    }
-
-    /// The seconds, oldest first.
-    pub fn items(&self) -> &[u64]
-        ensures value { result.now ≡ self.now }
-    {
-        self.seconds.as_slice()
-    }
 }
 
 /// What a node keeps of a resource and its group: when they failed to start, were moved, or were

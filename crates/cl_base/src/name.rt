@@ -22,7 +22,8 @@ impl Model for Name {
 
     ghost Value = { List ℕ };
 
-    ghost use Rattle.cl_base.specs.Names.{IsPadded, IsName};
+    ghost use Rattle.cl_base.specs.Names.{IsName};
+    ghost use Rattle.cl_base.specs.Padded.{IsPadded};
     ghost use Rattle.cl_base.specs.NameFields.{fields_back};
 
     ghost view = { λ n. take n.len n.bytes };

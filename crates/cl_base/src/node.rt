@@ -1,4 +1,5 @@
 ghost use Rattle.std.specs.Prelude.{◌≡◌, ◌<◌, ◌≤◌, ◌⊎◌, ℕ, MatchResult};
+ghost use Rattle.cl_base.specs.Limits.{most_nodes};
 
 use crate::number::BadNumber;
 use std::marker::Model;
@@ -11,12 +12,13 @@ pub struct NodeId {
 
 impl Model for NodeId {
     ghost use Rattle.std.specs.Prelude.{ℕ, ◌≤◌};
+    ghost use Rattle.cl_base.specs.Limits.{most_nodes};
 
     ghost Value = { ℕ };
 
     ghost view = { λ n. n.number };
 
-    ghost invariant = { λ n. (1 ≤ n.number) × (n.number ≤ 32) };
+    ghost invariant = { λ n. (1 ≤ n.number) × (n.number ≤ most_nodes) };
 
     ghost inverse = { λ n. record { number = n } };
 }
@@ -25,9 +27,12 @@ impl NodeId {
     /// The greatest number of a node.
     pub const MOST: u64 = 32;
 
+    /// The greatest number of a node in a schedule of the first version, and of a sender.
+    pub const MOST_AT_FIRST: u64 = 16;
+
     /// The node with this number, or `BadNumber` where it is 0 or above 32.
     pub fn new(n: u64) -> Result<NodeId, BadNumber>
-        ensures answer { MatchResult result (λ node. (node ≡ n) × (1 ≤ n) × (n ≤ 32)) (λ e. (e.0 ≡ n) × ((n ≡ 0) ⊎ (32 < n))) }
+        ensures answer { MatchResult result (λ node. (node ≡ n) × (1 ≤ n) × (n ≤ most_nodes)) (λ e. (e.0 ≡ n) × ((n ≡ 0) ⊎ (most_nodes < n))) }
     {
         if n == 0 || n > NodeId::MOST {
             return Err(BadNumber(n));
@@ -39,7 +44,7 @@ impl NodeId {
     pub fn number(self) -> u64
         ensures value { result ≡ self }
         ensures low { 1 ≤ result }
-        ensures high { result ≤ 32 }
+        ensures high { result ≤ most_nodes }
     {
         self.number as u64
     }

@@ -1,8 +1,13 @@
-ghost use Rattle.std.specs.Prelude.{◌≡◌, ◌<◌, ◌≤◌, ◌==◌, ◌||◌, ◌&&◌, not, true, false, ℕ, MatchOption};
+ghost use Rattle.std.specs.Prelude.{◌≡◌, ◌<◌, ◌≤◌, ◌==◌, ◌||◌, ◌&&◌, not, true, false, ℕ, MatchOption, IfOk, nat_le};
+ghost use Rattle.std.specs.String.{string_bytes};
 ghost use Rattle.cl_base.specs.Sets.{has, count_to, set_with, set_without};
+ghost use Rattle.cl_base.specs.Numbers.{numbers_to, first_numbers, set_text};
+ghost use Rattle.cl_base.specs.Limits.{most_nodes, most_devices};
 
 use crate::node::NodeId;
 use crate::number_set::NumberSet;
+use crate::numbers::set_text;
+use std::alloc::{AllocError, Global};
 use std::marker::Model;
 
 /// A set of nodes. Contracts see it through `has set n`, which tells whether node n is in it.
@@ -72,7 +77,7 @@ impl NodeSet {
     pub fn has(self, n: NodeId) -> bool
         ensures value { result ≡ has self n }
         ensures low { 1 ≤ n }
-        ensures high { n ≤ 32 }
+        ensures high { n ≤ most_nodes }
     {
         self.numbers.has(n.number() as u8)
     }
@@ -87,9 +92,43 @@ impl NodeSet {
 
     /// How many nodes the set has.
     pub fn count(self) -> u64
-        ensures value { result ≡ count_to self 32 }
-        ensures most { result ≤ 32 }
+        ensures value { result ≡ count_to self most_nodes }
+        ensures most { result ≤ most_nodes }
     {
         self.numbers.count_to(32)
+    }
+
+    /// The numbers of the set's nodes by commas, or `none`.
+    pub fn text(self, alloc: Global) -> Result<String, AllocError>
+        ensures value { IfOk result (λ text. string_bytes text ≡ set_text self) }
+    {
+        set_text(alloc, self.numbers)
+    }
+
+    /// The nodes of the set, in ascending order.
+    pub fn nodes(self, alloc: Global) -> Result<Vec<NodeId>, AllocError>
+        ensures value { IfOk result (λ nodes. nodes.items ≡ numbers_to self most_nodes) }
+    {
+        let mut nodes = Vec::new(alloc);
+        for n in 0..NodeId::MOST {
+            match NodeId::new(n + 1) {
+                Ok(node) if self.has(node) => nodes.push(node)?,
+                _ => {}
+            }
+        }
+        Ok(nodes)
+    }
+
+    /// The set of the nodes 1 to n, n being at most 32.
+    pub fn first(n: u64) -> NodeSet
+        requires { n ≤ most_nodes }
+        ensures value { result ≡ first_numbers n }
+        ensures members { (m : ℕ) → has result m ≡ (nat_le 1 m && nat_le m n) }
+    {
+        let mut numbers = NumberSet::empty();
+        for k in 0..n {
+            numbers = numbers.with(k as u8 + 1);
+        }
+        NodeSet { numbers }
     }
 }

@@ -27,6 +27,8 @@ pub enum Reason {
     Affinity(Name),
     /// It depends on this group or resource, which is not there.
     Dependency(Name),
+    /// With it the node would exceed the hard limit of this load.
+    Load(Name),
     /// This resource is faulted there.
     Faulted(Name),
     /// This resource waits to be started there.

@@ -1,11 +1,11 @@
+use crate::items::Names;
 use crate::name::Name;
-use crate::names::Names;
 use crate::node::NodeId;
 
 /// What a command names, as it names it.
 #[derive(Clone, Copy, Debug, PartialEq, Eq)]
 pub enum Thing {
-    /// A resource type, group, resource or table, by its name.
+    /// A resource type, group, resource, table, load limit or shared address, by its name.
     Named(Name),
     /// A node or device, by its number.
     Numbered(u64),
@@ -58,4 +58,6 @@ pub enum Refusal {
         /// The length that it would have, in bytes.
         length: u64,
     },
+    /// The node has a vote.
+    NodeHasVote,
 }

@@ -1,9 +1,9 @@
-ghost use Rattle.std.specs.Prelude.{◌≡◌, ◌==◌, ◌<◌, ◌-◌, [], length, min, Ok, Some, IfOk};
+ghost use Rattle.std.specs.Prelude.{◌≡◌, ◌<◌, [], length, Ok, Some, IfOk};
 ghost use Rattle.std.specs.Result.{is_err};
-ghost use Rattle.std.specs.List.{list_any};
 ghost use Rattle.std.specs.Io.{WritesAtMost};
 ghost use Rattle.std.specs.Io.KnownBytes.{WriteAppends};
-ghost use Rattle.cl_io.specs.Causes.{HasCause, Rose};
+ghost use Rattle.cl_io.specs.Causes.{HasCause, IsTaken, Rose};
+ghost use Rattle.cl_io.specs.Memory.{is_to_fail, fitting, after_write};
 
 use crate::failed::Failed;
 use crate::sink::Sink;
@@ -65,10 +65,12 @@ impl Sink for MemSink {
         ensures bytes { WriteAppends (Some self.old.held) (Some self.new.held) result bytes.now }
         ensures cause { HasCause self.old.faults self.new.faults result }
         ensures nothing { result ≡ Ok 0 → 0 < length bytes.now → Rose self.old.faults self.new.faults }
+        ensures same { IfOk result (λ n. IsTaken n bytes.now → self.new.faults ≡ self.old.faults) }
 
         // It fails at the calls that it was told to, and else takes all that fits.
-        ensures fails { is_err result ≡ list_any (λ k. k == self.old.calls) self.old.fails }
-        ensures full { IfOk result (λ n. n ≡ min (length bytes.now) (self.old.room - length self.old.held)) }
+        ensures fails { is_err result ≡ is_to_fail self.old.fails self.old.calls }
+        ensures full { IfOk result (λ n. n ≡ fitting self.old bytes.now) }
+        ensures after { self.new ≡ after_write self.old bytes.now }
     {
         let call = self.calls;
         self.calls = call.saturating_add(1);

@@ -1,10 +1,9 @@
-ghost use Rattle.std.specs.Prelude.{◌≡◌, ◌==◌, take, drop, min, length, Some, IfOk};
+ghost use Rattle.std.specs.Prelude.{◌≡◌, take, drop, min, length, Some, IfOk, OnOk};
 ghost use Rattle.std.specs.Result.{is_err};
-ghost use Rattle.std.specs.List.{list_any};
 ghost use Rattle.std.specs.Io.{ReadsAtMost};
 ghost use Rattle.std.specs.Io.KnownBytes.{ReadConsumes};
 ghost use Rattle.cl_io.specs.Causes.{HasCause};
-ghost use Rattle.cl_io.specs.Memory.{SourceState};
+ghost use Rattle.cl_io.specs.Memory.{SourceState, is_to_fail, after_read};
 
 use crate::failed::Failed;
 use crate::source::Source;
@@ -56,10 +55,12 @@ impl Source for MemSource {
         ensures bound { ReadsAtMost result buf.new }
         ensures bytes { ReadConsumes (Some self.old.left) (Some self.new.left) result buf.new }
         ensures cause { HasCause self.old.faults self.new.faults result }
+        ensures same { OnOk result (self.new.faults ≡ self.old.faults) }
 
         // It fails at the calls that it was told to, and else gives all that fits.
-        ensures fails { is_err result ≡ list_any (λ k. k == self.old.calls) self.old.fails }
+        ensures fails { is_err result ≡ is_to_fail self.old.fails self.old.calls }
         ensures full { IfOk result (λ n. n ≡ min (length self.old.left) (length buf.old)) }
+        ensures after { self.new ≡ after_read self.old (length buf.old) }
     {
         let call = self.calls;
         self.calls = call.saturating_add(1);

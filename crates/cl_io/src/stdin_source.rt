@@ -4,7 +4,8 @@ use crate::failed::Failed;
 use crate::source::Source;
 use std::io::Read;
 
-/// The bytes of a reader of std.
+/// The bytes of a reader of std. What a call makes of the reader is known to no contract, nor that it
+/// ever succeeds: also an adapter that always fails, and counts that, would meet its clauses.
 #[derive(Drop)]
 pub struct StdinSource<R> {
     reader: R,

@@ -4,7 +4,8 @@ use crate::failed::Failed;
 use crate::sink::Sink;
 use std::io::Write;
 
-/// A writer of std.
+/// A writer of std. That a call ever succeeds is known to no contract: also an adapter that always
+/// fails, and counts that, would meet its clauses.
 #[derive(Drop)]
 pub struct StdoutSink<W> {
     writer: W,

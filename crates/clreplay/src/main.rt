@@ -1,44 +1,84 @@
 //! clreplay: replays schedules of a shared-disk failover cluster. `clreplay --help` tells the words.
 #![tactic(auto)]
 
+ghost use Rattle.std.specs.Prelude.{◌≡◌, ◌≢◌, ◌⊎◌, ◌↔◌, map, None};
+ghost use Rattle.std.specs.String.{string_bytes};
+ghost use Rattle.replay.specs.Tasks.{task_of};
+ghost use Rattle.replay.specs.Statuses.{code_of};
+ghost use Rattle.clreplay.specs.Exits.{IsExit};
+
 mod help;
 
 use cl_base::Agent;
 use cl_io::{StdinSource, StdoutSink};
 use help::{Answer, early_answer};
 use replay::{Status, run_words};
+use std::io::ErrorKind;
 use std::process::ExitCode;
 use std::{env, io};
 
 #[cfg(test)]
 mod tests;
 
-fn main(rt: HostRuntime) -> io::Result<ExitCode> {
-    let mut words: Vec<String> = Vec::new(rt.alloc());
-    // The first argument is the program's name.
-    for word in env::args(&rt)?.skip(1) {
-        if words.push(word).is_err() {
-            return Ok(ExitCode::from(6));
-        }
-    }
-    let status = match early_answer(&words) {
-        Some(Answer::Help) => show(&rt, help::HELP),
-        Some(Answer::Version) => show(&rt, help::VERSION),
-        None => run(&rt, &words),
+fn main(rt: HostRuntime) -> ExitCode {
+    let code = match words(&rt) {
+        Ok(words) => answer(&rt, &words),
+        Err(status) => status.code(),
     };
-    Ok(ExitCode::from(status))
+    ExitCode::from(code)
 }
 
-/// Writes the text as a line, and tells the exit status.
-fn show(rt: &HostRuntime, text: &str) -> u8 {
+/// The words of the command line, without the program's name, or how the program ends without them.
+fn words(rt: &HostRuntime) -> Result<Vec<String>, Status> {
+    let given = match env::args(rt) {
+        Ok(given) => given,
+        Err(error) => return Err(unread(error.kind())),
+    };
+    let mut words: Vec<String> = Vec::new(rt.alloc());
+    for word in given.skip(1) {
+        if words.push(word).is_err() {
+            return Err(Status::NoMemory);
+        }
+    }
+    Ok(words)
+}
+
+/// How the program ends where its words cannot be read: where it is not memory that is wanting, one
+/// of them is not UTF-8, and so no command.
+fn unread(kind: ErrorKind) -> Status
+    ensures memory { kind ≡ ErrorKind.OutOfMemory → result ≡ Status.NoMemory }
+    ensures text { kind ≢ ErrorKind.OutOfMemory → result ≡ Status.Usage }
+{
+    match kind {
+        ErrorKind::OutOfMemory => Status::NoMemory,
+        _ => Status::Usage,
+    }
+}
+
+/// Does what the words ask for, and tells the exit code.
+fn answer(rt: &HostRuntime, words: &[String]) -> u8 {
+    match early_answer(words) {
+        Some(Answer::Help) => show(rt, help::HELP),
+        Some(Answer::Version) => show(rt, help::VERSION),
+        None => run(rt, words),
+    }
+}
+
+/// Writes the text as a line, and tells the exit code.
+fn show(rt: &HostRuntime, text: &str) -> u8
+    ensures code { (result ≡ code_of Status.Done) ⊎ (result ≡ code_of Status.WriteFault) }
+{
     match println!(rt; "{}", text) {
-        Ok(()) => 0,
+        Ok(()) => Status::Done.code(),
         Err(_) => Status::WriteFault.code(),
     }
 }
 
-/// Runs the words over standard input and output, and tells the exit status.
-fn run(rt: &HostRuntime, words: &[String]) -> u8 {
+/// Runs the words over standard input and output, and tells the exit code.
+fn run(rt: &HostRuntime, words: &[String]) -> u8
+    ensures usage { result ≡ code_of Status.Usage ↔ (task_of (map string_bytes words.now) ≡ None) }
+    ensures code { IsExit result }
+{
     let mut source = StdinSource::new(rt.reader());
     let mut sink = StdoutSink::new(io::writer(rt));
     let mut agents: Vec<Box<dyn Agent>> = Vec::new(rt.alloc());

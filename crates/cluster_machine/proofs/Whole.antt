@@ -29,7 +29,7 @@ pub record Goes (S : Setting) (w v : Cluster) : Type 0 where
   pub device : (d : ℕ) → Later (w.device d) (v.device d)
 
 -- events that may come one after the other are a run
-may_run : (s : Sharing) (es : List sharing.Event) → MayCome s es → sharing.Run s es (all_after s es)
+pub may_run : (s : Sharing) (es : List sharing.Event) → MayCome s es → sharing.Run s es (all_after s es)
 may_run s [] m = refl
 may_run s (e ∷ es) m = (m.0, may_run (sharing.after s e) es m.1)
 

@@ -1,4 +1,5 @@
 pub mod Cluster
 pub mod Agreement
 pub mod Parts
+pub mod Machines
 pub mod Sample

@@ -6,7 +6,8 @@
 //! `registered d n` says that node n's key is registered on device d, and validated, at first.
 //!
 //! The laws say why no cluster that was split starts from an old configuration, loses an acknowledged update, or writes a disk
-//! that a greater membership took: `lineage`, `kept` and `disk_rule`. Then come the nine parts on which they rest.
+//! that a greater membership took: `lineage`, `kept` and `disk_rule`. Then come the nine parts on which they rest, and that the
+//! whole is made of runs of its machines, so that their laws are laws of it.
 #![tactic(auto)]
 
 ghost use Rattle.std.specs.Prelude.{ℕ, Bool, true, List, [], ◌∷◌, ◌++◌, ◌≡◌, ◌<◌, ◌≤◌};
@@ -14,11 +15,17 @@ ghost use Rattle.membership_machine.specs.Votes.{Setting};
 ghost use Rattle.membership_machine.specs.Starts.{last_start, Follows, Alike};
 ghost use Rattle.membership_machine.specs.Growth.{Grows};
 ghost use Rattle.membership_machine.specs.Sample.{create_group};
-ghost use Rattle.membership_machine.specs.Parts.{StartsAreCounted};
+ghost use Rattle.membership_machine.specs.Events as membership;
+ghost use Rattle.membership_machine.specs.Parts.{StartsAreCounted, PromisesAreTried};
 ghost use Rattle.device_machine.specs.Device.{LetsWrite};
-ghost use Rattle.device_machine.specs.Sharing.{Write, Writes};
+ghost use Rattle.device_machine.specs.Phase.{IsSeizing};
+ghost use Rattle.device_machine.specs.Sharing as sharing;
+ghost use Rattle.device_machine.specs.Sharing.{Write, Writes, MayInstall};
+ghost use Rattle.device_machine.specs.Growth as seizing;
 ghost use Rattle.device_machine.specs.Laws.{Later};
 ghost use Rattle.cluster_machine.specs.Cluster.{Cluster, first_cluster, Event, Command, Allowed, Run};
+ghost use Rattle.cluster_machine.specs.Agreement.{Agrees};
+ghost use Rattle.cluster_machine.specs.Machines.{run_at, run_of_memberships, JoinedAsMember};
 ghost use Rattle.cluster_machine.specs.Sample.{sample_setting, attached, seizing, forming, updating, fencing, splitting, split};
 ghost use Rattle.cluster_machine.specs.Parts.{PromisesHold, AttemptsDiffer, WordsHold, ReservationsHold, TasksHold, OutsidersHold, ValidNodesHold, AttemptsMeet, RecordsAgree, WriteIsSafe};
 
@@ -54,12 +61,14 @@ pub fn disk_rule()
 {}
 
 /// What was told stays true: of two states of one run the earlier grows to the later, and no device takes back its word, its
-/// reservation, or what was promised and held.
+/// reservation, what was promised and held, who was asked to seize it, or how a seizing ended.
 pub fn told_facts_stay()
     ensures memberships { (S : Setting) (registered : ℕ → ℕ → Bool) (events later : List Event) (w v : Cluster) → Run S (first_cluster registered) events w
         → Run S w later v → Grows w.memberships v.memberships }
     ensures devices { (S : Setting) (registered : ℕ → ℕ → Bool) (events later : List Event) (w v : Cluster) (d : ℕ) → Run S (first_cluster registered) events w
         → Run S w later v → Later (w.device d) (v.device d) }
+    ensures seizings { (S : Setting) (registered : ℕ → ℕ → Bool) (events later : List Event) (w v : Cluster) (d : ℕ) → Run S (first_cluster registered) events w
+        → Run S w later v → seizing.Grows (w.device d) (v.device d) }
 {}
 
 /// Every start was counted, with a majority under the committed and under the pending votes, and every member had installed it.
@@ -110,6 +119,47 @@ pub fn attempts_meet()
 /// Part 9: records of one installed epoch agree, and what every member of a start has saved is never lost.
 pub fn records_agree()
     ensures { (S : Setting) (registered : ℕ → ℕ → Bool) (events : List Event) (w : Cluster) → Run S (first_cluster registered) events w → RecordsAgree w }
+{}
+
+/// A run of the whole is, of memberships, a run of their machine, and at each device a run of that device's machine, from what these
+/// are at first. So each law of `membership_machine` and of `device_machine` is one of the whole.
+pub fn machines_run()
+    ensures memberships { (S : Setting) (events : List Event) (w v : Cluster) → Run S w events v
+        → membership.Run S w.memberships (run_of_memberships events) v.memberships }
+    ensures device { (S : Setting) (events : List Event) (w v : Cluster) (d : ℕ) → Run S w events v
+        → sharing.Run (w.device d) (run_at w events d) (v.device d) }
+{}
+
+/// The memberships and each device agree on what stands in both: promises, sessions, installed epochs, what a promise showed, and of
+/// attempts the members, whether they counted, and the devices held.
+pub fn machines_agree()
+    ensures { (S : Setting) (registered : ℕ → ℕ → Bool) (events : List Event) (w : Cluster) (d : ℕ) → Run S (first_cluster registered) events w
+        → Agrees S d w.memberships (w.device d) }
+{}
+
+/// A promise is 0 or the number of an attempt that was begun.
+pub fn promises_are_tried()
+    ensures { (S : Setting) (registered : ℕ → ℕ → Bool) (events : List Event) (w : Cluster) → Run S (first_cluster registered) events w
+        → PromisesAreTried w.memberships }
+{}
+
+/// For each attempt one node seizes a device.
+pub fn one_seizer()
+    ensures { (S : Setting) (registered : ℕ → ℕ → Bool) (events : List Event) (w : Cluster) (d q n m : ℕ) → Run S (first_cluster registered) events w
+        → ((w.device d).node n).past.seized q ≡ true → ((w.device d).node m).past.seized q ≡ true → n ≡ m }
+{}
+
+/// A node that joined a device is in the session that it promised last, has installed that attempt, is a member of it, and the attempt
+/// counted a majority with the device held.
+pub fn joined_is_member()
+    ensures { (S : Setting) (registered : ℕ → ℕ → Bool) (events : List Event) (w : Cluster) (d n : ℕ) → Run S (first_cluster registered) events w
+        → ((w.device d).node n).joined ≡ true → JoinedAsMember w d n }
+{}
+
+/// Where a node may install, no seizing of a device is under way at it.
+pub fn no_seizing_at_install()
+    ensures { (S : Setting) (registered : ℕ → ℕ → Bool) (events : List Event) (w : Cluster) (d n : ℕ) → Run S (first_cluster registered) events w
+        → MayInstall (w.device d) n → IsSeizing ((w.device d).node n).phase → ⊥ }
 {}
 
 /// A run of two nodes and a quorum device, which shows that the events can come. Both form membership 65 and write, and an update is

@@ -1,15 +1,2 @@
-pub mod CauseLemmas
-pub mod HeldLemmas
+pub mod Basics
 pub mod NewestLemmas
-pub mod QuietLemmas
-pub mod StillHeld
-pub mod StartLemmas
-pub mod VotesAgree
-pub mod Told
-pub mod Numbered
-pub mod Goes
-pub mod MachineLemmas
-pub mod Asks
-pub mod Left
-pub mod Steady
-pub mod Waits

@@ -3,9 +3,8 @@ use Rattle.std.specs.Prelude.{ℕ, ◌+◌, ◌%◌, ◌==◌, ◌&&◌, ◌||�
 use Rattle.std.specs.List.{list_any, list_all, find, filter_map}
 use Rattle.quorum_votes.specs.Tables.{VoteTable}
 use Rattle.seize.specs.declared.kind.SeizeKind.{SeizeKind}
-use Rattle.seize.specs.declared.kind.SeizeResult.{SeizeResult}
-use Rattle.wire.specs.declared.message.SeizedResult.{SeizedResult}
-use Rattle.wire.specs.declared.message.SeizedResult.TheVariants as told
+use Rattle.cl_base.specs.Seizings.{SeizeResult}
+use Rattle.cl_base.specs.declared.seizing.SeizeEnd.TheVariants as told
 use Rattle.wire.specs.declared.message.Body.{Body}
 use Rattle.wire.specs.declared.message.Body.TheVariants as body
 use Rattle.wire.specs.declared.message.Message.{Message}
@@ -22,11 +21,14 @@ use Rattle.cmm_attempt.specs.declared.phase.Readied.{Readied}
 use Rattle.cmm_attempt.specs.declared.step.Step.{Step}
 use Rattle.cmm_attempt.specs.declared.step.Step.TheVariants.{NeedVotes, InstallHere, StartHere, Ended}
 use Rattle.cmm_attempt.specs.declared.step.AttemptEnd.{AttemptEnd}
-use Rattle.cmm_attempt.specs.declared.step.AttemptEnd.TheVariants.{Superseded, Silent, Excluded}
-use Rattle.cmm_attempt.specs.Plans.{nodes_to, others_of}
-use Rattle.cmm_attempt.specs.Promises.{shown_by, promised_by, is_promise, is_ready, is_from, has_promised, newest_shown, is_left_out}
-use Rattle.cmm_attempt.specs.Seizings.{awaits, awaits_from, all_settled, with_result, with_next, next_by, held_set, result_of, request, request_for, again_for, plain_new}
-use Rattle.cmm_attempt.specs.Counts.{first_short, reached_set, vote_new, votes_end}
+use Rattle.cmm_attempt.specs.declared.step.AttemptEnd.TheVariants.{Superseded, Silent, Foreign, Excluded}
+use Rattle.cl_base.specs.Limits.{most_nodes}
+use Rattle.cl_base.specs.Numbers.{numbers_to}
+use Rattle.cmm_attempt.specs.Plans.{others_of}
+use Rattle.cmm_attempt.specs.Promises.{shown_by, promised_by, is_from, has_promised, newest_shown, first_left_out}
+use Rattle.wire.specs.Kinds.{is_promise, is_ready}
+use Rattle.cmm_attempt.specs.Seizings.{awaits, awaits_from, all_settled, with_result, with_next, next_by, held_set, request, request_for, again_for, plain_new}
+use Rattle.cmm_attempt.specs.Counts.{first_foreign, first_short, reached_set, vote_new, votes_end}
 use Rattle.cmm_attempt.specs.Installs.{install_of, send_collect, send_install, send_start}
 
 pub record AttemptState : Type 0 where
@@ -199,7 +201,7 @@ answering_in s d from r Choosing = waits s
 answering_in s d from r Installing = waits s
 answering_in s d from r Over = waits s
 
--- The votes are given: are they enough with every device that a member reaches?
+-- The votes are given: is each member configured, and none left out? Are they enough with every device that a member reaches?
 
 unfoldable pub asked_votes : AttemptState → Turn
 asked_votes s = if all_settled s.devices then counting s else with_steps s (filter_map (request_for s.plan) s.devices)
@@ -222,18 +224,30 @@ possible s None = seizing_votes s
 abbrev pub voted : AttemptState → Turn
 voted s = possible s (shortage s (reached_set s.plan))
 
+-- no member is foreign: one that the newest record left out ends it
+abbrev pub known : AttemptState → Option ℕ → Turn
+known s (Some m) = ends s (Excluded m)
+known s None = voted s
+
+unfoldable pub knowing : AttemptState → Turn
+knowing s = known s (first_left_out s.promises s.plan.nodes (newest_shown s.promises))
+
+-- a member that is not configured ends it
+abbrev pub admitted : AttemptState → Option ℕ → Turn
+admitted s (Some m) = ends s (Foreign m)
+admitted s None = knowing s
+
 unfoldable pub voting : AttemptState → BothVotes → Turn
-voting s both = voted (record (in_phase s SeizingVotes) { votes = Some both; devices = [] })
+voting s both = admitted (record (in_phase s SeizingVotes) { votes = Some both; devices = [] }) (first_foreign both s.plan.nodes)
 
 -- Choosing the newest record.
 
-abbrev pub chosen : AttemptState → Shown → Option ℕ → Turn
-chosen s newest (Some m) = ends s (Excluded m)
-chosen s newest None = with_steps (record (in_phase s Choosing) { newest = newest.summary.node }) (NeedVotes newest.summary.node ∷ [])
+abbrev pub chosen : AttemptState → Shown → Turn
+chosen s newest = with_steps (record (in_phase s Choosing) { newest = newest.summary.node }) (NeedVotes newest.summary.node ∷ [])
 
 abbrev pub chosen_by : AttemptState → Option Shown → Turn
 chosen_by s None = waits s
-chosen_by s (Some newest) = chosen s newest (find (is_left_out newest s.promises) s.plan.nodes)
+chosen_by s (Some newest) = chosen s newest
 
 unfoldable pub choosing : AttemptState → Turn
 choosing s = chosen_by s (newest_shown s.promises)
@@ -248,7 +262,7 @@ collects s = map (send_collect s.plan) (silent_others s)
 
 abbrev pub first_state : ℕ → ℕ → Message → List AttachedDevice → ℕ → List Promised → AttemptState
 first_state p members own attached cluster promises = record {
-  plan = record { epoch = p; coordinator = own.sender; members = members; nodes = nodes_to members 32; attached = attached; cluster = cluster };
+  plan = record { epoch = p; coordinator = own.sender; members = members; nodes = numbers_to members most_nodes; attached = attached; cluster = cluster };
   promises = promises;
   newest = own.sender;
   votes = None;
@@ -319,7 +333,7 @@ is_of p _ = false
 abbrev pub taken : AttemptState → ℕ → Message → Body → Turn
 taken s from m (body.Promise epoch installed members valid flagged committed pending) = promising s from m
 taken s from m (body.Nack epoch promised) = ends s (Superseded promised)
-taken s from m (body.Seized epoch device outcome) = answering_in s device from (result_of outcome) s.phase
+taken s from m (body.Seized epoch device outcome) = answering_in s device from outcome s.phase
 taken s from m (body.Ready epoch joined report) = readying s from m
 taken s from m _ = waits s
 
@@ -374,7 +388,7 @@ ticking s = if is_over s.phase then waits s else ticked (record s { ticks = late
 abbrev pub IsPromiseOf : ℕ → Message → Type 0
 IsPromiseOf p m = (m.sender ≡ p % 64) × (is_promise m.body ≡ true) × (is_of p m.body ≡ true)
 
-abbrev pub FitsKeys : SeizedResult → Type 0
+abbrev pub FitsKeys : SeizeResult → Type 0
 FitsKeys (told.Held keys) = length keys ≤ 32
 FitsKeys (told.NotRegistered keys) = length keys ≤ 32
 FitsKeys _ = Unit {0}
@@ -383,6 +397,10 @@ FitsKeys _ = Unit {0}
 abbrev pub HasFewKeys : Body → Type 0
 HasFewKeys (body.Seized epoch device outcome) = FitsKeys outcome
 HasFewKeys _ = Unit {0}
+
+-- the installed epoch of the newest record: the coordinator's own until all have promised
+abbrev pub newest_installed : AttemptState → Option ℕ
+newest_installed s = option_map (λ p. p.shown.summary.installed) (find (is_from s.newest) s.promises)
 
 -- the messages that were taken
 abbrev pub promise_from : AttemptState → ℕ → Option Message

@@ -1,24 +1,36 @@
--- Which devices have votes, and whether a membership has enough of them.
-use Rattle.std.specs.Prelude.{ℕ, ◌==◌, ◌&&◌, ◌||◌, Bool, true, false, nat_lt, List, Option, Some, None, fold, if◌then◌else◌}
+-- Which nodes are configured, which devices have votes, and whether a membership has enough of them.
+use Rattle.std.specs.Prelude.{ℕ, ◌==◌, ◌&&◌, ◌||◌, Bool, true, false, not, nat_lt, List, Option, Some, None, fold, if◌then◌else◌}
 use Rattle.std.specs.List.{find, filter_map}
 use Rattle.cl_base.specs.Sets.{set_with}
 use Rattle.quorum_votes.specs.declared.state.DevState.{DevState}
 use Rattle.quorum_votes.specs.declared.state.DevState.TheVariants.{Absent, Enabled, Disabled}
 use Rattle.quorum_votes.specs.Tables.{VoteTable}
-use Rattle.quorum_votes.specs.Votes.{state_of, device_at, held_of, needed_of}
-use Rattle.seize.specs.declared.kind.SeizeResult.{SeizeResult}
-use Rattle.seize.specs.declared.kind.SeizeResult.TheVariants.{Held}
+use Rattle.quorum_votes.specs.Votes.{is_configured, state_of, device_at, held_of, needed_of}
+use Rattle.cl_base.specs.Seizings.{SeizeResult, bare}
+use Rattle.cl_base.specs.declared.seizing.SeizeEnd.TheVariants.{Held}
 use Rattle.cmm_attempt.specs.declared.attached.AttachedDevice.{AttachedDevice}
 use Rattle.cmm_attempt.specs.declared.plan.Plan.{Plan}
 use Rattle.cmm_attempt.specs.declared.promised.Promised.{Promised}
 use Rattle.cmm_attempt.specs.declared.seizing.Seizing.{Seizing}
 use Rattle.cmm_attempt.specs.declared.counting.BothVotes.{BothVotes}
-use Rattle.cmm_attempt.specs.declared.step.Lack.{Lack}
-use Rattle.cmm_attempt.specs.declared.step.Obstacle.TheVariants as obstacle
+use Rattle.cl_base.specs.declared.seizing.Lack.{Lack}
+use Rattle.cl_base.specs.declared.seizing.Obstacle.TheVariants as obstacle
 use Rattle.cmm_attempt.specs.declared.step.AttemptEnd.{AttemptEnd}
 use Rattle.cmm_attempt.specs.declared.step.AttemptEnd.TheVariants.{Votes}
 use Rattle.cmm_attempt.specs.Plans.{is_reachable}
 use Rattle.cmm_attempt.specs.Seizings.{first_seizer, vote_entry}
+
+abbrev pub is_foreign_pending : Option VoteTable → ℕ → Bool
+is_foreign_pending None n = true
+is_foreign_pending (Some v) n = not (is_configured v n)
+
+-- the node is configured neither under the committed updates nor with the pending one
+abbrev pub is_foreign : BothVotes → ℕ → Bool
+is_foreign both n = not (is_configured both.committed n) && is_foreign_pending both.pending n
+
+-- the least of these nodes that is not configured so
+abbrev pub first_foreign : BothVotes → List ℕ → Option ℕ
+first_foreign both nodes = find (is_foreign both) nodes
 
 abbrev pub is_enabled_state : DevState → Bool
 is_enabled_state Enabled = true
@@ -62,7 +74,7 @@ vote_new plan promises both a =
 abbrev pub lack_by : ℕ → Option SeizeResult → Option Lack
 lack_by d None = None
 lack_by d (Some (Held keys)) = None
-lack_by d (Some r) = Some (record { device = d; obstacle = obstacle.Seizing r })
+lack_by d (Some r) = Some (record { device = d; obstacle = obstacle.Seizing (bare r) })
 
 abbrev pub lack_in : ℕ → Option Seizing → Option Lack
 lack_in d None = None

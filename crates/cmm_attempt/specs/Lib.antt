@@ -1,10 +1,7 @@
-pub mod Asking
 pub mod Attempts
+pub mod Calls
 pub mod Counts
 pub mod Installs
-pub mod Laws
-pub mod Machine
 pub mod Plans
 pub mod Promises
 pub mod Seizings
-pub mod Waiting

@@ -1,10 +1,10 @@
 -- What the members' Promises show: their records, the devices valid to them, and whether resources have flags there.
-use Rattle.std.specs.Prelude.{ℕ, ◌+◌, ◌==◌, ◌&&◌, ◌||◌, Bool, true, false, not, nat_lt, List, [], ◌∷◌, Option, Some, None, length, fold, if◌then◌else◌}
-use Rattle.std.specs.List.{list_any}
+use Rattle.std.specs.Prelude.{ℕ, ◌+◌, ◌==◌, ◌&&◌, ◌||◌, Bool, not, nat_lt, List, [], ◌∷◌, Option, Some, None, length, fold, if◌then◌else◌}
+use Rattle.std.specs.List.{list_any, find}
 use Rattle.cl_base.specs.Sets.{has}
 use Rattle.ccr_commit.specs.declared.summary.Summary.{Summary}
 use Rattle.wire.specs.declared.message.Body.{Body}
-use Rattle.wire.specs.declared.message.Body.TheVariants.{Promise, Ready}
+use Rattle.wire.specs.declared.message.Body.TheVariants.{Promise}
 use Rattle.wire.specs.declared.message.Message.{Message}
 use Rattle.cmm_attempt.specs.declared.promised.Shown.{Shown}
 use Rattle.cmm_attempt.specs.declared.promised.Promised.{Promised}
@@ -25,14 +25,6 @@ shown_by from _ = None
 abbrev pub promised_by : Message → Option Shown → Option Promised
 promised_by m None = None
 promised_by m (Some shown) = Some (record { shown = shown; message = m })
-
-abbrev pub is_promise : Body → Bool
-is_promise (Promise epoch installed members valid flagged committed pending) = true
-is_promise _ = false
-
-abbrev pub is_ready : Body → Bool
-is_ready (Ready epoch joined report) = true
-is_ready _ = false
 
 abbrev pub is_from : ℕ → Promised → Bool
 is_from n p = p.shown.summary.node == n
@@ -69,3 +61,8 @@ is_left_out_by newest shown =
 
 abbrev pub is_left_out : Shown → List Promised → ℕ → Bool
 is_left_out newest promises n = list_any (λ p. (p.shown.summary.node == n) && is_left_out_by newest p.shown) promises
+
+-- the least of these nodes that the newest record left out so
+abbrev pub first_left_out : List Promised → List ℕ → Option Shown → Option ℕ
+first_left_out promises nodes None = None
+first_left_out promises nodes (Some newest) = find (is_left_out newest promises) nodes

@@ -1,13 +1,12 @@
 -- Which member seizes a device, which is asked next, and how it ended.
-use Rattle.std.specs.Prelude.{ℕ, ◌+◌, ◌*◌, ◌^◌, ◌==◌, ◌&&◌, Bool, true, false, not, List, [], Option, Some, None, is_none, is_some, fold, if◌then◌else◌}
+use Rattle.std.specs.Prelude.{ℕ, ◌==◌, ◌&&◌, Bool, true, false, not, List, [], Option, Some, None, is_none, is_some, fold, if◌then◌else◌}
 use Rattle.std.specs.List.{list_any, list_all, find}
+use Rattle.cl_base.specs.Keys.{key_of}
 use Rattle.cl_base.specs.Sets.{has, set_with}
 use Rattle.seize.specs.declared.kind.SeizeKind.{SeizeKind}
 use Rattle.seize.specs.declared.kind.SeizeKind.TheVariants.{Vote, Plain}
-use Rattle.seize.specs.declared.kind.SeizeResult.{SeizeResult}
-use Rattle.seize.specs.declared.kind.SeizeResult.TheVariants.{Held, NotRegistered, Greater, Expelled, Contended, Fault}
-use Rattle.wire.specs.declared.message.SeizedResult.{SeizedResult}
-use Rattle.wire.specs.declared.message.SeizedResult.TheVariants as told
+use Rattle.cl_base.specs.Seizings.{SeizeResult}
+use Rattle.cl_base.specs.declared.seizing.SeizeEnd.TheVariants.{Held, NotRegistered}
 use Rattle.wire.specs.declared.message.Body.{Body}
 use Rattle.wire.specs.declared.message.Body.TheVariants.{SeizeQuorum, SeizeData}
 use Rattle.wire.specs.declared.lists.Reading.{Reading}
@@ -18,10 +17,6 @@ use Rattle.cmm_attempt.specs.declared.seizing.Seizing.{Seizing}
 use Rattle.cmm_attempt.specs.declared.step.Step.{Step}
 use Rattle.cmm_attempt.specs.declared.step.Step.TheVariants.{Send, SeizeHere}
 use Rattle.cmm_attempt.specs.Promises.{holds_valid}
-
--- the node's key: the cluster's number in front of its own
-abbrev pub key_of : ℕ → ℕ → ℕ
-key_of cluster n = cluster * 2 ^ 32 + n
 
 -- The member may seize a device for its votes: it has a path to it and holds it valid.
 abbrev pub may_seize : List Promised → AttachedDevice → ℕ → Bool
@@ -90,15 +85,6 @@ is_held_by None = false
 -- the devices that are held
 abbrev pub held_set : List Seizing → ℕ
 held_set devices = fold (λ set e. if is_held_by e.result then set_with set e.attached.device else set) 0 devices
-
--- how the seizing ended by the word of a Seized
-abbrev pub result_of : SeizedResult → SeizeResult
-result_of (told.Held keys) = Held keys
-result_of (told.NotRegistered keys) = NotRegistered keys
-result_of (told.Greater word) = Greater word
-result_of told.Expelled = Expelled
-result_of (told.Contended key) = Contended key
-result_of told.Fault = Fault
 
 abbrev pub request_body : Plan → SeizeKind → ℕ → Body
 request_body plan Vote d = SeizeQuorum plan.epoch plan.members d

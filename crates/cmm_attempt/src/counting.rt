@@ -2,20 +2,20 @@ ghost use Rattle.std.specs.Prelude.{◌≡◌, IfOk};
 ghost use Rattle.std.specs.List.{filter_map};
 ghost use Rattle.std.specs.Option.{option_copied};
 ghost use Rattle.cmm_attempt.specs.Seizings.{plain_new};
-ghost use Rattle.cmm_attempt.specs.Counts.{is_enabled, is_quorum, is_short, first_short, reached_set, vote_new, lack_of, lack_under, votes_end};
+ghost use Rattle.cmm_attempt.specs.Counts.{is_foreign, is_enabled, is_quorum, is_short, first_short, reached_set, vote_new, lack_of, lack_under, votes_end};
 
 use crate::attached::AttachedDevice;
 use crate::plan::Plan;
 use crate::promised::Promised;
 use crate::seizing::{Seizing, entry_of};
-use crate::step::{AttemptEnd, Lack, Lacking, Obstacle};
-use cl_base::{DevId, DevSet, NodeSet};
+use crate::step::AttemptEnd;
+use cl_base::{DevId, DevSet, Lack, Lacking, NodeId, NodeSet, Obstacle};
 use quorum_votes::{DevState, Votes};
 use seize::SeizeResult;
 use std::alloc::{AllocError, Global};
 
 /// The votes under the committed updates of the newest record, and those with its pending one.
-#[derive(Debug, Drop)]
+#[derive(Drop)]
 pub struct BothVotes {
     /// The votes under the committed updates.
     pub committed: Votes,
@@ -41,6 +41,17 @@ fn lacks_votes(v: &Votes, members: NodeSet, devices: DevSet) -> bool
 }
 
 impl BothVotes {
+    /// Whether the node is configured neither under the committed updates nor with the pending one.
+    pub fn is_foreign(&self, n: NodeId) -> bool
+        ensures { result ≡ is_foreign self.now n }
+    {
+        !self.committed.configured(n)
+            && match &self.pending {
+                Some(v) => !v.configured(n),
+                None => true,
+            }
+    }
+
     /// Whether the device is an enabled quorum device under either votes.
     pub fn counts(&self, d: DevId) -> bool
         ensures { result ≡ is_quorum self.now d }
@@ -140,7 +151,7 @@ fn lack(plan: &Plan, devices: &[Seizing], a: &AttachedDevice) -> Option<Lack>
         Some(e) => match e.result {
             None | Some(SeizeResult::Held(_)) => None,
             Some(r) => {
-                let obstacle = Obstacle::Seizing(r);
+                let obstacle = Obstacle::Seizing(r.bare());
                 Some(Lack { device, obstacle })
             }
         },

@@ -4,9 +4,7 @@
 
 mod attached;
 mod attempt;
-mod copying;
 mod counting;
-mod laws;
 mod phase;
 mod plan;
 mod promised;
@@ -19,9 +17,8 @@ mod tests;
 pub use attached::{AttachedDevice, AttachedDevices};
 pub use attempt::Attempt;
 pub use counting::BothVotes;
-pub use laws::{attempts_ask, attempts_end, attempts_keep, attempts_show};
 pub use phase::{Phase, Readied};
 pub use plan::{Nodes, Plan};
 pub use promised::{Promised, Shown};
 pub use seizing::Seizing;
-pub use step::{AttemptEnd, Lack, Lacking, Obstacle, Step, Steps};
+pub use step::{AttemptEnd, Step, Steps};

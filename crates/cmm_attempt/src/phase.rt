@@ -2,7 +2,7 @@ use cl_base::NodeId;
 use wire::Message;
 
 /// How far an attempt has come.
-#[derive(Clone, Copy, Debug, PartialEq, Eq)]
+#[derive(Clone, Copy, PartialEq, Eq)]
 pub enum Phase {
     /// The members' Promises are awaited.
     Collecting,
@@ -19,7 +19,7 @@ pub enum Phase {
 }
 
 /// A Ready that was taken.
-#[derive(Debug, Drop)]
+#[derive(Drop)]
 pub struct Readied {
     /// The node that sent it.
     pub node: NodeId,

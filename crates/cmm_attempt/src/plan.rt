@@ -1,51 +1,15 @@
 ghost use Rattle.std.specs.Prelude.{◌≡◌, IfOk};
-ghost use Rattle.cmm_attempt.specs.Plans.{nodes_to, is_reachable, others_of};
+ghost use Rattle.cmm_attempt.specs.Plans.{is_reachable, others_of};
 
 use crate::attached::{AttachedDevice, AttachedDevices};
-use cl_base::{Epoch, NodeId, NodeSet};
+use cl_base::{Epoch, Items, NodeId, NodeSet};
 use std::alloc::{AllocError, Global};
-use std::marker::Model;
 
-/// Nodes, ascending. Contracts see the list of them.
-#[derive(Debug, Drop)]
-pub struct Nodes {
-    nodes: Vec<NodeId>,
-}
-
-impl Model for Nodes {
-    ghost use Rattle.std.specs.Prelude.{List, ℕ};
-
-    ghost Value = { List ℕ };
-
-    ghost view = { λ n. n.nodes.items };
-}
-
-impl Nodes {
-    /// The nodes in order.
-    pub fn items(&self) -> &[NodeId]
-        ensures value { result.now ≡ self.now }
-    {
-        self.nodes.as_slice()
-    }
-
-    /// The nodes of the set, ascending.
-    pub fn of_set(alloc: Global, set: NodeSet) -> Result<Nodes, AllocError>
-        ensures value { IfOk result (λ nodes. nodes ≡ nodes_to set 32) }
-    {
-        let mut nodes = Vec::new(alloc);
-        for place in 0..NodeId::MOST {
-            if let Ok(n) = NodeId::new(place + 1)
-                && set.has(n)
-            {
-                nodes.push(n)?;
-            }
-        }
-        Ok(Nodes { nodes })
-    }
-}
+/// Nodes, ascending.
+pub type Nodes = Items<NodeId>;
 
 /// What an attempt is of; this stays from its beginning to its end.
-#[derive(Debug, Drop)]
+#[derive(Drop)]
 pub struct Plan {
     /// The attempt's epoch.
     pub epoch: Epoch,

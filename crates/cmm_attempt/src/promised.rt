@@ -8,7 +8,7 @@ use std::alloc::{AllocError, Global};
 use wire::{Body, Message};
 
 /// What a Promise shows of its sender.
-#[derive(Clone, Copy, Debug, PartialEq, Eq)]
+#[derive(Clone, Copy)]
 pub struct Shown {
     /// How new its record is.
     pub summary: Summary,
@@ -19,7 +19,7 @@ pub struct Shown {
 }
 
 /// A Promise that was taken, and what it shows.
-#[derive(Debug, Drop)]
+#[derive(Drop)]
 pub struct Promised {
     /// What it shows.
     pub shown: Shown,

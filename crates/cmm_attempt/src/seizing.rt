@@ -1,8 +1,9 @@
 ghost use Rattle.std.specs.Prelude.{◌≡◌, ◌==◌, ◌&&◌, ◌<◌, IfOk, Some, None, find, is_none};
 ghost use Rattle.std.specs.List.{filter_map, list_any};
 ghost use Rattle.std.specs.Option.{option_copied};
+ghost use Rattle.cl_base.specs.Keys.{key_of};
 ghost use Rattle.cl_base.specs.Sets.{has};
-ghost use Rattle.cmm_attempt.specs.Seizings.{key_of, may_seize, may_follow, vote_entry, first_seizer, plain_new, is_seized, is_asked, awaits, awaits_from, all_settled, with_result, with_next, next_by, is_held_by, held_set, request, request_body, request_for, again_for, reading_of, reading_in};
+ghost use Rattle.cmm_attempt.specs.Seizings.{may_seize, may_follow, vote_entry, first_seizer, plain_new, is_seized, is_asked, awaits, awaits_from, all_settled, with_result, with_next, next_by, is_held_by, held_set, request, request_body, request_for, again_for, reading_of, reading_in};
 
 use crate::attached::AttachedDevice;
 use crate::plan::Plan;
@@ -15,7 +16,7 @@ use std::alloc::{AllocError, Global};
 use wire::{Body, Keys, Message, Reading};
 
 /// The seizing of a device in an attempt.
-#[derive(Clone, Copy, Debug, PartialEq, Eq)]
+#[derive(Clone, Copy)]
 pub struct Seizing {
     /// The device and the nodes with a path to it.
     pub attached: AttachedDevice,

@@ -6,15 +6,13 @@ ghost use Rattle.cmm_attempt.specs.Promises.{is_from};
 ghost use Rattle.cmm_attempt.specs.Seizings.{request_for, again_for};
 ghost use Rattle.cmm_attempt.specs.Installs.{committed_in, pending_in, install_by, install_of, send_collect, send_install, send_start};
 
-use crate::copying::{copy_install, copy_pending, copy_texts};
 use crate::plan::Plan;
 use crate::promised::Promised;
 use crate::seizing::{Seizing, readings_of};
 use crate::step::Step;
-use ccr_commit::Text;
-use cl_base::NodeId;
+use cl_base::{Bytes, NodeId};
 use std::alloc::{AllocError, Global};
-use wire::{Body, Install, Message, Readings, Texts};
+use wire::{Body, Install, Message, Readings, Texts, copy_install, copy_pending, copy_texts};
 
 /// Collect to these members.
 pub fn send_collects(alloc: Global, plan: &Plan, to: &[NodeId]) -> Result<Vec<Step>, AllocError>
@@ -88,7 +86,7 @@ fn committed_of(alloc: Global, m: &Message) -> Result<Texts, AllocError>
     }
 }
 
-fn pending_of(alloc: Global, m: &Message) -> Result<Option<Text>, AllocError>
+fn pending_of(alloc: Global, m: &Message) -> Result<Option<Bytes>, AllocError>
     ensures { IfOk result (λ text. text ≡ pending_in m.now.body) }
 {
     match &m.body {

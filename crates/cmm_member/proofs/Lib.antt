@@ -3,3 +3,5 @@ pub mod ListLemmas
 pub mod RowLemmas
 pub mod NodeLemmas
 pub mod DeviceLemmas
+pub mod KeyLemmas
+pub mod TextLemmas

@@ -14,7 +14,7 @@ use Rattle.std.proofs.lemmas.Bool.Decides.{eqb_tells, leb_tells, nat_tests}
 use Rattle.std.proofs.Math.Pow.{pow_mono}
 use Rattle.cl_base.specs.Sets.{has}
 use Rattle.cl_base.proofs.SetLemmas.{has_not_zero, has_not_above, same_set}
-use Rattle.cmm_member.specs.Records.{numbers_to, by_commas}
+use Rattle.cl_base.specs.Numbers.{numbers_to, by_commas, set_text}
 use Rattle.cmm_member.specs.Lists.{is_listed}
 
 abbrev pub is_comma : ℕ → Bool
@@ -77,13 +77,13 @@ below_append : (a b : List ℕ) → Below a → Below b → Below (a ++ b)
 below_append [] b ha hb = hb
 below_append (x ∷ a) b ha hb = (ha.0, below_append a b ha.1 hb)
 
-below_one : (t : Bool) (n : ℕ) → n < 2 ^ 64 → Below (if t then n ∷ [] else [])
-below_one true n fits = (fits, tt)
-below_one false n fits = tt
+below_if : (t : Bool) (ns : List ℕ) (n : ℕ) → Below ns → n < 2 ^ 64 → Below (if t then ns ++ n ∷ [] else ns)
+below_if true ns n all fits = below_append ns (n ∷ []) all (fits, tt)
+below_if false ns n all fits = all
 
 pub below_numbers : (set k : ℕ) → k ≤ 32 → Below (numbers_to set k)
 below_numbers set zero le = tt
-below_numbers set (suc k) le = below_append (numbers_to set k) (if has set (k + 1) then (k + 1) ∷ [] else []) (below_numbers set k (omega arith)) (below_one (has set (k + 1)) (k + 1) (omega arith))
+below_numbers set (suc k) le = below_if (has set (suc k)) (numbers_to set k) (suc k) (below_numbers set k (omega arith)) (omega arith)
 
 or_none : (b : Bool) → (b || false) ≡ b
 or_none true = refl
@@ -93,11 +93,11 @@ and_none : (b : Bool) → false ≡ (b && false)
 and_none true = refl
 and_none false = refl
 
-last_number : (set k m : ℕ) (t : Bool) → has set (k + 1) ≡ t → ((nat_le m k && has set m) || list_any (λ n. n == m) (if t then (k + 1) ∷ [] else [])) ≡ (nat_le m (suc k) && has set m)
-last_number set k m true is = tests (eqb_tells (k + 1) m) (leb_tells m k) (leb_tells m (suc k))
+last_number : (set k m : ℕ) (t : Bool) → has set (suc k) ≡ t → ((nat_le m k && has set m) || list_any (λ n. n == m) (if t then (suc k) ∷ [] else [])) ≡ (nat_le m (suc k) && has set m)
+last_number set k m true is = tests (eqb_tells (suc k) m) (leb_tells m k) (leb_tells m (suc k))
   where
-    tests : ((k + 1 == m) ≡ true) × (k + 1 ≡ m) ⊎ ((k + 1 == m) ≡ false) × (k + 1 ≢ m) → (nat_le m k ≡ true) × (m ≤ k) ⊎ (nat_le m k ≡ false) × (k < m) → (nat_le m (suc k) ≡ true) × (m ≤ suc k) ⊎ (nat_le m (suc k) ≡ false) × (suc k < m)
-        → ((nat_le m k && has set m) || ((k + 1 == m) || false)) ≡ (nat_le m (suc k) && has set m)
+    tests : ((suc k == m) ≡ true) × (suc k ≡ m) ⊎ ((suc k == m) ≡ false) × (suc k ≢ m) → (nat_le m k ≡ true) × (m ≤ k) ⊎ (nat_le m k ≡ false) × (k < m) → (nat_le m (suc k) ≡ true) × (m ≤ suc k) ⊎ (nat_le m (suc k) ≡ false) × (suc k < m)
+        → ((nat_le m k && has set m) || ((suc k == m) || false)) ≡ (nat_le m (suc k) && has set m)
     tests (inl (test, same)) (inl (le, less)) c = absurd (omega arith)
     tests (inl (test, same)) (inr (le, more)) (inl (next, _)) = let here : has set m ≡ true = subst (λ j. has set j ≡ true) same is in rw (test, le, next, here) refl
     tests (inl (test, same)) (inr (le, more)) (inr (next, far)) = absurd (omega arith)
@@ -105,9 +105,9 @@ last_number set k m true is = tests (eqb_tells (k + 1) m) (leb_tells m k) (leb_t
     tests (inr (test, other)) (inl (le, less)) (inr (next, far)) = absurd (omega arith)
     tests (inr (test, other)) (inr (le, more)) (inl (next, near)) = absurd (omega arith)
     tests (inr (test, other)) (inr (le, more)) (inr (next, far)) = rw (test, le, next) refl
-last_number set k m false is = tests (eqb_tells (k + 1) m) (leb_tells m k) (leb_tells m (suc k))
+last_number set k m false is = tests (eqb_tells (suc k) m) (leb_tells m k) (leb_tells m (suc k))
   where
-    tests : ((k + 1 == m) ≡ true) × (k + 1 ≡ m) ⊎ ((k + 1 == m) ≡ false) × (k + 1 ≢ m) → (nat_le m k ≡ true) × (m ≤ k) ⊎ (nat_le m k ≡ false) × (k < m) → (nat_le m (suc k) ≡ true) × (m ≤ suc k) ⊎ (nat_le m (suc k) ≡ false) × (suc k < m)
+    tests : ((suc k == m) ≡ true) × (suc k ≡ m) ⊎ ((suc k == m) ≡ false) × (suc k ≢ m) → (nat_le m k ≡ true) × (m ≤ k) ⊎ (nat_le m k ≡ false) × (k < m) → (nat_le m (suc k) ≡ true) × (m ≤ suc k) ⊎ (nat_le m (suc k) ≡ false) × (suc k < m)
         → ((nat_le m k && has set m) || false) ≡ (nat_le m (suc k) && has set m)
     tests (inl (test, same)) (inl (le, less)) c = absurd (omega arith)
     tests (inl (test, same)) (inr (le, more)) c = let here : has set m ≡ false = subst (λ j. has set j ≡ false) same is in rw (le, here) (and_none (nat_le m (suc k)))
@@ -122,13 +122,17 @@ none_to_zero set (suc m) =
     let far : nat_le (suc m) 0 ≡ false = grind (arith, nat_tests) in
     rw far refl
 
+any_if : (m : ℕ) (ns : List ℕ) (n : ℕ) (t : Bool) → list_any (λ n. n == m) (if t then ns ++ n ∷ [] else ns) ≡ (list_any (λ n. n == m) ns || list_any (λ n. n == m) (if t then n ∷ [] else []))
+any_if m ns n true = list_any-append (λ n. n == m) ns (n ∷ [])
+any_if m ns n false = sym (or_none (list_any (λ n. n == m) ns))
+
 -- the numbers up to k that are in the set are listed
 pub in_numbers : (set k m : ℕ) → list_any (λ n. n == m) (numbers_to set k) ≡ (nat_le m k && has set m)
 in_numbers set zero m = none_to_zero set m
 in_numbers set (suc k) m =
-    list_any-append (λ n. n == m) (numbers_to set k) (if has set (k + 1) then (k + 1) ∷ [] else [])
-    ∙ ap (λ b. b || list_any (λ n. n == m) (if has set (k + 1) then (k + 1) ∷ [] else [])) (in_numbers set k m)
-    ∙ last_number set k m (has set (k + 1)) refl
+    any_if m (numbers_to set k) (suc k) (has set (suc k))
+    ∙ ap (λ b. b || list_any (λ n. n == m) (if has set (suc k) then suc k ∷ [] else [])) (in_numbers set k m)
+    ∙ last_number set k m (has set (suc k)) refl
 
 -- ---- the loop that reads a list
 
@@ -149,26 +153,35 @@ next_if text n set m false low is old = rw old (grind (arith, nat_tests))
 pub read_next : (text : List ℕ) (n set new : ℕ) → 1 ≤ n → Read text n set → ((m : ℕ) → has new m ≡ (if is_listed text n then (m == n) || has set m else has set m)) → Read text (n + 1) new
 read_next text n set new low old is m = is m ∙ next_if text n set m (is_listed text n) low refl (old m)
 
-within : (set w m : ℕ) → w ≤ 32 → set < 2 ^ w → (nat_le m w ≡ true) × (m ≤ w) ⊎ (nat_le m w ≡ false) × (w < m) → (nat_lt m (w + 1) && (nat_le 1 m && is_listed (by_commas (numbers_to set w)) m)) ≡ has set m
-within set w zero most fits c = sym (and_none (nat_lt zero (w + 1))) ∙ sym (has_not_zero set)
-within set w (suc m) most fits (inl (test, le)) =
-    let there : is_listed (by_commas (numbers_to set w)) (suc m) ≡ (nat_le (suc m) w && has set (suc m)) = listed (numbers_to set w) (suc m) (below_numbers set w most) (omega arith) ∙ in_numbers set w (suc m) in
+within : (set w k m : ℕ) → w ≤ k → k ≤ 32 → set < 2 ^ w → (nat_le m w ≡ true) × (m ≤ w) ⊎ (nat_le m w ≡ false) × (w < m) → (nat_lt m (w + 1) && (nat_le 1 m && is_listed (by_commas (numbers_to set k)) m)) ≡ has set m
+within set w k zero low most fits c = sym (and_none (nat_lt zero (w + 1))) ∙ sym (has_not_zero set)
+within set w k (suc m) low most fits (inl (test, le)) =
+    let there : is_listed (by_commas (numbers_to set k)) (suc m) ≡ (nat_le (suc m) k && has set (suc m)) = listed (numbers_to set k) (suc m) (below_numbers set k most) (omega arith) ∙ in_numbers set k (suc m) in
     let near : nat_lt (suc m) (w + 1) ≡ true = grind (arith, nat_tests) in
+    let wide : nat_le (suc m) k ≡ true = grind (arith, nat_tests) in
     let some : nat_le 1 (suc m) ≡ true = grind (arith, nat_tests) in
-    rw (there, near, test, some) refl
-within set w (suc m) most fits (inr (test, more)) =
+    rw (there, near, wide, some) refl
+within set w k (suc m) low most fits (inr (test, more)) =
     let far : nat_lt (suc m) (w + 1) ≡ false = grind (arith, nat_tests) in
     rw far (sym (has_not_above set w (suc m) fits more))
 
--- so a text lists one set at most
-pub list_back : (a b w : ℕ) → w ≤ 32 → a < 2 ^ w → b < 2 ^ w → by_commas (numbers_to a w) ≡ by_commas (numbers_to b w) → a ≡ b
-list_back a b w most fa fb same =
-    let wide : 2 ^ w ≤ 2 ^ 32 = pow_mono {i = w} {j = 32} most in
+list_back_at : (a b k : ℕ) → k ≤ 32 → a < 2 ^ k → b < 2 ^ k → by_commas (numbers_to a k) ≡ by_commas (numbers_to b k) → a ≡ b
+list_back_at a b k most fa fb same =
+    let wide : 2 ^ k ≤ 2 ^ 32 = pow_mono {i = k} {j = 32} most in
     same_set a b (omega arith) (omega arith) (λ m.
-    sym (within a w m most fa (leb_tells m w)) ∙ ap (λ t. nat_lt m (w + 1) && (nat_le 1 m && is_listed t m)) same ∙ within b w m most fb (leb_tells m w))
+    sym (within a k k m (omega arith) most fa (leb_tells m k)) ∙ ap (λ t. nat_lt m (k + 1) && (nat_le 1 m && is_listed t m)) same ∙ within b k k m (omega arith) most fb (leb_tells m k))
 
-pub read_back : (set w new : ℕ) (text : List ℕ) → w ≤ 32 → set < 2 ^ w → new < 2 ^ 32 → Read text (w + 1) new → text ≡ by_commas (numbers_to set w) → new ≡ set
-read_back set w new text most fits small all is =
-    let wide : 2 ^ w ≤ 2 ^ 32 = pow_mono {i = w} {j = 32} most in
-    let whole : Read (by_commas (numbers_to set w)) (w + 1) new = subst (λ t. Read t (w + 1) new) is all in
-    same_set new set small (omega arith) (λ m. whole m ∙ within set w m most fits (leb_tells m w))
+read_back_at : (set w k new : ℕ) (text : List ℕ) → w ≤ k → k ≤ 32 → set < 2 ^ w → new < 2 ^ 32 → Read text (w + 1) new → text ≡ by_commas (numbers_to set k) → new ≡ set
+read_back_at set w k new text low most fits small all is =
+    let wide : 2 ^ w ≤ 2 ^ 32 = pow_mono {i = w} {j = 32} (omega arith) in
+    let whole : Read (by_commas (numbers_to set k)) (w + 1) new = subst (λ t. Read t (w + 1) new) is all in
+    same_set new set small (omega arith) (λ m. whole m ∙ within set w k m low most fits (leb_tells m w))
+
+-- so a text lists one set at most
+pub list_back : (a b : ℕ) → a < 2 ^ 32 → b < 2 ^ 32 → set_text a ≡ set_text b → a ≡ b
+unfolding set_text
+list_back a b fa fb same = list_back_at a b 32 (omega arith) fa fb same
+
+pub read_back : (set w new : ℕ) (text : List ℕ) → w ≤ 32 → set < 2 ^ w → new < 2 ^ 32 → Read text (w + 1) new → text ≡ set_text set → new ≡ set
+unfolding set_text
+read_back set w new text most fits small all is = read_back_at set w 32 new text most (omega arith) fits small all is

@@ -9,10 +9,11 @@ use Rattle.std.proofs.lemmas.List.Elements.{All-head, All-tail, All-append, All-
 use Rattle.std.proofs.lemmas.Fmt.{decimal_injective, length-decimal-le}
 use Rattle.std.proofs.lemmas.Bool.Decides.{leb_tells}
 use Rattle.cl_base.specs.Sets.{has}
+use Rattle.cl_base.specs.Numbers.{numbers_to, by_commas, set_text}
 use Rattle.ccr_commit.specs.Entries.{EntryList, listed, texts_of}
 use Rattle.ccr_text.specs.declared.rows.Row.{Row}
 use Rattle.ccr_text.specs.TableText.{AreRows, IsPlain, IsRow, IsTable, MayAllFollow, table_text}
-use Rattle.cmm_member.specs.Records.{NodeRecord, IsRecord, IsRecordText, IsRowText, numbers_to, by_commas, node_list, device_list, row, update_rows, pending_rows, rows_of}
+use Rattle.cmm_member.specs.Records.{NodeRecord, IsRecord, IsRecordText, IsRowText, row, update_rows, pending_rows, rows_of}
 use Rattle.ccr_text.specs.declared.error.TextError.{TextError}
 use Rattle.ccr_text.specs.declared.error.TextError.TheVariants.{NoMemory}
 use Rattle.ccr_text.proofs.OneAnswer.{one_answer}
@@ -72,16 +73,17 @@ text_list : (ns : List ℕ) → Below ns → length ns ≤ 32 → IsRowText (by_
 text_list [] all few = (omega arith, plain_if (codes "none") refl)
 text_list (n ∷ ns) all few = (omega (arith, short_decimal n all.0, short_rest ns all.1, length-append (decimal n) (flat_map (λ m. 44 ∷ decimal m) ns)), plain_append (decimal n) _ (plain_decimal n all.0) (plain_rest ns all.1))
 
-one_more : (t : Bool) (n : ℕ) → length (if t then n ∷ [] else []) ≤ 1
-one_more true n = omega arith
-one_more false n = omega arith
+few_if : (t : Bool) (ns : List ℕ) (n k : ℕ) → length ns ≤ k → length (if t then ns ++ n ∷ [] else ns) ≤ suc k
+few_if true ns n k le = omega (arith, le, length-append ns (n ∷ []))
+few_if false ns n k le = omega (arith, le)
 
 few_numbers : (set k : ℕ) → length (numbers_to set k) ≤ k
 few_numbers set zero = omega arith
-few_numbers set (suc k) = omega (arith, few_numbers set k, one_more (has set (k + 1)) (k + 1), length-append (numbers_to set k) (if has set (k + 1) then (k + 1) ∷ [] else []))
+few_numbers set (suc k) = few_if (has set (suc k)) (numbers_to set k) (suc k) k (few_numbers set k)
 
-text_set : (set k : ℕ) → k ≤ 32 → IsRowText (by_commas (numbers_to set k))
-text_set set k le = text_list (numbers_to set k) (below_numbers set k le) (omega (arith, few_numbers set k))
+text_set : (set : ℕ) → IsRowText (set_text set)
+unfolding set_text
+text_set set = text_list (numbers_to set 32) (below_numbers set 32 (omega arith)) (few_numbers set 32)
 
 -- ---- keys
 
@@ -142,8 +144,8 @@ pub are_rows : (r : NodeRecord) → IsRecord r → All IsRowText (texts_of r.ent
 are_rows r ok texts =
     let promised = row (codes "promised") (decimal r.promised) in
     let installed = row (codes "installed") (decimal r.installed) in
-    let members = row (codes "members") (node_list r.members) in
-    let valid = row (codes "valid") (device_list r.valid) in
+    let members = row (codes "members") (set_text r.members) in
+    let valid = row (codes "valid") (set_text r.valid) in
     let P = λ (x : Row). OldKey 0 x.key in
     let old4 : Old 0 (valid ∷ []) = All-cons P valid [] (head_old (codes "valid") (λ n. refl) refl) (All-nil P) in
     let old3 : Old 0 (members ∷ valid ∷ []) = All-cons P members (valid ∷ []) (head_old (codes "members") (λ n. refl) refl) old4 in
@@ -161,9 +163,9 @@ are_rows r ok texts =
       (
         record { form = is_row (codes "installed") (decimal r.installed) (omega arith) (omega arith) (plain_if (codes "installed") refl) (text_decimal r.installed (omega (arith, ok.order, ok.width))); fresh = before2 },
         (
-          record { form = is_row (codes "members") (node_list r.members) (omega arith) (omega arith) (plain_if (codes "members") refl) (text_set r.members 32 (omega arith)); fresh = before3 },
+          record { form = is_row (codes "members") (set_text r.members) (omega arith) (omega arith) (plain_if (codes "members") refl) (text_set r.members); fresh = before3 },
           (
-            record { form = is_row (codes "valid") (device_list r.valid) (omega arith) (omega arith) (plain_if (codes "valid") refl) (text_set r.valid 16 (omega arith)); fresh = before4 },
+            record { form = is_row (codes "valid") (set_text r.valid) (omega arith) (omega arith) (plain_if (codes "valid") refl) (text_set r.valid); fresh = before4 },
             entries_follow 0 (promised ∷ installed ∷ members ∷ valid ∷ []) r.entries.committed r.entries.pending (omega (arith, ok.count)) old texts,
           ),
         ),
@@ -182,6 +184,14 @@ rows_of_ok (Err e) = []
 pub rows_are : (result : Result (ℕ × List Row) TextError) (n saves : ℕ) (rows others : List Row) → result ≡ Ok (n, rows) → (result ≡ Err NoMemory) ⊎ (result ≡ Ok (saves, others)) → rows ≡ others
 rows_are result n saves rows others is (inl e) = absurd (cc)
 rows_are result n saves rows others is (inr e) = ap rows_of_ok (sym is ∙ e)
+
+abbrev pub saves_of_ok : Result (ℕ × List Row) TextError → ℕ
+saves_of_ok (Ok found) = found.0
+saves_of_ok (Err e) = 0
+
+pub saves_are : (result : Result (ℕ × List Row) TextError) (n saves : ℕ) (rows others : List Row) → result ≡ Ok (n, rows) → (result ≡ Err NoMemory) ⊎ (result ≡ Ok (saves, others)) → n ≡ saves
+saves_are result n saves rows others is (inl e) = absurd (cc)
+saves_are result n saves rows others is (inr e) = ap saves_of_ok (sym is ∙ e)
 
 pub not_bad : (result : Result (ℕ × List Row) TextError) (bad : TextError) (found : ℕ × List Row) → result ≡ Err bad → bad ≢ NoMemory → (result ≡ Err NoMemory) ⊎ (result ≡ Ok found) → ⊥
 not_bad result bad found is other (inl e) = let same : bad ≡ NoMemory = cc in other same
@@ -206,8 +216,8 @@ pub same_record : (a b : NodeRecord) → IsRecord a → IsRecord b → rows_of a
 same_record a b ha hb same =
     let promised : a.promised ≡ b.promised = decimal_injective a.promised b.promised ha.width hb.width (ap (value_at 0) same) in
     let installed : a.installed ≡ b.installed = decimal_injective a.installed b.installed (omega (arith, ha.order, ha.width)) (omega (arith, hb.order, hb.width)) (ap (value_at 1) same) in
-    let members : a.members ≡ b.members = list_back a.members b.members 32 (omega arith) ha.nodes hb.nodes (ap (value_at 2) same) in
-    let valid : a.valid ≡ b.valid = list_back a.valid b.valid 16 (omega arith) ha.devices hb.devices (ap (value_at 3) same) in
+    let members : a.members ≡ b.members = list_back a.members b.members ha.nodes hb.nodes (ap (value_at 2) same) in
+    let valid : a.valid ≡ b.valid = list_back a.valid b.valid (omega (arith, ha.devices)) (omega (arith, hb.devices)) (ap (value_at 3) same) in
     let entries : a.entries ≡ b.entries = entries_same a.entries b.entries (ap (drop 4) same) in
     ap (λ x. made x a.installed a.members a.valid a.entries) promised
     ∙ ap (λ x. made b.promised x a.members a.valid a.entries) installed

@@ -3,3 +3,4 @@ pub mod Nodes
 pub mod Machine
 pub mod Views
 pub mod Lists
+pub mod Lengths

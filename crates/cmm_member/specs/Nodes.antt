@@ -2,6 +2,8 @@
 use Rattle.std.specs.Prelude.{ℕ, ◌≡◌, ◌≢◌, ◌≤◌, ◌<◌, ◌^◌, ◌%◌, ◌==◌, ◌&&◌, ◌||◌, ◌⊎◌, Bool, if◌then◌else◌, All, List, [], ◌∷◌}
 use Rattle.std.specs.List.{list_any}
 use Rattle.cl_base.specs.Sets.{has, set_with, set_without}
+use Rattle.cl_base.specs.Keys.{key_of}
+use Rattle.cl_base.specs.Limits.{most_nodes}
 use Rattle.cl_base.specs.declared.panic.Panic.{Panic}
 use Rattle.ccr_commit.specs.Entries.{EntryList, all_committed}
 use Rattle.wire.specs.declared.lists.Reading.{Reading}
@@ -73,6 +75,12 @@ pub record Devices : Type 0 where
 -- whether one of the keys is the node's: each key is a cluster's id times 2^32 plus a node's number
 abbrev pub has_key_of : ℕ → List ℕ → Bool
 has_key_of me keys = list_any (λ k. k % 2 ^ 32 == me) keys
+
+-- the key is that of a node of the cluster
+pub record IsKeyOf (cluster key : ℕ) : Type 0 where
+  pub node : ℕ
+  pub most : node ≤ most_nodes
+  pub is : key ≡ key_of cluster node
 
 -- whether the node joins a device by the install itself: it seized the device, or its key was seen there and the
 -- device was valid to it

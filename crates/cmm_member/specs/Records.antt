@@ -1,7 +1,7 @@
 -- What a node keeps durably, and the rows that its table has for it.
-use Rattle.std.specs.Prelude.{ℕ, zero, suc, ◌≤◌, ◌<◌, ◌^◌, ◌+◌, if◌then◌else◌, List, [], ◌∷◌, ◌++◌, flat_map, length, Option, Some, None, codes}
+use Rattle.std.specs.Prelude.{ℕ, ◌≤◌, ◌<◌, ◌^◌, ◌+◌, List, [], ◌∷◌, ◌++◌, length, Option, Some, None, codes}
 use Rattle.std.specs.Fmt.{decimal}
-use Rattle.cl_base.specs.Sets.{has}
+use Rattle.cl_base.specs.Numbers.{set_text}
 use Rattle.ccr_commit.specs.Entries.{EntryList, no_entries}
 use Rattle.ccr_text.specs.declared.rows.Row.{Row}
 use Rattle.ccr_text.specs.TableText.{IsTable, IsPlain}
@@ -30,22 +30,6 @@ pub record IsRecord (r : NodeRecord) : Type 0 where
   pub devices : r.valid < 2 ^ 16
   pub count : length r.entries.committed < 2 ^ 64
 
--- the numbers up to k that are in the set, ascending
-abbrev pub numbers_to : ℕ → ℕ → List ℕ
-numbers_to set zero = []
-numbers_to set (suc k) = numbers_to set k ++ (if has set (k + 1) then (k + 1) ∷ [] else [])
-
--- numbers with commas between them, or `none`
-abbrev pub by_commas : List ℕ → List ℕ
-by_commas [] = codes "none"
-by_commas (n ∷ ns) = decimal n ++ flat_map (λ m. 44 ∷ decimal m) ns
-
-abbrev pub node_list : ℕ → List ℕ
-node_list set = by_commas (numbers_to set 32)
-
-abbrev pub device_list : ℕ → List ℕ
-device_list set = by_commas (numbers_to set 16)
-
 abbrev pub row : List ℕ → List ℕ → Row
 row key value = record { key = key; value = value }
 
@@ -63,7 +47,7 @@ entry_rows entries = update_rows 0 entries.committed ++ pending_rows entries.pen
 
 -- the record as rows
 abbrev pub rows_of : NodeRecord → List Row
-rows_of r = row (codes "promised") (decimal r.promised) ∷ row (codes "installed") (decimal r.installed) ∷ row (codes "members") (node_list r.members) ∷ row (codes "valid") (device_list r.valid) ∷ entry_rows r.entries
+rows_of r = row (codes "promised") (decimal r.promised) ∷ row (codes "installed") (decimal r.installed) ∷ row (codes "members") (set_text r.members) ∷ row (codes "valid") (set_text r.valid) ∷ entry_rows r.entries
 
 -- an update that a row can hold: at most 65,535 bytes, without tab and newline
 abbrev pub IsRowText : List ℕ → Type 0

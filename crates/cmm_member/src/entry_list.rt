@@ -2,15 +2,16 @@ ghost use Rattle.std.specs.Prelude.{◌≡◌, ◌+◌, IfOk, OnOk, map, length}
 ghost use Rattle.ccr_commit.specs.Entries.{with_next, texts_of};
 ghost use Rattle.cmm_member.specs.Views.{all_next};
 
-use ccr_commit::{Entries, Text};
+use ccr_commit::Entries;
 use ccr_text::Row;
+use cl_base::Bytes;
 use std::alloc::{AllocError, Global};
 
 /// The entries with these committed and this one pending.
 pub fn entries_from(
     alloc: Global,
-    committed: &[Text],
-    pending: &Option<Text>,
+    committed: &[Bytes],
+    pending: &Option<Bytes>,
 ) -> Result<Entries, AllocError>
     ensures { IfOk result (λ entries. entries ≡ record { committed = committed.now; pending = pending.now }) }
 {
@@ -24,7 +25,7 @@ pub fn entries_from(
     Ok(entries)
 }
 
-fn append_texts(entries: &mut Entries, texts: &[Text]) -> Result<(), AllocError>
+fn append_texts(entries: &mut Entries, texts: &[Bytes]) -> Result<(), AllocError>
     ensures { OnOk result (entries.new ≡ all_next entries.old texts.now) }
 {
     for text in texts {

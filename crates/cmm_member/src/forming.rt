@@ -1,4 +1,4 @@
-ghost use Rattle.std.specs.Prelude.{◌≡◌, ◌≢◌, ◌≤◌, ◌<◌, ◌⊎◌, Bool, IfOk, IfErr, MatchResult, All, length};
+ghost use Rattle.std.specs.Prelude.{◌≡◌, ◌≢◌, ◌≤◌, ◌<◌, ◌⊎◌, ◌↔◌, Bool, IfOk, IfErr, IsTrue, IsSome, MatchResult, All, length};
 ghost use Rattle.cl_base.specs.Sets.{set_without};
 ghost use Rattle.ccr_commit.specs.Entries.{texts_of};
 ghost use Rattle.ccr_text.specs.TableText.{AreRows};
@@ -7,7 +7,7 @@ ghost use Rattle.membership_machine.specs.Steps.{promising, installing, joining,
 ghost use Rattle.cmm_member.specs.Records.{IsRecord, IsRowText, rows_of};
 ghost use Rattle.cmm_member.specs.Nodes.{IsRunning, down_of, halted_by, promised_to, installed_with, entries_of, started, with_valid, with_joined};
 ghost use Rattle.cmm_member.specs.Machine.{ShowsDown, ShowsForming, ShowsMember};
-ghost use Rattle.cmm_member.specs.Views.{seen};
+ghost use Rattle.cmm_member.specs.Views.{kept, seen};
 ghost use Rattle.cmm_member.specs.declared.error.InstallError.TheVariants.{Refused, NoMemory};
 
 use crate::down::DownNode;
@@ -17,13 +17,31 @@ use crate::halted::HaltedNode;
 use crate::joining::join_devices;
 use crate::member::MemberNode;
 use crate::rows::record_rows;
-use crate::running::Running;
+use crate::running::{Record, Running};
 use ccr_commit::Entries;
 use ccr_text::TableRows;
 use cl_base::{DevId, DevSet, Epoch, NodeSet, Panic};
 use std::alloc::{AllocError, Global};
 use std::marker::Model;
 use wire::Install;
+
+/// A node after an install.
+#[derive(Debug, Drop)]
+pub struct Installed {
+    /// The node.
+    pub node: FormingNode,
+    /// Whether its record changed: not where it had installed this already.
+    pub changed: bool,
+}
+
+/// A node that has become a member.
+#[derive(Debug, Drop)]
+pub struct Started {
+    /// The node.
+    pub node: MemberNode,
+    /// Whether its record changed: where an update was pending, which is committed now.
+    pub changed: bool,
+}
 
 /// A running node that is no member. Contracts see it as a `NodeState`.
 #[derive(Debug, Drop)]
@@ -103,6 +121,13 @@ impl FormingNode {
         &self.running.durable.entries
     }
 
+    /// The node's record, to be saved. This takes no memory.
+    pub fn record(&self) -> &Record
+        ensures value { kept result.now ≡ self.now.saved }
+    {
+        &self.running.durable
+    }
+
     /// The rows of the node's record. They are those of a table where each update fits a row.
     pub fn record_rows(&self, alloc: Global) -> Result<TableRows, AllocError>
         ensures rows { IfOk result (λ rows. rows ≡ rows_of self.now.saved) }
@@ -131,20 +156,25 @@ impl FormingNode {
     /// The node installs what came with the attempt of its session: its record has the members and
     /// the updates, and of the devices that were read those are valid and joined that it seized, and
     /// those that were valid to it and show its key. Where it has installed this already, nothing
-    /// changes. Refused outside the session: the node as it was, and its promise.
-    pub fn install(self, alloc: Global, i: &Install) -> Result<FormingNode, InstallError>
-        ensures when { MatchResult result (λ node. (i.now.epoch ≢ 0) × (self.session ≡ i.now.epoch)) (λ e. (e ≡ NoMemory) ⊎ (i.now.epoch ≡ 0) ⊎ (self.session ≢ i.now.epoch)) }
-        ensures first { self.saved.installed ≢ i.now.epoch → IfOk result (λ node. node ≡ installed_with self i.now) }
-        ensures repeated { self.saved.installed ≡ i.now.epoch → IfOk result (λ node. node ≡ self) }
+    /// changes. Refused outside the session: the node as it was, and its promise. Where memory runs
+    /// out the node is gone; its record is on its disk.
+    pub fn install(self, alloc: Global, i: &Install) -> Result<Installed, InstallError>
+        ensures when { MatchResult result (λ done. (i.now.epoch ≢ 0) × (self.session ≡ i.now.epoch)) (λ e. (e ≡ NoMemory) ⊎ (i.now.epoch ≡ 0) ⊎ (self.session ≢ i.now.epoch)) }
+        ensures first { self.saved.installed ≢ i.now.epoch → IfOk result (λ done. done.node ≡ installed_with self i.now) }
+        ensures repeated { self.saved.installed ≡ i.now.epoch → IfOk result (λ done. done.node ≡ self) }
+        ensures changed { IfOk result (λ done. IsTrue done.changed ↔ (self.saved.installed ≢ i.now.epoch)) }
         ensures refused { IfErr result (λ e. (e ≡ NoMemory) ⊎ (e ≡ Refused self self.saved.promised)) }
-        ensures machine { self.saved.installed ≢ i.now.epoch → IfOk result (λ node. (n : Node) → ShowsForming self n → ShowsForming node (installing n i.now.epoch (texts_of (entries_of i.now)) (length i.now.committed))) }
+        ensures machine { self.saved.installed ≢ i.now.epoch → IfOk result (λ done. (n : Node) → ShowsForming self n → ShowsForming done.node (installing n i.now.epoch (texts_of (entries_of i.now)) (length i.now.committed))) }
     {
         if i.epoch == Epoch::zero() || self.running.session != i.epoch {
             let promised = self.promised();
             return Err(InstallError::Refused(self, promised));
         }
         if self.running.durable.installed == i.epoch {
-            return Ok(self);
+            return Ok(Installed {
+                node: self,
+                changed: false,
+            });
         }
         let entries = entries_from(alloc, i.committed.items(), &i.pending)?;
         let mut running = self.running;
@@ -153,24 +183,30 @@ impl FormingNode {
         running.durable.entries = entries;
         running.joined = DevSet::empty();
         join_devices(&mut running, i.readings.items());
-        Ok(FormingNode { running })
+        Ok(Installed {
+            node: FormingNode { running },
+            changed: true,
+        })
     }
 
     /// The node becomes a member of the membership that it installed in its session p, and commits
     /// the pending update. Refused where it has not installed p in session p: the node as it was.
     /// This takes no memory.
-    pub fn start(self, p: Epoch) -> Result<MemberNode, FormingNode>
-        ensures when { MatchResult result (λ node. (p ≢ 0) × (self.session ≡ p) × (self.saved.installed ≡ p)) (λ back. (p ≡ 0) ⊎ (self.session ≢ p) ⊎ (self.saved.installed ≢ p)) }
-        ensures ok { IfOk result (λ node. node ≡ started self) }
+    pub fn start(self, p: Epoch) -> Result<Started, FormingNode>
+        ensures when { MatchResult result (λ done. (p ≢ 0) × (self.session ≡ p) × (self.saved.installed ≡ p)) (λ back. (p ≡ 0) ⊎ (self.session ≢ p) ⊎ (self.saved.installed ≢ p)) }
+        ensures ok { IfOk result (λ done. done.node ≡ started self) }
+        ensures changed { IfOk result (λ done. IsTrue done.changed ↔ IsSome self.saved.entries.pending) }
         ensures refused { IfErr result (λ back. back ≡ self) }
-        ensures machine { IfOk result (λ node. (n : Node) → ShowsForming self n → ShowsMember node (joining n)) }
+        ensures machine { IfOk result (λ done. (n : Node) → ShowsForming self n → ShowsMember done.node (joining n)) }
     {
         if p == Epoch::zero() || self.running.session != p || self.running.durable.installed != p {
             return Err(self);
         }
         let mut running = self.running;
+        let changed = running.durable.entries.pending().is_some();
         running.durable.entries.commit_pending();
-        Ok(MemberNode::new(running))
+        let node = MemberNode::new(running);
+        Ok(Started { node, changed })
     }
 
     /// The device is valid to the node no longer. This takes no memory.

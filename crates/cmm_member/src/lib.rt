@@ -9,6 +9,7 @@ mod forming;
 mod halted;
 mod joining;
 mod laws;
+mod lengths;
 mod member;
 mod numbers;
 mod reading;
@@ -17,10 +18,15 @@ mod running;
 
 pub use down::DownNode;
 pub use error::{InstallError, NotHeld};
-pub use forming::FormingNode;
+pub use forming::{FormingNode, Installed, Started};
 pub use halted::HaltedNode;
-pub use laws::{install_decides, record_is_read_back, rows_are_a_table};
+pub use laws::{
+    install_decides, no_record_is_longer, own_key_by_its_lower_half, record_is_read_back,
+    records_have_their_length, rows_are_a_table,
+};
+pub use lengths::full_record_length;
 pub use member::MemberNode;
+pub use running::Record;
 
 #[cfg(test)]
 mod tests;

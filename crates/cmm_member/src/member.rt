@@ -8,14 +8,14 @@ ghost use Rattle.membership_machine.specs.Steps.{promising, appending, committin
 ghost use Rattle.cmm_member.specs.Records.{IsRecord, IsRowText, rows_of};
 ghost use Rattle.cmm_member.specs.Nodes.{IsMember, down_of, halted_by, promised_to, with_entries};
 ghost use Rattle.cmm_member.specs.Machine.{ShowsDown, ShowsForming, ShowsMember};
-ghost use Rattle.cmm_member.specs.Views.{seen};
+ghost use Rattle.cmm_member.specs.Views.{kept, seen};
 
 use crate::down::DownNode;
 use crate::error::NotHeld;
 use crate::forming::FormingNode;
 use crate::halted::HaltedNode;
 use crate::rows::record_rows;
-use crate::running::Running;
+use crate::running::{Record, Running};
 use ccr_commit::{Entries, Prepared};
 use ccr_text::TableRows;
 use cl_base::{DevId, DevSet, Epoch, NodeSet, Panic};
@@ -99,6 +99,13 @@ impl MemberNode {
         ensures value { result.now ≡ self.now.saved.entries }
     {
         &self.running.durable.entries
+    }
+
+    /// The node's record, to be saved. This takes no memory.
+    pub fn record(&self) -> &Record
+        ensures value { kept result.now ≡ self.now.saved }
+    {
+        &self.running.durable
     }
 
     /// The rows of the node's record. They are those of a table where each update fits a row.

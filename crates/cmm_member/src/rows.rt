@@ -5,8 +5,8 @@ ghost use Rattle.cmm_member.specs.Views.{kept, Widths};
 
 use crate::numbers::{device_list, node_list, number_text};
 use crate::running::Record;
-use ccr_commit::Text;
-use ccr_text::{Bytes, Row, TableRows};
+use ccr_text::{Row, TableRows};
+use cl_base::Bytes;
 use std::alloc::{AllocError, Global};
 
 /// The rows of the record.
@@ -39,7 +39,7 @@ fn row(alloc: Global, key: &[u8], value: Vec<u8>) -> Result<Row, AllocError>
     })
 }
 
-fn push_updates(rows: &mut Vec<Row>, alloc: Global, texts: &[Text]) -> Result<(), AllocError>
+fn push_updates(rows: &mut Vec<Row>, alloc: Global, texts: &[Bytes]) -> Result<(), AllocError>
     ensures { OnOk result (rows.new.items ≡ rows.old.items ++ update_rows 0 texts.now) }
 {
     for (index, text) in texts.iter().enumerate() {
@@ -52,7 +52,7 @@ fn push_update(
     rows: &mut Vec<Row>,
     alloc: Global,
     place: usize,
-    text: &Text,
+    text: &Bytes,
 ) -> Result<(), AllocError>
     ensures { OnOk result (rows.new.items ≡ rows.old.items ++ row (codes "update." ++ decimal place) text.now ∷ []) }
 {

@@ -3,9 +3,9 @@ ghost use Rattle.ccr_commit.specs.Entries.{texts_of};
 ghost use Rattle.cmm_member.specs.Records.{IsRowText};
 
 use crate::{DownNode, FormingNode, InstallError, MemberNode, NotHeld};
-use ccr_commit::{Entries, Prepared, Text};
+use ccr_commit::{Entries, Prepared};
 use ccr_text::print_table;
-use cl_base::{BadNumber, DevId, DevSet, Epoch, NodeId, NodeSet, Panic};
+use cl_base::{BadNumber, Bytes, DevId, DevSet, Epoch, NodeId, NodeSet, Panic};
 use std::alloc::{AllocError, Global};
 use std::process::Abort;
 use std::test::Fail;
@@ -33,7 +33,7 @@ fn down(valid: u16) -> Result<DownNode, BadNumber> {
 }
 
 fn up(alloc: Global, valid: u16) -> Result<FormingNode, Fail> {
-    Ok(down(valid)?.boot(alloc, b"")?)
+    Ok(down(valid)?.boot(alloc, b"")?.0)
 }
 
 fn promised(node: FormingNode, p: u64) -> Result<FormingNode, Fail> {
@@ -45,20 +45,20 @@ fn promised(node: FormingNode, p: u64) -> Result<FormingNode, Fail> {
 
 fn installed(alloc: Global, node: FormingNode, i: &Install) -> Result<FormingNode, Fail> {
     match node.install(alloc, i) {
-        Ok(node) => Ok(node),
+        Ok(done) => Ok(done.node),
         Err(_) => Err("the install is refused".into()),
     }
 }
 
 fn started(node: FormingNode, p: u64) -> Result<MemberNode, Fail> {
     match node.start(Epoch::from_number(p)) {
-        Ok(node) => Ok(node),
+        Ok(done) => Ok(done.node),
         Err(_) => Err("the start is refused".into()),
     }
 }
 
-fn text(alloc: Global, words: &str) -> Result<Text, AllocError> {
-    Ok(Text::new(words.as_bytes().to_vec(alloc)?))
+fn text(alloc: Global, words: &str) -> Result<Bytes, AllocError> {
+    Ok(Bytes::new(words.as_bytes().to_vec(alloc)?))
 }
 
 fn texts(alloc: Global, words: &[&str]) -> Result<Texts, AllocError> {
@@ -106,7 +106,7 @@ fn bare_install(
     p: u64,
     members: u32,
     committed: Texts,
-    pending: Option<Text>,
+    pending: Option<Bytes>,
 ) -> Install {
     Install {
         epoch: Epoch::from_number(p),
@@ -159,14 +159,10 @@ fn promise_refused(
 }
 
 #[test]
-fn a_first_boot(rt: HostRuntime) -> Result<(), Fail> {
-    let node = up(rt.alloc(), VALID)?;
-    expect(&rt, &node, [0, 0, 0], 0, [VALID, 0], [0, 0])
-}
-
-#[test]
 fn promises(rt: HostRuntime) -> Result<(), Fail> {
-    let node = promise_refused(&rt, up(rt.alloc(), VALID)?, 0, 0)?;
+    let node = up(rt.alloc(), VALID)?;
+    expect(&rt, &node, [0, 0, 0], 0, [VALID, 0], [0, 0])?;
+    let node = promise_refused(&rt, node, 0, 0)?;
     let node = promise_refused(&rt, promised(node, 65)?, 65, 65)?;
     expect(&rt, &node, [65, 65, 0], 0, [VALID, 0], [0, 0])
 }
@@ -207,16 +203,11 @@ fn an_install_and_its_repeat(rt: HostRuntime) -> Result<(), Fail> {
     let mut node = ready(rt.alloc())?;
     expect(&rt, &node, [65, 65, 65], 7, [0b1111, 0b1101], [2, 1])?;
     node.joined(DevId::new(5)?);
-    expect(&rt, &node, [65, 65, 65], 7, [0b11111, 0b11101], [2, 1])?;
     let node = installed(rt.alloc(), node, &install(rt.alloc(), 65)?)?;
-    expect(&rt, &node, [65, 65, 65], 7, [0b11111, 0b11101], [2, 1])
-}
-
-#[test]
-fn a_device_that_is_seized_anew(rt: HostRuntime) -> Result<(), Fail> {
-    let mut node = promised(ready(rt.alloc())?, 129)?;
+    expect(&rt, &node, [65, 65, 65], 7, [0b11111, 0b11101], [2, 1])?;
+    let mut node = promised(node, 129)?;
     node.invalidate(DevId::new(2)?);
-    expect(&rt, &node, [129, 129, 65], 7, [0b1101, 0], [2, 1])
+    expect(&rt, &node, [129, 129, 65], 7, [0b11101, 0], [2, 1])
 }
 
 fn start_refused(node: FormingNode, p: u64) -> Result<FormingNode, Fail> {
@@ -250,14 +241,6 @@ fn expect_member(rt: &impl Abort, node: &MemberNode) -> Result<(), Fail> {
     expect_entries(rt, node.entries(), [3, 0])
 }
 
-#[test]
-fn writes(rt: HostRuntime) -> Result<(), Fail> {
-    let node = member(rt.alloc())?;
-    assert_eq!(rt; node.may_write(DevId::new(4)?), Ok(Epoch::from_number(65)));
-    assert_eq!(rt; node.may_write(DevId::new(2)?), Err(NotHeld));
-    Ok(())
-}
-
 /// Prepares an update, and looks at the answer and the numbers of updates.
 fn expect_prepared(
     rt: &impl Abort,
@@ -273,6 +256,8 @@ fn expect_prepared(
 #[test]
 fn updates(rt: HostRuntime) -> Result<(), Fail> {
     let mut node = member(rt.alloc())?;
+    assert_eq!(rt; node.may_write(DevId::new(4)?), Ok(Epoch::from_number(65)));
+    assert_eq!(rt; node.may_write(DevId::new(2)?), Err(NotHeld));
     expect_prepared(&rt, &mut node, 5, Prepared::Gap(4), [3, 0])?;
     expect_prepared(&rt, &mut node, 4, Prepared::Taken, [3, 1])?;
     expect_prepared(&rt, &mut node, 4, Prepared::Already, [3, 1])?;
@@ -295,23 +280,20 @@ fn a_member_promises(rt: HostRuntime) -> Result<(), Fail> {
     expect(&rt, &node, [66, 66, 65], 7, [0b1111, 0], [3, 0])
 }
 
-#[test]
-fn panics(rt: HostRuntime) -> Result<(), Fail> {
-    let halted = ready(rt.alloc())?.halt(Panic::Disk);
-    assert_eq!(rt; halted.cause(), Panic::Disk);
-    let node = halted.down().boot(rt.alloc(), b"")?;
-    expect(&rt, &node, [0, 0, 0], 0, [VALID, 0], [0, 0])?;
-    let halted = member(rt.alloc())?.halt(Panic::Disk);
-    assert_eq!(rt; halted.cause(), Panic::Disk);
-    Ok(())
+/// The node comes up from an empty disk with its first record.
+fn expect_first(rt: &impl Abort, alloc: Global, node: DownNode) -> Result<(), Fail> {
+    let (node, saves) = node.boot(alloc, b"")?;
+    assert_eq!(rt; saves, 0);
+    expect(rt, &node, [0, 0, 0], 0, [VALID, 0], [0, 0])
 }
 
 #[test]
-fn crashes(rt: HostRuntime) -> Result<(), Fail> {
-    let node = ready(rt.alloc())?.crash().boot(rt.alloc(), b"")?;
-    expect(&rt, &node, [0, 0, 0], 0, [VALID, 0], [0, 0])?;
-    let node = member(rt.alloc())?.crash().boot(rt.alloc(), b"")?;
-    expect(&rt, &node, [0, 0, 0], 0, [VALID, 0], [0, 0])
+fn panics_and_crashes(rt: HostRuntime) -> Result<(), Fail> {
+    let halted = ready(rt.alloc())?.halt(Panic::Disk);
+    assert_eq!(rt; halted.cause(), Panic::Disk);
+    expect_first(&rt, rt.alloc(), halted.down())?;
+    expect_first(&rt, rt.alloc(), member(rt.alloc())?.crash())?;
+    expect_first(&rt, rt.alloc(), down(VALID)?.halt(Panic::Disk).down())
 }
 
 /// Whether each update fits a row.
@@ -344,7 +326,9 @@ fn rebooted(
     let rows = node.record_rows(alloc)?;
     let text = print_table(alloc, saves, &rows)?;
     assert_eq!(rt; text.as_slice(), expected.as_bytes());
-    Ok(down(0)?.boot(alloc, text.as_slice())?)
+    let (node, told) = down(0)?.boot(alloc, text.as_slice())?;
+    assert_eq!(rt; told, saves);
+    Ok(node)
 }
 
 /// So it is for a node that has booted from the text too.
@@ -363,36 +347,45 @@ fn expect_text(
     Ok(())
 }
 
+/// A node that has installed these updates, which are committed but for the last.
+fn recorded(
+    alloc: Global,
+    valid: u16,
+    p: u64,
+    members: u32,
+    words: &[&str],
+    last: Option<&str>,
+) -> Result<FormingNode, Fail> {
+    let pending = match last {
+        Some(word) => Some(text(alloc, word)?),
+        None => None,
+    };
+    let i = bare_install(alloc, p, members, texts(alloc, words)?, pending);
+    installed(alloc, promised(up(alloc, valid)?, p)?, &i)
+}
+
 #[test]
-fn a_record_with_a_pending_update(rt: HostRuntime) -> Result<(), Fail> {
+fn records_with_a_pending_update(rt: HostRuntime) -> Result<(), Fail> {
     let words = ["clrt register t a START,STOP", "clrg create g 1,2"];
-    let committed = texts(rt.alloc(), words.as_slice())?;
-    let last = text(rt.alloc(), "clrs create r g t")?;
-    let i = bare_install(rt.alloc(), 66, 0b11, committed, Some(last));
-    let node = installed(rt.alloc(), promised(up(rt.alloc(), 0x8001)?, 66)?, &i)?;
-    expect_text(&rt, rt.alloc(), &promised(node, 130)?, 3, PENDING)
-}
-
-#[test]
-fn the_greatest_promise(rt: HostRuntime) -> Result<(), Fail> {
-    let node = promised(up(rt.alloc(), 0)?, u64::MAX)?;
-    expect_text(&rt, rt.alloc(), &node, 0, GREATEST)
-}
-
-#[test]
-fn a_first_update(rt: HostRuntime) -> Result<(), Fail> {
-    let none = texts(rt.alloc(), [].as_slice())?;
-    let last = text(rt.alloc(), "x")?;
-    let i = bare_install(rt.alloc(), 65, 0b10, none, Some(last));
-    let node = installed(rt.alloc(), promised(up(rt.alloc(), 4)?, 65)?, &i)?;
+    let last = Some("clrs create r g t");
+    let node = recorded(rt.alloc(), 0x8001, 66, 0b11, words.as_slice(), last)?;
+    expect_text(&rt, rt.alloc(), &promised(node, 130)?, 3, PENDING)?;
+    let node = recorded(rt.alloc(), 4, 65, 0b10, [].as_slice(), Some("x"))?;
     expect_text(&rt, rt.alloc(), &node, 1, FIRST)
 }
 
 #[test]
-fn a_record_of_ten_updates(rt: HostRuntime) -> Result<(), Fail> {
+fn records_without_one(rt: HostRuntime) -> Result<(), Fail> {
+    let node = promised(up(rt.alloc(), 0)?, u64::MAX)?;
+    expect_text(&rt, rt.alloc(), &node, 0, GREATEST)?;
     let words = ["u1", "u2", "u3", "u4", "u5", "u6", "u7", "u8", "u9", "u10"];
-    let committed = texts(rt.alloc(), words.as_slice())?;
-    let i = bare_install(rt.alloc(), 65, 0x8000_0002, committed, None);
-    let node = installed(rt.alloc(), promised(up(rt.alloc(), u16::MAX)?, 65)?, &i)?;
+    let node = recorded(
+        rt.alloc(),
+        u16::MAX,
+        65,
+        0x8000_0002,
+        words.as_slice(),
+        None,
+    )?;
     expect_text(&rt, rt.alloc(), &promised(node, 66)?, 12, TEN)
 }

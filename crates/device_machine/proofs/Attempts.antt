@@ -5,7 +5,7 @@ use Rattle.machine_base.proofs.Puts.{put_here, put_true, put_true_stays}
 use Rattle.device_machine.specs.Initiator.{Initiator}
 use Rattle.device_machine.specs.Attempt.{Attempt, collecting, asking_node, counting}
 use Rattle.device_machine.proofs.Invariant.{AttemptOk}
-use Rattle.device_machine.proofs.Growth.{AttemptGrows}
+use Rattle.device_machine.specs.Growth.{AttemptGrows}
 
 module _ (N : ℕ → Initiator) (q : ℕ) (e : Attempt) (i : AttemptOk N q e) where
   -- Collected: nothing else was done for the attempt before
@@ -27,7 +27,7 @@ module _ (N : ℕ → Initiator) (q : ℕ) (e : Attempt) (i : AttemptOk N q e) w
   }
 
   pub collecting_grows : (members : ℕ → Bool) → e.collected ≡ false → AttemptGrows e (collecting e members)
-  collecting_grows members none = record { collected = λ h. refl; members = λ m h. absurd (cc); asked = λ m h. h; quorum = λ m h. refl; held = λ h. h; counted = λ h. h; holds = λ h. refl }
+  collecting_grows members none = record { collected = λ h. refl; members = λ m h. absurd (cc); asked = λ m h. h; quorum = λ m h. refl; held = λ h. h; counted = λ h. h; holds = λ h. refl; seizer = λ h. refl }
 
   -- Ask: the votes are not counted, and whoever was asked last, if anyone, ended not-registered
   module _ (n : ℕ) (k : Bool) (collected : e.collected ≡ true) (open_yet : e.counted ≡ false) (member : e.members n ≡ true)
@@ -80,6 +80,7 @@ module _ (N : ℕ → Initiator) (q : ℕ) (e : Attempt) (i : AttemptOk N q e) w
       held = λ h. h;
       counted = λ h. h;
       holds = λ h. refl;
+      seizer = λ h. absurd (cc);
     }
 
   -- Count: whoever was asked has answered
@@ -103,7 +104,7 @@ module _ (N : ℕ → Initiator) (q : ℕ) (e : Attempt) (i : AttemptOk N q e) w
     }
 
     pub counting_grows : AttemptGrows e (counting e holds)
-    counting_grows = record { collected = λ h. h; members = λ m h. refl; asked = λ m h. h; quorum = λ m h. refl; held = λ h. h; counted = λ h. refl; holds = λ h. absurd (cc) }
+    counting_grows = record { collected = λ h. h; members = λ m h. refl; asked = λ m h. h; quorum = λ m h. refl; held = λ h. h; counted = λ h. refl; holds = λ h. absurd (cc); seizer = λ h. refl }
 
   -- The histories of those that were asked: where the one asked last ended, all did.
   pub all_ended : ((m : ℕ) → (r : ℕ) → (N m).past.unregistered r ≡ true → (N m).past.ended r ≡ true) → ((e.asking ≡ false) ⊎ ((N e.seizer).past.ended q ≡ true)) → (m : ℕ) → e.asked m ≡ true → (N m).past.ended q ≡ true

@@ -5,7 +5,7 @@ use Rattle.device_machine.specs.Device.{Device}
 use Rattle.device_machine.specs.Initiator.{Initiator}
 use Rattle.device_machine.specs.Attempt.{Attempt}
 use Rattle.device_machine.proofs.Invariant.{PastOk, NodeOk, OnDevice, Alone}
-use Rattle.device_machine.proofs.Growth.{NodeGrows}
+use Rattle.device_machine.specs.Growth.{NodeGrows}
 use Rattle.device_machine.proofs.Frames.{NodeSteps}
 
 -- what a node had that is registered and claims the device

@@ -66,12 +66,12 @@ module _ (A : ℕ → Attempt) (N : ℕ → Initiator) (d : Device) (top n : ℕ
 
     pub marking_steps : NodeSteps A d (wording d v.session) top n v (marking v)
     marking_steps = quiet_steps A d (wording d v.session) top n v (marking v) rises (still (wording d v.session) (wording_leaves d v.session n rises)) (grind arith) (grind arith)
-        (record { promised = grind arith; seized = λ q h. h; unregistered = λ q h. h; ended = λ q h. h })
+        (record { promised = grind arith; seized = λ q h. h; unregistered = λ q h. h; ended = λ q h. h; wrote = λ q h. put_true_stays v.past.wrote v.session q h; seized_settled = λ q h. refl; unregistered_settled = λ q h. refl })
         marking_past (NodeHolding.marking_node A n v ok at) (OnSeizing.marking_on A (wording d v.session) top n v ok new refl)
 
     pub marking_lost_steps : NodeSteps A d (wording d v.session) top n v (marking_lost v)
     marking_lost_steps = quiet_steps A d (wording d v.session) top n v (marking_lost v) rises (still (wording d v.session) (wording_leaves d v.session n rises)) (grind arith) (grind arith)
-        (record { promised = grind arith; seized = λ q h. h; unregistered = λ q h. h; ended = λ q h. put_true_stays v.past.ended v.session q h })
+        (record { promised = grind arith; seized = λ q h. h; unregistered = λ q h. h; ended = λ q h. put_true_stays v.past.ended v.session q h; wrote = λ q h. put_true_stays v.past.wrote v.session q h; seized_settled = λ q h. refl; unregistered_settled = λ q h. refl })
         (Pasts.ending_past A n (marking v) marking_past (low (grind arith))) (NodeHolding.marking_lost_node A n v ok at) (OnSeizing.marking_lost_on A (wording d v.session) top n v ok new)
 
   pub reserved_steps : v.phase ≡ Phase.Marked → NodeSteps A d (reserving d n) top n v (to_phase v Phase.Reserved)

@@ -4,24 +4,8 @@ use Rattle.device_machine.specs.Phase.{rank}
 use Rattle.device_machine.specs.Device.{Device}
 use Rattle.device_machine.specs.Initiator.{Past, Initiator}
 use Rattle.device_machine.specs.Attempt.{Attempt}
+use Rattle.device_machine.specs.Growth.{AttemptGrows, NodeGrows}
 use Rattle.device_machine.proofs.Invariant.{PastOk, NodeOk, OnDevice, Alone, AttemptOk, DeviceOk}
-
--- what no step takes back of an attempt
-pub record AttemptGrows (e e' : Attempt) : Type 0 where
-  pub collected : e.collected ≡ true → e'.collected ≡ true
-  pub members : (m : ℕ) → e.collected ≡ true → e'.members m ≡ e.members m
-  pub asked : (m : ℕ) → e.asked m ≡ true → e'.asked m ≡ true
-  pub quorum : (m : ℕ) → e.asked m ≡ true → e'.quorum ≡ e.quorum
-  pub held : e.held ≡ true → e'.held ≡ true
-  pub counted : e.counted ≡ true → e'.counted ≡ true
-  pub holds : e.counted ≡ true → e'.holds ≡ e.holds
-
--- .. and of a node
-pub record NodeGrows (v v' : Initiator) : Type 0 where
-  pub promised : v.promised ≤ v'.promised
-  pub seized : (q : ℕ) → v.past.seized q ≡ true → v'.past.seized q ≡ true
-  pub unregistered : (q : ℕ) → v.past.unregistered q ≡ true → v'.past.unregistered q ≡ true
-  pub ended : (q : ℕ) → v.past.ended q ≡ true → v'.past.ended q ≡ true
 
 -- what a device that goes from d to d' leaves node k: no registration of k is added, the word only grows, a reservation stays
 pub record Leaves (d d' : Device) (k : ℕ) : Type 0 where
@@ -30,10 +14,10 @@ pub record Leaves (d d' : Device) (k : ℕ) : Type 0 where
   pub reserved : d.reserved ≡ true → d'.reserved ≡ true
 
 pub attempt_same : (e : Attempt) → AttemptGrows e e
-attempt_same e = record { collected = λ h. h; members = λ m h. refl; asked = λ m h. h; quorum = λ m h. refl; held = λ h. h; counted = λ h. h; holds = λ h. refl }
+attempt_same e = record { collected = λ h. h; members = λ m h. refl; asked = λ m h. h; quorum = λ m h. refl; held = λ h. h; counted = λ h. h; holds = λ h. refl; seizer = λ h. refl }
 
 pub node_same : (v : Initiator) → NodeGrows v v
-node_same v = record { promised = grind arith; seized = λ q h. h; unregistered = λ q h. h; ended = λ q h. h }
+node_same v = record { promised = grind arith; seized = λ q h. h; unregistered = λ q h. h; ended = λ q h. h; wrote = λ q h. h; seized_settled = λ q h. refl; unregistered_settled = λ q h. refl }
 
 pub leaves_same : (d : Device) (k : ℕ) → Leaves d d k
 leaves_same d k = record { keys = λ h. h; word = grind arith; reserved = λ h. h }

@@ -8,9 +8,12 @@ use Rattle.device_machine.specs.Device.{Device}
 use Rattle.device_machine.specs.Initiator.{Initiator, holding}
 use Rattle.device_machine.specs.Attempt.{Attempt, holding_for}
 use Rattle.device_machine.specs.Sharing.{Sharing, at_held}
+use Rattle.device_machine.specs.Growth.{AttemptGrows, NodeGrows}
 use Rattle.device_machine.proofs.Invariant.{PastOk, NodeOk, OnDevice, Alone, AttemptOk, DeviceOk, Inv}
-use Rattle.device_machine.proofs.Growth.{AttemptGrows, NodeGrows, attempt_same, node_same, leaves_same, past_stays, node_stays, alone_stays, attempt_stays}
+use Rattle.device_machine.proofs.Growth.{attempt_same, node_same, leaves_same, past_stays, node_stays, alone_stays, attempt_stays}
+use Rattle.device_machine.proofs.Frames.{Goes}
 use Rattle.device_machine.proofs.Claims.{claims_member, not_alone}
+use Rattle.device_machine.proofs.Steps.{ended_other}
 
 -- The attempts after it: they grew, and those that hold the device are p's and those that held it before.
 record Becomes (A A' : ℕ → Attempt) (p : ℕ) : Type 0 where
@@ -23,7 +26,7 @@ record Becomes (A A' : ℕ → Attempt) (p : ℕ) : Type 0 where
 becomes : (A : ℕ → Attempt) (p : ℕ) → Becomes A (put A p (holding_for (A p))) p
 becomes A p = record {
   grows = put_cases (λ k x. AttemptGrows (A k) x) A p (holding_for (A p))
-      (record { collected = λ h. h; members = λ m h. refl; asked = λ m h. h; quorum = λ m h. refl; held = λ h. refl; counted = λ h. h; holds = λ h. refl }) (λ k ne. attempt_same (A k));
+      (record { collected = λ h. h; members = λ m h. refl; asked = λ m h. h; quorum = λ m h. refl; held = λ h. refl; counted = λ h. h; holds = λ h. refl; seizer = λ h. refl }) (λ k ne. attempt_same (A k));
   members = λ q m. put_cases (λ k x. x.members m ≡ (A k).members m) A p (holding_for (A p)) refl (λ k ne. refl) q;
   quorum = put_cases (λ k x. x.quorum ≡ (A k).quorum) A p (holding_for (A p)) refl (λ k ne. refl);
   now = ap (λ (x : Attempt). x.held) (put_here A p (holding_for (A p)));
@@ -213,21 +216,24 @@ holding_attempt N q e c i = record {
   holds_seized = i.holds_seized;
 }
 
-pub confirm_kept : (s : Sharing) (n : ℕ) → Inv s → (s.node n).phase ≡ Phase.Cleared → s.device.word ≡ (s.node n).session → Inv (at_held s n)
+pub confirm_kept : (s : Sharing) (n : ℕ) → Inv s → (s.node n).phase ≡ Phase.Cleared → s.device.word ≡ (s.node n).session → Goes s (at_held s n)
 confirm_kept s n i at w = record {
-  past = put_cases (λ k x. PastOk A' k x.promised x.past) s.node n v' (own_past s.attempt A' s.device s.top n v b i.device w at (i.past n) (i.node n) (i.on n) (i.alone n n))
-      (λ k ne. past_stays s.attempt A' k (s.node k).promised (s.node k).past b.grows (i.past k));
-  node = put_cases (λ k x. NodeOk A' k x) s.node n v' (node_stays s.attempt A' n v' b.grows (holding_node s.attempt n v (i.node n) at)) (λ k ne. node_stays s.attempt A' k (s.node k) b.grows (i.node k));
-  on = put_cases (λ k x. OnDevice A' s.device v.session k x) s.node n v' (own_on s.attempt A' s.device s.top n v b i.device w at (i.past n) (i.node n) (i.on n) (i.alone n n))
-      (λ k ne. other_on s.attempt A' s.device s.top v.session b i.device w k (s.node k) (i.past k) (i.on k) (λ key c. (i.alone n k).valid eight w key c) (λ key c. (i.alone n k).seized eight w key c));
-  alone = λ j k. put_cases (λ m x. Alone A' s.device x k (put s.node n v' k)) s.node n v' (not_alone A' s.device v' (grind arith) k (put s.node n v' k))
-      (λ m ne. put_cases (λ h y. Alone A' s.device (s.node m) h y) s.node n v'
-      (claims_member A' s.device n v' w (b.members v.session n ∙ (i.node n).member (omega (arith, eight))) (s.node m))
-      (λ h off. alone_stays s.attempt A' s.device s.device s.top m h (s.node m) (s.node h) b.grows (leaves_same s.device h) (i.node m) (i.on m) (i.alone m h)) k) j;
-  attempt = λ q. attempt_stays s.node (put s.node n v') q (A' q) (put_cases (λ k x. NodeGrows (s.node k) x) s.node n v' grown (λ k ne. node_same (s.node k)))
-      (put_cases (λ k x. AttemptOk s.node k x) s.attempt v.session (holding_for (s.attempt v.session))
-      (holding_attempt s.node v.session (s.attempt v.session) ((i.node n).collected (omega (arith, eight))) (i.attempt v.session)) (λ k ne. i.attempt k) q);
-  device = own_device s.attempt A' s.device s.top n v b i.device w at (i.past n) (i.node n) (i.on n) (i.alone n n);
+  inv = record {
+    past = put_cases (λ k x. PastOk A' k x.promised x.past) s.node n v' (own_past s.attempt A' s.device s.top n v b i.device w at (i.past n) (i.node n) (i.on n) (i.alone n n))
+        (λ k ne. past_stays s.attempt A' k (s.node k).promised (s.node k).past b.grows (i.past k));
+    node = put_cases (λ k x. NodeOk A' k x) s.node n v' (node_stays s.attempt A' n v' b.grows (holding_node s.attempt n v (i.node n) at)) (λ k ne. node_stays s.attempt A' k (s.node k) b.grows (i.node k));
+    on = put_cases (λ k x. OnDevice A' s.device v.session k x) s.node n v' (own_on s.attempt A' s.device s.top n v b i.device w at (i.past n) (i.node n) (i.on n) (i.alone n n))
+        (λ k ne. other_on s.attempt A' s.device s.top v.session b i.device w k (s.node k) (i.past k) (i.on k) (λ key c. (i.alone n k).valid eight w key c) (λ key c. (i.alone n k).seized eight w key c));
+    alone = λ j k. put_cases (λ m x. Alone A' s.device x k (put s.node n v' k)) s.node n v' (not_alone A' s.device v' (grind arith) k (put s.node n v' k))
+        (λ m ne. put_cases (λ h y. Alone A' s.device (s.node m) h y) s.node n v'
+        (claims_member A' s.device n v' w (b.members v.session n ∙ (i.node n).member (omega (arith, eight))) (s.node m))
+        (λ h off. alone_stays s.attempt A' s.device s.device s.top m h (s.node m) (s.node h) b.grows (leaves_same s.device h) (i.node m) (i.on m) (i.alone m h)) k) j;
+    attempt = λ q. attempt_stays s.node (put s.node n v') q (A' q) nodes
+        (put_cases (λ k x. AttemptOk s.node k x) s.attempt v.session (holding_for (s.attempt v.session))
+        (holding_attempt s.node v.session (s.attempt v.session) ((i.node n).collected (omega (arith, eight))) (i.attempt v.session)) (λ k ne. i.attempt k) q);
+    device = own_device s.attempt A' s.device s.top n v b i.device w at (i.past n) (i.node n) (i.on n) (i.alone n n);
+  };
+  grows = record { node = nodes; attempt = b.grows };
 }
   where
     v : Initiator
@@ -245,5 +251,19 @@ confirm_kept s n i at w = record {
     eight : rank v.phase ≡ 8
     eight = ap rank at
 
+    going : (s.node n).past.ended (s.node n).session ≡ false
+    going = (i.node n).running ((i.node n).busy (omega (arith, eight))) (omega (arith, eight))
+
     grown : NodeGrows v v'
-    grown = record { promised = grind arith; seized = λ q h. put_true_stays (s.node n).past.seized (s.node n).session q h; unregistered = λ q h. h; ended = λ q h. put_true_stays (s.node n).past.ended (s.node n).session q h }
+    grown = record {
+      promised = grind arith;
+      seized = λ q h. put_true_stays (s.node n).past.seized (s.node n).session q h;
+      unregistered = λ q h. h;
+      ended = λ q h. put_true_stays (s.node n).past.ended (s.node n).session q h;
+      wrote = λ q h. h;
+      seized_settled = λ q h. put_there (s.node n).past.seized (s.node n).session true q (ended_other (s.node n).past.ended (s.node n).session q h going);
+      unregistered_settled = λ q h. refl;
+    }
+
+    nodes : (k : ℕ) → NodeGrows (s.node k) (put s.node n v' k)
+    nodes = put_cases (λ k x. NodeGrows (s.node k) x) s.node n v' grown (λ k ne. node_same (s.node k))

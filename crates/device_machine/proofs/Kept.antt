@@ -1,4 +1,4 @@
--- Each event keeps the invariant, so it holds in every state of every run.
+-- Each event keeps the invariant, so it holds in every state of every run, and takes nothing back.
 use Rattle.std.proofs.Common.{◌≡◌, ◌≢◌, ℕ, ◌≤◌, inr, Bool, true, false, refl, sym, ap, subst, List, [], ◌∷◌, arith}
 use Rattle.device_machine.specs.Phase.{Phase, rank}
 use Rattle.device_machine.specs.Device.{registering, wording, reserving, preempting, storing, first_device}
@@ -6,9 +6,10 @@ use Rattle.device_machine.specs.Initiator.{Initiator, no_past, first_initiator}
 use Rattle.device_machine.specs.Attempt.{no_attempt}
 use Rattle.device_machine.specs.Sharing.{Sharing, Event, MayInstall, Allowed, after, Run, first_sharing}
 use Rattle.device_machine.specs.Sharing
+use Rattle.device_machine.specs.Growth.{Grows}
 use Rattle.device_machine.proofs.Invariant.{PastOk, NodeOk, OnDevice, AttemptOk, Inv}
-use Rattle.device_machine.proofs.Growth.{attempt_same, on_stays, alone_stays}
-use Rattle.device_machine.proofs.Frames.{NodeSteps, kept_at_device, kept_at_node, kept_at_attempt}
+use Rattle.device_machine.proofs.Growth.{attempt_same, node_same, on_stays, alone_stays}
+use Rattle.device_machine.proofs.Frames.{Goes, NodeSteps, kept_at_device, kept_at_node, kept_at_attempt}
 use Rattle.device_machine.proofs.Devices
 use Rattle.device_machine.proofs.Steps
 use Rattle.device_machine.proofs.Commands
@@ -32,102 +33,111 @@ is_seized p h = grind arith
 unregistered_past : (s : Sharing) → Inv s → (m r : ℕ) → (s.node m).past.unregistered r ≡ true → (s.node m).past.ended r ≡ true
 unregistered_past s i m r h = (i.past m).unregistered_ended r h
 
-write_kept : (s : Sharing) (x : ℕ) → Inv s → Inv (record s { device = storing s.device x })
+write_kept : (s : Sharing) (x : ℕ) → Inv s → Goes s (record s { device = storing s.device x })
 write_kept s x i = record {
-  past = i.past;
-  node = i.node;
-  on = λ n. on_stays s.attempt s.attempt (λ q. attempt_same (s.attempt q)) (λ e. refl) s.node s.device (storing s.device x) s.top n (s.node n) (Devices.storing_leaves s.device x n) i.attempt i.device (i.past n) (i.on n);
-  alone = λ n k. alone_stays s.attempt s.attempt s.device (storing s.device x) s.top n k (s.node n) (s.node k) (λ q. attempt_same (s.attempt q)) (Devices.storing_leaves s.device x k) (i.node n) (i.on n) (i.alone n k);
-  attempt = i.attempt;
-  device = Devices.storing_device s.attempt s.device s.top x i.device;
+  inv = record {
+    past = i.past;
+    node = i.node;
+    on = λ n. on_stays s.attempt s.attempt (λ q. attempt_same (s.attempt q)) (λ e. refl) s.node s.device (storing s.device x) s.top n (s.node n) (Devices.storing_leaves s.device x n) i.attempt i.device (i.past n) (i.on n);
+    alone = λ n k. alone_stays s.attempt s.attempt s.device (storing s.device x) s.top n k (s.node n) (s.node k) (λ q. attempt_same (s.attempt q)) (Devices.storing_leaves s.device x k) (i.node n) (i.on n) (i.alone n k);
+    attempt = i.attempt;
+    device = Devices.storing_device s.attempt s.device s.top x i.device;
+  };
+  grows = record { node = λ n. node_same (s.node n); attempt = λ q. attempt_same (s.attempt q) };
 }
 
 -- Each event, in three families: of a node alone, of a node with a command that changes the device, of an attempt.
 module _ (s : Sharing) (n : ℕ) (i : Inv s) where
-  at : (v' : Initiator) → NodeSteps s.attempt s.device s.device s.top n (s.node n) v' → Inv (Sharing.at_node s n v')
+  at : (v' : Initiator) → NodeSteps s.attempt s.device s.device s.top n (s.node n) v' → Goes s (Sharing.at_node s n v')
   at v' t = kept_at_node s n v' i t
 
-  registers : (v' : Initiator) → NodeSteps s.attempt s.device (registering s.device n) s.top n (s.node n) v' → Inv (Sharing.at_device s n v' (registering s.device n))
+  registers : (v' : Initiator) → NodeSteps s.attempt s.device (registering s.device n) s.top n (s.node n) v' → Goes s (Sharing.at_device s n v' (registering s.device n))
   registers v' t = kept_at_device s n v' (registering s.device n) i (λ k ne. Devices.registering_leaves s.device n k ne) t (Devices.registering_device s.attempt s.device s.top n i.device)
 
   words : (v' : Initiator) → s.device.word ≤ (s.node n).session → (s.attempt (s.node n).session).collected ≡ true
-      → NodeSteps s.attempt s.device (wording s.device (s.node n).session) s.top n (s.node n) v' → Inv (Sharing.at_device s n v' (wording s.device (s.node n).session))
+      → NodeSteps s.attempt s.device (wording s.device (s.node n).session) s.top n (s.node n) v' → Goes s (Sharing.at_device s n v' (wording s.device (s.node n).session))
   words v' le c t = kept_at_device s n v' (wording s.device (s.node n).session) i (λ k ne. Devices.wording_leaves s.device (s.node n).session k le) t
       (Devices.wording_device s.attempt s.device s.top (s.node n).session le c i.device)
 
-  reserves : (v' : Initiator) → NodeSteps s.attempt s.device (reserving s.device n) s.top n (s.node n) v' → Inv (Sharing.at_device s n v' (reserving s.device n))
+  reserves : (v' : Initiator) → NodeSteps s.attempt s.device (reserving s.device n) s.top n (s.node n) v' → Goes s (Sharing.at_device s n v' (reserving s.device n))
   reserves v' t = kept_at_device s n v' (reserving s.device n) i (λ k ne. Devices.reserving_leaves s.device n k) t (Devices.reserving_device s.attempt s.device s.top n i.device)
 
   preempts : (v' : Initiator) → n ≢ (s.node n).target → NodeSteps s.attempt s.device (preempting s.device n (s.node n).target) s.top n (s.node n) v'
-      → Inv (Sharing.at_device s n v' (preempting s.device n (s.node n).target))
+      → Goes s (Sharing.at_device s n v' (preempting s.device n (s.node n).target))
   preempts v' ne t = kept_at_device s n v' (preempting s.device n (s.node n).target) i (λ k off. Devices.preempting_leaves s.device n (s.node n).target k) t
       (Devices.preempting_device s.attempt s.device s.top n (s.node n).target ne i.device)
 
-pub kept : (s : Sharing) (e : Event) → Inv s → Allowed s e → Inv (after s e)
-kept s (Event.Promise n q) i g = at s n i _ (Steps.promising_steps s.attempt s.device s.top n (s.node n) (i.past n) (i.node n) (i.on n) q g)
-kept s (Event.Crash n) i g = at s n i _ (Steps.crashing_steps s.attempt s.device s.top n (s.node n) (i.past n) (i.node n) (i.on n))
-kept s (Event.Collected q members) i g = kept_at_attempt s q _ i (Attempts.collecting_grows s.node q (s.attempt q) (i.attempt q) members g.1) refl
+goes : (s : Sharing) (e : Event) → Inv s → Allowed s e → Goes s (after s e)
+goes s (Event.Promise n q) i g = at s n i _ (Steps.promising_steps s.attempt s.device s.top n (s.node n) (i.past n) (i.node n) (i.on n) q g)
+goes s (Event.Crash n) i g = at s n i _ (Steps.crashing_steps s.attempt s.device s.top n (s.node n) (i.past n) (i.node n) (i.on n))
+goes s (Event.Collected q members) i g = kept_at_attempt s q _ i (Attempts.collecting_grows s.node q (s.attempt q) (i.attempt q) members g.1) refl
     (Attempts.collecting_ok s.node q (s.attempt q) (i.attempt q) members g.1 g.0 g.2)
-kept s (Event.Ask q n quorum) i g = kept_at_attempt s q _ i (Attempts.asking_grows s.node q (s.attempt q) (i.attempt q) n quorum g.0 g.1 g.2 g.4) refl
+goes s (Event.Ask q n quorum) i g = kept_at_attempt s q _ i (Attempts.asking_grows s.node q (s.attempt q) (i.attempt q) n quorum g.0 g.1 g.2 g.4) refl
     (Attempts.asking_ok s.node q (s.attempt q) (i.attempt q) n quorum g.0 g.1 g.2 g.4)
-kept s (Event.Seize n) i g = at s n i _ (Steps.seizing_steps s.attempt s.device s.top n (s.node n) (i.past n) (i.node n) (i.on n) g.0.0 g.0.1 g.0.2 g.1 g.2 g.3)
-kept s (Event.Check n) i g = at s n i _ (Steps.checked_steps s.attempt s.device s.top n (s.node n) (i.past n) (i.node n) (i.on n) g.0 g.3)
-kept s (Event.Reject n) i g = at s n i _ (Steps.rejecting_steps s.attempt s.device s.top n (s.node n) (i.past n) (i.node n) (i.on n) g.0)
-kept s (Event.Distrust n) i g = at s n i _ (Steps.unvalidated_steps s.attempt s.device s.top n (s.node n) (i.past n) (i.node n) (i.on n) g.0 g.1)
-kept s (Event.Register n) i g = registers s n i _ (Commands.registered_steps s.attempt s.node s.device s.top n (s.node n) i.attempt i.device (i.past n) (i.node n) (i.on n) g)
-kept s (Event.Register_lost n) i g = registers s n i _ (Commands.registered_lost_steps s.attempt s.node s.device s.top n (s.node n) i.attempt i.device (i.past n) (i.node n) (i.on n) g)
-kept s (Event.Word_less n) i g = at s n i _ (Steps.expecting_steps s.attempt s.device s.top n (s.node n) (i.past n) (i.node n) (i.on n) s.device.word g.0 g.1)
-kept s (Event.Word_same n) i g = at s n i _ (Steps.marked_steps s.attempt s.device s.top n (s.node n) (i.past n) (i.node n) (i.on n) g.0 g.1)
-kept s (Event.Swap n) i g = words s n i _
+goes s (Event.Seize n) i g = at s n i _ (Steps.seizing_steps s.attempt s.device s.top n (s.node n) (i.past n) (i.node n) (i.on n) g.0.0 g.0.1 g.0.2 g.1 g.2 g.3)
+goes s (Event.Check n) i g = at s n i _ (Steps.checked_steps s.attempt s.device s.top n (s.node n) (i.past n) (i.node n) (i.on n) g.0 g.3)
+goes s (Event.Reject n) i g = at s n i _ (Steps.rejecting_steps s.attempt s.device s.top n (s.node n) (i.past n) (i.node n) (i.on n) g.0)
+goes s (Event.Distrust n) i g = at s n i _ (Steps.unvalidated_steps s.attempt s.device s.top n (s.node n) (i.past n) (i.node n) (i.on n) g.0 g.1)
+goes s (Event.Register n) i g = registers s n i _ (Commands.registered_steps s.attempt s.node s.device s.top n (s.node n) i.attempt i.device (i.past n) (i.node n) (i.on n) g)
+goes s (Event.Register_lost n) i g = registers s n i _ (Commands.registered_lost_steps s.attempt s.node s.device s.top n (s.node n) i.attempt i.device (i.past n) (i.node n) (i.on n) g)
+goes s (Event.Word_less n) i g = at s n i _ (Steps.expecting_steps s.attempt s.device s.top n (s.node n) (i.past n) (i.node n) (i.on n) s.device.word g.0 g.1)
+goes s (Event.Word_same n) i g = at s n i _ (Steps.marked_steps s.attempt s.device s.top n (s.node n) (i.past n) (i.node n) (i.on n) g.0 g.1)
+goes s (Event.Swap n) i g = words s n i _
     (Commands.rises s.attempt s.node s.device s.top n (s.node n) i.attempt i.device (i.past n) (i.node n) (i.on n) g.0 g.1)
     (Commands.writes s.attempt s.node s.device s.top n (s.node n) i.attempt i.device (i.past n) (i.node n) (i.on n) g.0 g.1)
     (Commands.marking_steps s.attempt s.node s.device s.top n (s.node n) i.attempt i.device (i.past n) (i.node n) (i.on n) g.0 g.1)
-kept s (Event.Swap_lost n) i g = words s n i _
+goes s (Event.Swap_lost n) i g = words s n i _
     (Commands.rises s.attempt s.node s.device s.top n (s.node n) i.attempt i.device (i.past n) (i.node n) (i.on n) g.0 g.1)
     (Commands.writes s.attempt s.node s.device s.top n (s.node n) i.attempt i.device (i.past n) (i.node n) (i.on n) g.0 g.1)
     (Commands.marking_lost_steps s.attempt s.node s.device s.top n (s.node n) i.attempt i.device (i.past n) (i.node n) (i.on n) g.0 g.1)
-kept s (Event.Reserve n) i g = reserves s n i _ (Commands.reserved_steps s.attempt s.node s.device s.top n (s.node n) i.attempt i.device (i.past n) (i.node n) (i.on n) g)
-kept s (Event.Reserve_lost n) i g = reserves s n i _ (Commands.reserved_lost_steps s.attempt s.node s.device s.top n (s.node n) i.attempt i.device (i.past n) (i.node n) (i.on n) g)
-kept s (Event.Look n k) i g = at s n i _ (Steps.aiming_steps s.attempt s.device s.top n (s.node n) (i.past n) (i.node n) (i.on n) k g.0 g.3)
-kept s (Event.Preempt n) i g = preempts s n i _
+goes s (Event.Reserve n) i g = reserves s n i _ (Commands.reserved_steps s.attempt s.node s.device s.top n (s.node n) i.attempt i.device (i.past n) (i.node n) (i.on n) g)
+goes s (Event.Reserve_lost n) i g = reserves s n i _ (Commands.reserved_lost_steps s.attempt s.node s.device s.top n (s.node n) i.attempt i.device (i.past n) (i.node n) (i.on n) g)
+goes s (Event.Look n k) i g = at s n i _ (Steps.aiming_steps s.attempt s.device s.top n (s.node n) (i.past n) (i.node n) (i.on n) k g.0 g.3)
+goes s (Event.Preempt n) i g = preempts s n i _
     (Commands.other_key s.attempt s.node s.device s.top n (s.node n) i.attempt i.device (i.past n) (i.node n) (i.on n) g)
     (Commands.preempted_steps s.attempt s.node s.device s.top n (s.node n) i.attempt i.device (i.past n) (i.node n) (i.on n) g)
-kept s (Event.Preempt_lost n) i g = preempts s n i _
+goes s (Event.Preempt_lost n) i g = preempts s n i _
     (Commands.other_key s.attempt s.node s.device s.top n (s.node n) i.attempt i.device (i.past n) (i.node n) (i.on n) g)
     (Commands.preempted_lost_steps s.attempt s.node s.device s.top n (s.node n) i.attempt i.device (i.past n) (i.node n) (i.on n) g)
-kept s (Event.Clear n) i g = at s n i _ (Steps.cleared_steps s.attempt s.device s.top n (s.node n) (i.past n) (i.node n) (i.on n) g.0 g.1 g.2)
-kept s (Event.Confirm n) i g = confirm_kept s n i g.0 g.1
-kept s (Event.Fail n) i g = at s n i _ (Steps.ending_steps s.attempt s.device s.top n (s.node n) (i.past n) (i.node n) (i.on n) g)
-kept s (Event.Count_with q) i g = kept_at_attempt s q _ i
+goes s (Event.Clear n) i g = at s n i _ (Steps.cleared_steps s.attempt s.device s.top n (s.node n) (i.past n) (i.node n) (i.on n) g.0 g.1 g.2)
+goes s (Event.Confirm n) i g = confirm_kept s n i g.0 g.1
+goes s (Event.Fail n) i g = at s n i _ (Steps.ending_steps s.attempt s.device s.top n (s.node n) (i.past n) (i.node n) (i.on n) g)
+goes s (Event.Count_with q) i g = kept_at_attempt s q _ i
     (Attempts.counting_grows s.node q (s.attempt q) (i.attempt q) true g.0 g.1 ended (λ h. (g.2, (i.past (s.attempt q).seizer).seized_held q g.3, g.3))) refl
     (Attempts.counting_ok s.node q (s.attempt q) (i.attempt q) true g.0 g.1 ended (λ h. (g.2, (i.past (s.attempt q).seizer).seized_held q g.3, g.3)))
   where
     ended : (m : ℕ) → (s.attempt q).asked m ≡ true → (s.node m).past.ended q ≡ true
     ended = Attempts.all_ended s.node q (s.attempt q) (i.attempt q) (unregistered_past s i) (inr ((i.past (s.attempt q).seizer).seized_ended q g.3))
-kept s (Event.Count_without q) i g = kept_at_attempt s q _ i
+goes s (Event.Count_without q) i g = kept_at_attempt s q _ i
     (Attempts.counting_grows s.node q (s.attempt q) (i.attempt q) false g.0 g.1 ended (λ h. absurd (cc))) refl
     (Attempts.counting_ok s.node q (s.attempt q) (i.attempt q) false g.0 g.1 ended (λ h. absurd (cc)))
   where
     ended : (m : ℕ) → (s.attempt q).asked m ≡ true → (s.node m).past.ended q ≡ true
     ended = Attempts.all_ended s.node q (s.attempt q) (i.attempt q) (unregistered_past s i) g.2
-kept s (Event.Install_apart n) i g = at s n i _
+goes s (Event.Install_apart n) i g = at s n i _
     (Steps.installing_steps s.attempt s.device s.top n (s.node n) (i.past n) (i.node n) (i.on n) g.0 g.1 (collected_of s n i g) g.2 g.3)
-kept s (Event.Install_seizer n) i g = at s n i _
+goes s (Event.Install_seizer n) i g = at s n i _
     (Steps.seized_steps s.attempt s.device s.top n (s.node n) (i.past n) (i.node n) (i.on n) g.0.0 g.0.1 (collected_of s n i g.0) g.0.2 g.0.3 g.1
     (is_seized (s.node n).phase (seizer_phase s n i g.0 g.1 g.2)))
-kept s (Event.Install_known n) i g = at s n i _
+goes s (Event.Install_known n) i g = at s n i _
     (Steps.known_steps s.attempt s.device s.top n (s.node n) (i.past n) (i.node n) (i.on n) g.0.0 g.0.1 (collected_of s n i g.0) g.0.2 g.0.3 g.1 g.2)
-kept s (Event.Install_new n) i g = at s n i _
+goes s (Event.Install_new n) i g = at s n i _
     (Steps.joining_steps s.attempt s.device s.top n (s.node n) (i.past n) (i.node n) (i.on n) g.0.0 g.0.1 (collected_of s n i g.0) g.0.2 g.0.3 g.1)
-kept s (Event.Enter n) i g = registers s n i _ (Commands.entered_steps s.attempt s.node s.device s.top n (s.node n) i.attempt i.device (i.past n) (i.node n) (i.on n) g)
-kept s (Event.Enter_lost n) i g = registers s n i _ (Commands.entered_lost_steps s.attempt s.node s.device s.top n (s.node n) i.attempt i.device (i.past n) (i.node n) (i.on n) g)
-kept s (Event.Admit n) i g = at s n i _ (Steps.admitted_steps s.attempt s.device s.top n (s.node n) (i.past n) (i.node n) (i.on n) i.device
+goes s (Event.Enter n) i g = registers s n i _ (Commands.entered_steps s.attempt s.node s.device s.top n (s.node n) i.attempt i.device (i.past n) (i.node n) (i.on n) g)
+goes s (Event.Enter_lost n) i g = registers s n i _ (Commands.entered_lost_steps s.attempt s.node s.device s.top n (s.node n) i.attempt i.device (i.past n) (i.node n) (i.on n) g)
+goes s (Event.Admit n) i g = at s n i _ (Steps.admitted_steps s.attempt s.device s.top n (s.node n) (i.past n) (i.node n) (i.on n) i.device
     (held_of s (s.node n).session i ((i.node n).joining_counted joins) ((i.node n).joining_held joins)) g.0 g.1)
   where
     joins : 11 ≤ rank (s.node n).phase
     joins = let r : rank (s.node n).phase ≡ 12 = ap rank g.0 in omega arith
-kept s (Event.Late n) i g = at s n i _ (Steps.late_steps s.attempt s.device s.top n (s.node n) (i.past n) (i.node n) (i.on n) g)
-kept s (Event.Write n x) i g = write_kept s x i
+goes s (Event.Late n) i g = at s n i _ (Steps.late_steps s.attempt s.device s.top n (s.node n) (i.past n) (i.node n) (i.on n) g)
+goes s (Event.Write n x) i g = write_kept s x i
+
+pub kept : (s : Sharing) (e : Event) → Inv s → Allowed s e → Inv (after s e)
+kept s e i a = (goes s e i a).inv
+
+pub step_grows : (s : Sharing) (e : Event) → Inv s → Allowed s e → Grows s (after s e)
+step_grows s e i a = (goes s e i a).grows
 
 -- The first state: no history, no task, no attempt.
 first_past : (n : ℕ) → PastOk (λ _. no_attempt) n 0 no_past

@@ -45,6 +45,16 @@ module _ (s : Sharing) (i : Inv s) where
       busy : 0 < rank (s.node n).phase
       busy = let r = (i.node n).joined j in omega arith
 
+  -- the word is no smaller than an attempt that holds the device
+  word_above : (q : ℕ) → Holds s q → q ≤ s.device.word
+  word_above q h = omega (arith, (below_top q (held q h)).1, i.device.top_word)
+
+  pub joining_word : (n : ℕ) → 11 ≤ rank (s.node n).phase → (s.node n).session ≤ s.device.word
+  joining_word n h = word_above (s.node n).session ((i.node n).joining_counted h, (i.node n).joining_held h)
+
+  pub joined_word : (n : ℕ) → (s.node n).joined ≡ true → (s.node n).session ≤ s.device.word
+  joined_word n j = word_above (s.node n).session (joined n j).holds
+
   pub disk_rule : (n f : ℕ) → Writes s n → Holds s f → f ≤ (s.node n).session
   disk_rule n f w h =
       let low = below_top f (held f h) in

@@ -15,6 +15,7 @@ pub mod Attempts
 pub mod Held
 pub mod Kept
 pub mod Later
+pub mod Grown
 pub mod Laws
 pub mod Reached
 pub mod Samples

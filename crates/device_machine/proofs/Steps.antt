@@ -1,12 +1,12 @@
 -- Each step of a node that neither seizes nor joins with a command that changes the device: what has to be shown of it.
-use Rattle.std.proofs.Common.{◌≡◌, ℕ, ◌<◌, ◌≤◌, inl, inr, Bool, true, false, refl, sym, ap, subst, arith}
-use Rattle.machine_base.proofs.Puts.{put_true_stays}
+use Rattle.std.proofs.Common.{◌≡◌, ◌≢◌, ℕ, ◌<◌, ◌≤◌, inl, inr, Bool, true, false, refl, sym, ap, subst, arith}
+use Rattle.machine_base.proofs.Puts.{put_there, put_true_stays}
 use Rattle.device_machine.specs.Phase.{Phase, rank, IsSeizing, IsJoining, AsksWord}
 use Rattle.device_machine.specs.Device.{Device}
-use Rattle.device_machine.specs.Initiator.{Initiator, promising, crashing, to_phase, seizing, unvalidated, expecting, aiming, rejecting, ending, installing, admitted, joining}
+use Rattle.device_machine.specs.Initiator.{Past, Initiator, promising, crashing, to_phase, seizing, unvalidated, expecting, aiming, rejecting, ending, installing, admitted, joining}
 use Rattle.device_machine.specs.Attempt.{Attempt}
 use Rattle.device_machine.proofs.Invariant.{PastOk, NodeOk, OnDevice, DeviceOk}
-use Rattle.device_machine.proofs.Growth.{NodeGrows}
+use Rattle.device_machine.specs.Growth.{NodeGrows}
 use Rattle.device_machine.proofs.Frames.{NodeSteps}
 use Rattle.device_machine.proofs.NodeSession
 use Rattle.device_machine.proofs.NodeAsking
@@ -20,6 +20,10 @@ pub not_true : (b : Bool) → (b ≡ true → ⊥) → b ≡ false
 not_true true h = absurd (h refl)
 not_true false h = refl
 
+-- an epoch whose seizing has ended is not one whose seizing goes on
+pub ended_other : (f : ℕ → Bool) (p q : ℕ) → f q ≡ true → f p ≡ false → q ≢ p
+ended_other f p q h h' e = let g : f p ≡ true = subst (λ k. f k ≡ true) e h in absurd {A = ⊥} (cc)
+
 -- a step that leaves promise and history
 pub keeps : (v v' : Initiator) → v'.promised ≡ v.promised → v'.past ≡ v.past → NodeGrows v v'
 keeps v v' p e = record {
@@ -27,10 +31,13 @@ keeps v v' p e = record {
   seized = λ q h. subst (λ x. x.seized q ≡ true) (sym e) h;
   unregistered = λ q h. subst (λ x. x.unregistered q ≡ true) (sym e) h;
   ended = λ q h. subst (λ x. x.ended q ≡ true) (sym e) h;
+  wrote = λ q h. subst (λ x. x.wrote q ≡ true) (sym e) h;
+  seized_settled = λ q h. ap (λ (x : Past). x.seized q) e;
+  unregistered_settled = λ q h. ap (λ (x : Past). x.unregistered q) e;
 }
 
 pub ending_grows : (v : Initiator) → NodeGrows v (ending v)
-ending_grows v = record { promised = grind arith; seized = λ q h. h; unregistered = λ q h. h; ended = λ q h. put_true_stays v.past.ended v.session q h }
+ending_grows v = record { promised = grind arith; seized = λ q h. h; unregistered = λ q h. h; ended = λ q h. put_true_stays v.past.ended v.session q h; wrote = λ q h. h; seized_settled = λ q h. refl; unregistered_settled = λ q h. refl }
 
 module _ (A : ℕ → Attempt) (d : Device) (top n : ℕ) (v : Initiator) (past : PastOk A n v.promised v.past) (ok : NodeOk A n v) (on : OnDevice A d top n v) where
   -- a claim by the valid mark was there before, where the mark was
@@ -43,7 +50,7 @@ module _ (A : ℕ → Attempt) (d : Device) (top n : ℕ) (v : Initiator) (past 
 
   pub promising_steps : (q : ℕ) → v.promised < q → NodeSteps A d d top n v (promising v q)
   promising_steps q lt = quiet_steps A d d top n v (promising v q) (grind arith) still (grind arith) (grind arith)
-      (record { promised = grind arith; seized = λ p h. h; unregistered = λ p h. h; ended = λ p h. h })
+      (record { promised = grind arith; seized = λ p h. h; unregistered = λ p h. h; ended = λ p h. h; wrote = λ p h. h; seized_settled = λ p h. refl; unregistered_settled = λ p h. refl })
       (Pasts.promising_past A n v q past lt)
       (NodeSession.promising_node A n v q ok lt fresh (not_true (v.past.wrote q) (λ h. let l = past.wrote_low q h in omega arith)) unseized
       (not_true (v.past.unregistered q) (λ h. let l = past.ended_low q (past.unregistered_ended q h) in omega arith)) (past.seizings_low q lt) (past.joinings_low q lt))
@@ -62,7 +69,7 @@ module _ (A : ℕ → Attempt) (d : Device) (top n : ℕ) (v : Initiator) (past 
   pub seizing_steps : 0 < v.session → (A v.session).collected ≡ true → (A v.session).members n ≡ true → (A v.session).asked n ≡ true → v.installed < v.session → v.phase ≡ Phase.Idle
       → NodeSteps A d d top n v (seizing v (A v.session).quorum)
   seizing_steps p c m a lt idle = quiet_steps A d d top n v (seizing v (A v.session).quorum) (grind arith) still (grind arith) (grind arith)
-      (record { promised = grind arith; seized = λ q h. h; unregistered = λ q h. h; ended = λ q h. h })
+      (record { promised = grind arith; seized = λ q h. h; unregistered = λ q h. h; ended = λ q h. h; wrote = λ q h. h; seized_settled = λ q h. refl; unregistered_settled = λ q h. refl })
       (Pasts.seizing_past A n v (A v.session).quorum past (let e : v.session ≡ v.promised = ok.session p in omega arith) (ok.seizings_none p (ap rank idle)))
       (NodeAsking.seizing_node A n v (A v.session).quorum ok p c m a refl lt idle) (OnSeizing.seizing_on A d top n v (A v.session).quorum ok on)
 
@@ -75,7 +82,15 @@ module _ (A : ℕ → Attempt) (d : Device) (top n : ℕ) (v : Initiator) (past 
 
   pub rejecting_steps : v.phase ≡ Phase.Asked → NodeSteps A d d top n v (rejecting v)
   rejecting_steps at = quiet_steps A d d top n v (rejecting v) (grind arith) still (grind arith) (grind arith)
-      (record { promised = grind arith; seized = λ q h. h; unregistered = λ q h. put_true_stays v.past.unregistered v.session q h; ended = λ q h. put_true_stays v.past.ended v.session q h })
+      (record {
+        promised = grind arith;
+        seized = λ q h. h;
+        unregistered = λ q h. put_true_stays v.past.unregistered v.session q h;
+        ended = λ q h. put_true_stays v.past.ended v.session q h;
+        wrote = λ q h. h;
+        seized_settled = λ q h. refl;
+        unregistered_settled = λ q h. put_there v.past.unregistered v.session true q (ended_other v.past.ended v.session q h (ok.running (ok.busy (grind arith)) (grind arith)));
+      })
       (Pasts.rejecting_past A n v past (session_low (grind arith)) (ok.unwritten (ok.busy (grind arith)) (grind arith))
       (not_true (v.past.seized v.session) (unended (ok.busy (grind arith)) (grind arith))))
       (NodeAsking.rejecting_node A n v ok at) (OnSeizing.rejecting_on A d top n v ok on)
@@ -143,6 +158,6 @@ module _ (A : ℕ → Attempt) (d : Device) (top n : ℕ) (v : Initiator) (past 
 
     pub joining_steps : (A v.session).holds ≡ true → NodeSteps A d d top n v (joining v)
     joining_steps holds = quiet_steps A d d top n v (joining v) (grind arith) (grind arith) (grind arith) (grind arith)
-        (record { promised = grind arith; seized = λ q h. h; unregistered = λ q h. h; ended = λ q h. h })
+        (record { promised = grind arith; seized = λ q h. h; unregistered = λ q h. h; ended = λ q h. h; wrote = λ q h. h; seized_settled = λ q h. refl; unregistered_settled = λ q h. refl })
         (Pasts.joining_past A n v past (let e : v.session ≡ v.promised = ok.session p in omega arith) (ok.joinings_none p lt))
         (NodeSession.joining_node A n v ok p counted collected member lt holds) (OnSession.joining_on A d top n v ok on)

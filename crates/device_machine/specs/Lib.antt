@@ -4,4 +4,5 @@ pub mod Initiator
 pub mod Attempt
 pub mod Sharing
 pub mod Laws
+pub mod Growth
 pub mod Sample

@@ -52,6 +52,10 @@ rank Entered = 12
 abbrev pub IsSeizing : Phase → Type 0
 IsSeizing p = (1 ≤ rank p) × (rank p ≤ 8)
 
+-- its seizing has set the word to its session, or found it so
+abbrev pub IsPastSwap : Phase → Type 0
+IsPastSwap p = (5 ≤ rank p) × (rank p ≤ 9)
+
 -- a joining has commands left to do
 abbrev pub IsJoining : Phase → Type 0
 IsJoining p = 11 ≤ rank p

@@ -6,9 +6,10 @@
 #![tactic(auto)]
 
 ghost use Rattle.std.specs.Prelude.{◌≡◌, ℕ, ◌<◌, ◌≤◌, ◌⊎◌, Bool, true, false, List, ◌++◌};
-ghost use Rattle.device_machine.specs.Phase.{Phase, IsSeizing};
-ghost use Rattle.device_machine.specs.Sharing.{Sharing, Event, Run, MayInstall, Writes, first_sharing};
+ghost use Rattle.device_machine.specs.Phase.{Phase, IsSeizing, IsJoining, IsPastSwap};
+ghost use Rattle.device_machine.specs.Sharing.{Sharing, Event, Allowed, after, Run, MayInstall, Writes, first_sharing};
 ghost use Rattle.device_machine.specs.Laws.{Holds, MemberOrAbove, HasJoined, Later};
+ghost use Rattle.device_machine.specs.Growth.{Grows};
 ghost use Rattle.device_machine.specs.Device.{LetsWrite};
 ghost use Rattle.device_machine.specs.Sample.{pair, no_node, forming, formed, faulting, faulted, splitting, split, returning, returned, reforming, reformed, sharing, shared, leaving_out, left_out, registering_late, late, seizing_again, cleaned};
 
@@ -37,6 +38,15 @@ pub fn nothing_goes_back()
         → Later s t }
 {}
 
+/// What was told of a seizing stays true: that a node was asked, and as which kind of device; that its seizing ended, and
+/// how; who is the seizer of an attempt whose votes are counted. So it is by each event, and over each run.
+pub fn told_facts_stay()
+    ensures event { (registered : ℕ → Bool) (events : List Event) (s : Sharing) (e : Event) → Run (first_sharing registered) events s → Allowed s e
+        → Grows s (after s e) }
+    ensures run { (registered : ℕ → Bool) (before later : List Event) (s t : Sharing) → Run (first_sharing registered) before s → Run s later t
+        → Grows s t }
+{}
+
 /// The epoch word never falls.
 pub fn word_never_falls()
     ensures { (registered : ℕ → Bool) (before later : List Event) (s t : Sharing) → Run (first_sharing registered) before s → Run s later t
@@ -47,6 +57,17 @@ pub fn word_never_falls()
 pub fn word_is_an_attempt()
     ensures { (registered : ℕ → Bool) (events : List Event) (s : Sharing) → Run (first_sharing registered) events s
         → (s.device.word ≡ 0) ⊎ ((s.attempt s.device.word).collected ≡ true) }
+{}
+
+/// From its swap on a node's session is at most the epoch word, until its seizing ends. So it is of a node that joins the
+/// device, and of one that has joined it. Such a node that reads another word reads a greater one.
+pub fn session_is_at_most_the_word()
+    ensures seizing { (registered : ℕ → Bool) (events : List Event) (s : Sharing) (n : ℕ) → Run (first_sharing registered) events s
+        → IsPastSwap (s.node n).phase → (s.node n).session ≤ s.device.word }
+    ensures joining { (registered : ℕ → Bool) (events : List Event) (s : Sharing) (n : ℕ) → Run (first_sharing registered) events s
+        → IsJoining (s.node n).phase → (s.node n).session ≤ s.device.word }
+    ensures joined { (registered : ℕ → Bool) (events : List Event) (s : Sharing) (n : ℕ) → Run (first_sharing registered) events s
+        → (s.node n).joined ≡ true → (s.node n).session ≤ s.device.word }
 {}
 
 /// For each number one node sets the epoch word to it.

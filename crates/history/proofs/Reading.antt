@@ -1,5 +1,5 @@
 -- What the definitions say of a number's start, and of a node that is left out.
-use Rattle.std.proofs.Common.{◌≡◌, ◌⊎◌, inl, inr, ℕ, ◌<◌, ◌≤◌, ◌==◌, ◌||◌, Bool, true, false, refl, sym, subst, List, [], ◌∷◌, map, length, arith, Option, Some, None, find, filter, MatchOption}
+use Rattle.std.proofs.Common.{◌≡◌, ◌⊎◌, inl, inr, ℕ, ◌<◌, ◌≤◌, ◌==◌, ◌||◌, Bool, true, false, refl, sym, subst, List, [], ◌∷◌, length, arith, Option, Some, None, find, filter, MatchOption}
 use Rattle.std.specs.List.{list_any}
 use Rattle.cl_base.specs.Sets.{has}
 use Rattle.cl_base.specs.declared.header.Header.{Header}
@@ -9,26 +9,24 @@ use Rattle.history.specs.Moment.{Moment}
 use Rattle.history.specs.Trace.{device}
 use Rattle.history.specs.Member.{last_member}
 use Rattle.history.specs.Starts.{Start, starts, start_of}
+use Rattle.history.specs.Deeds.{Deed, start_numbers}
 use Rattle.history.specs.Lineage.{Lineage, AllDiffer}
 use Rattle.history.specs.DiskRule.{DiskRule, IsMembersWrite, takes}
 use Rattle.history.proofs.Among.{In, all_at, true_or_false}
 
 -- ---- at most one start a number
 
-is_of : ℕ → Start → Bool
-is_of e s = s.epoch == e
-
-differs : (ss : List Start) (e : ℕ) → list_any (λ f. f == e) (map (λ (s : Start). s.epoch) ss) ≡ false → length (filter (λ (s : Start). s.epoch == e) ss) ≡ 0
+differs : (numbers : List ℕ) (e : ℕ) → list_any (λ f. f == e) numbers ≡ false → length (filter (λ f. f == e) numbers) ≡ 0
 differs [] e h = refl
-differs (s ∷ ss) e h = go (differs ss e) (true_or_false (s.epoch == e))
+differs (n ∷ numbers) e h = go (differs numbers e) (true_or_false (n == e))
   where
-    go : (list_any (λ f. f == e) (map (λ (t : Start). t.epoch) ss) ≡ false → length (filter (λ (t : Start). t.epoch == e) ss) ≡ 0)
-        → (s.epoch == e ≡ true) ⊎ (s.epoch == e ≡ false) → length (filter (λ (t : Start). t.epoch == e) (s ∷ ss)) ≡ 0
-    go rest (inl y) = absurd (taken (s.epoch == e) (list_any (λ f. f == e) (map (λ (t : Start). t.epoch) ss)) y h)
+    go : (list_any (λ f. f == e) numbers ≡ false → length (filter (λ f. f == e) numbers) ≡ 0)
+        → (n == e ≡ true) ⊎ (n == e ≡ false) → length (filter (λ f. f == e) (n ∷ numbers)) ≡ 0
+    go rest (inl y) = absurd (taken (n == e) (list_any (λ f. f == e) numbers) y h)
       where
         taken : (a b : Bool) → a ≡ true → (a || b) ≡ false → ⊥
         taken a b p q = grind arith
-    go rest (inr n) = rw n (rest (left (s.epoch == e) (list_any (λ f. f == e) (map (λ (t : Start). t.epoch) ss)) h))
+    go rest (inr no_one) = rw no_one (rest (left (n == e) (list_any (λ f. f == e) numbers) h))
       where
         left : (a b : Bool) → (a || b) ≡ false → b ≡ false
         left a b q = grind arith
@@ -36,19 +34,19 @@ differs (s ∷ ss) e h = go (differs ss e) (true_or_false (s.epoch == e))
 is_equal : (a b : ℕ) → (a == b) ≡ true → a ≡ b
 is_equal a b h = grind arith
 
-once : (ss : List Start) (e : ℕ) → AllDiffer (map (λ (s : Start). s.epoch) ss) → length (filter (λ (s : Start). s.epoch == e) ss) ≤ 1
+once : (numbers : List ℕ) (e : ℕ) → AllDiffer numbers → length (filter (λ f. f == e) numbers) ≤ 1
 once [] e h = omega arith
-once (s ∷ ss) e h = go (once ss e h.1) (true_or_false (s.epoch == e))
+once (n ∷ numbers) e h = go (once numbers e h.1) (true_or_false (n == e))
   where
-    go : length (filter (λ (t : Start). t.epoch == e) ss) ≤ 1 → (s.epoch == e ≡ true) ⊎ (s.epoch == e ≡ false) → length (filter (λ (t : Start). t.epoch == e) (s ∷ ss)) ≤ 1
+    go : length (filter (λ f. f == e) numbers) ≤ 1 → (n == e ≡ true) ⊎ (n == e ≡ false) → length (filter (λ f. f == e) (n ∷ numbers)) ≤ 1
     go rest (inl y) =
-        let zero : length (filter (λ (t : Start). t.epoch == e) ss) ≡ 0 =
-        differs ss e (subst (λ (k : ℕ). list_any (λ f. f == k) (map (λ (t : Start). t.epoch) ss) ≡ false) (is_equal s.epoch e y) h.0) in
+        let zero : length (filter (λ f. f == e) numbers) ≡ 0 =
+        differs numbers e (subst (λ (k : ℕ). list_any (λ f. f == k) numbers ≡ false) (is_equal n e y) h.0) in
         rw y (omega (arith, zero))
-    go rest (inr n) = rw n rest
+    go rest (inr no_one) = rw no_one rest
 
-pub starts_once : (moments : List Moment) (e : ℕ) → Lineage moments → length (filter (λ (s : Start). s.epoch == e) (starts moments)) ≤ 1
-starts_once moments e l = once (starts moments) e l.once
+pub starts_once : (ds : List Deed) (e : ℕ) → Lineage ds → length (filter (λ f. f == e) (start_numbers ds)) ≤ 1
+starts_once ds e l = once (start_numbers ds) e l.once
 
 -- ---- a node that is left out
 

@@ -1,36 +1,41 @@
 -- Answers, of attempts: why an attempt begins, and each way in which it ends without a membership.
-use Rattle.std.specs.Prelude.{◌≡◌, ◌^◌, ◌<◌, ℕ, ◌+◌, ◌-◌, ◌==◌, ◌&&◌, ◌||◌, not, nat_lt, nat_le, Bool, true, false, if◌then◌else◌, List, [], ◌∷◌, length, take, Option, Some, None, is_some, option_map, slice_get, IfSome}
+use Rattle.std.specs.Prelude.{◌≡◌, ◌<◌, ℕ, ◌+◌, ◌-◌, ◌==◌, ◌&&◌, ◌||◌, not, nat_lt, nat_le, Bool, true, false, if◌then◌else◌, List, [], ◌∷◌, length, take, Option, Some, None, is_some, option_map, slice_get, IfSome}
 use Rattle.std.specs.List.{list_any, list_all, filter, find, count_by, AllByRecursion}
 use Rattle.std.specs.Option.{option_and_then}
 use Rattle.cl_base.specs.Sets.{has, set_with}
 use Rattle.cl_base.specs.declared.header.Header.{Header}
+use Rattle.cl_base.specs.declared.header.Version.{Version}
+use Rattle.cl_base.specs.declared.header.Version.TheVariants.{One, Two}
+use Rattle.cl_base.specs.declared.seizing.Lack.{Lack}
+use Rattle.cl_base.specs.declared.seizing.Obstacle.{Obstacle}
+use Rattle.cl_base.specs.declared.seizing.Obstacle.TheVariants.{NoPath, Seizing}
+use Rattle.cl_base.specs.declared.seizing.SeizeEnd.{SeizeEnd}
+use Rattle.cl_base.specs.declared.seizing.SeizeEnd.TheVariants.{Held, NotRegistered, Greater, Expelled, Contended, Fault}
 use Rattle.pgr_device.specs.declared.command.PrCommand.TheVariants as command
 use Rattle.pgr_device.specs.declared.command.PrAnswer.TheVariants as answer
 use Rattle.quorum_votes.specs.Tables.{VoteTable}
-use Rattle.quorum_votes.specs.Votes.{device_at, state_of, held_of, needed_of}
-use Rattle.quorum_votes.specs.declared.state.DevState.{DevState}
-use Rattle.quorum_votes.specs.declared.state.DevState.TheVariants.{Enabled}
+use Rattle.quorum_votes.specs.Votes.{device_at, state_of, held_of, needed_of, is_configured}
 use Rattle.schedule_text.specs.declared.event.Event.{Event}
 use Rattle.schedule_text.specs.declared.event.Event.TheVariants.{Tick}
 use Rattle.wire.specs.declared.message.Body.{Body}
 use Rattle.wire.specs.declared.message.Body.TheVariants as body
-use Rattle.status_report.specs.declared.packet_entry.MessageName.{MessageName}
-use Rattle.status_report.specs.declared.packet_entry.MessageName.TheVariants as name
 use Rattle.status_report.specs.declared.device_entry.DeviceAnswer.TheVariants.{Given, Failed}
-use Rattle.status_report.specs.declared.attempt_entry.Lack.{Lack}
-use Rattle.status_report.specs.declared.attempt_entry.LackCause.{LackCause}
-use Rattle.status_report.specs.declared.attempt_entry.LackCause.TheVariants as lack
 use Rattle.history.specs.Moment.{Moment, event_of}
-use Rattle.history.specs.Trace.{up, down, ticked, delivered, device, attempt, start, ended_votes, ended_superseded, ended_silent, ended_excluded, stopped, disk_failed, sent}
+use Rattle.history.specs.Names as name
+use Rattle.history.specs.Names.{Name, named}
+use Rattle.history.specs.Trace.{up, down, ticked, saved, delivered, device, installed, attempt, start, ended_votes, ended_superseded, ended_silent, ended_excluded, ended_foreign, stopped, disk_failed, sent}
 use Rattle.history.specs.Order.{Always, EachEvent, since, before_last, under_way, somewhere}
-use Rattle.history.specs.Setting.{Setting, coordinator, nodes_of, numbers_to, key_of, paths_of}
-use Rattle.history.specs.Letters.{Letter, letter_of, passes, reached_since, is_letter, is_exchanged, same_name, says}
-use Rattle.history.specs.Member.{member_of, members_of, attempt_of, number_of, promised_to, is_promise, last_installed}
-use Rattle.history.specs.Starts.{starts, base_of, Start}
-use Rattle.history.specs.Seizing.{is_attempt, is_start, is_members_key}
+use Rattle.history.specs.Setting.{Setting, coordinator, nodes_of, all_to, key_of, paths_of}
+use Rattle.history.specs.Setting as setting
+use Rattle.history.specs.Letters.{Letter, letter_of, passes, reached_since, sends, is_letter, is_exchanged, says}
+use Rattle.history.specs.Member.{member_of, members_of, attempt_of, number_of, in_collect, promised_to, last_installed}
+use Rattle.history.specs.Starts.{Start, EachStart}
+use Rattle.history.specs.Seizing.{is_attempt, is_start, is_boot, is_number, is_members_key}
 use Rattle.history.specs.Validated.{validity, is_valid}
-use Rattle.history.specs.Contact.{is_number, others}
-use Rattle.history.specs.Contents.{shown_of, Counted, promises_in, owned, is_newest}
+use Rattle.history.specs.Contact.{others}
+use Rattle.history.specs.Records.{NodeRecord, committed_of, is_newest, promises, record_of, records_in_hand}
+use Rattle.history.specs.UnderWay.{is_under_way}
+use Rattle.history.specs.Queue.{is_enabled, all_promised, queue_of, has_work, is_queued, queue_is_open}
 
 -- ---- an attempt begins only in a tick of its coordinator, which is the least of what it sees
 
@@ -46,9 +51,20 @@ abbrev pub is_recent : Option ℕ → Bool
 is_recent None = false
 is_recent (Some k) = nat_le k 3
 
--- the nodes that c sees: itself, and those that it heard at most three ticks ago
-abbrev pub view_of : ℕ → ℕ → List Moment → List ℕ
-view_of nodes c before = filter (λ m. (m == c) || is_recent (age_of c m before)) (numbers_to nodes (2 ^ 32 - 1))
+-- The nodes that are configured in the committed updates of c. Under the first version these are all nodes, whatever the updates.
+abbrev pub configured_in : Setting → Version → Option NodeRecord → Option (ℕ → Bool)
+configured_in S One r = Some (setting.is_configured S.header)
+configured_in S Two r = option_map (λ known. is_configured (S.votes (take (committed_of known) known.texts))) r
+
+abbrev pub configured_for : Setting → ℕ → List Moment → Option (ℕ → Bool)
+configured_for S c before = configured_in S S.header.version (record_of c before)
+
+-- the nodes that c sees: itself, and those that it heard at most three ticks ago, where it is configured itself those alone that are so
+abbrev pub sees : (ℕ → Bool) → ℕ → List Moment → ℕ → Bool
+sees configured c before m = (m == c) || (is_recent (age_of c m before) && (configured m || not (configured c)))
+
+abbrev pub view_of : ℕ → (ℕ → Bool) → ℕ → List Moment → List ℕ
+view_of nodes configured c before = filter (sees configured c before) (all_to nodes)
 
 -- the last Heartbeat of m that was delivered to c since it went up
 abbrev pub last_heartbeat : ℕ → ℕ → List Moment → Option Body
@@ -69,27 +85,17 @@ has_reason c members before None = true
 has_reason c members before (Some e) =
     not (members_of e before == members) || list_any (λ m. not (m == c) && breaks e (last_heartbeat c m before)) (nodes_of (members_of e before))
 
+-- P holds, with the members that c sees; a node that is not configured begins no attempt alone
+pub record IsSeen (S : Setting) (before : List Moment) (c members : ℕ) (configured : ℕ → Bool) : Type 0 where
+  pub view : nodes_of members ≡ view_of S.header.nodes configured c before
+  pub not_alone : (configured c || nat_lt 1 (length (nodes_of members))) ≡ true
+
 pub record IsWanted (S : Setting) (before : List Moment) (e members : ℕ) : Type 0 where
   pub in_a_tick : under_way before ≡ Some (Tick (coordinator e))
-  pub view : nodes_of members ≡ view_of S.header.nodes (coordinator e) before
+  -- where the trace tells the record of its coordinator
+  pub seen : IfSome (configured_for S (coordinator e) before) (IsSeen S before (coordinator e) members)
   pub least : slice_get (nodes_of members) 0 ≡ Some (coordinator e)
   pub reason : has_reason (coordinator e) members before (member_of (coordinator e) before) ≡ true
-
--- ---- an attempt is under way until it ends
-
--- with this the attempt e is over: it ended or started, or its coordinator went down
-abbrev pub is_over : ℕ → Moment → Bool
-is_over e (ended_votes f have need lacking) = f == e
-is_over e (ended_superseded f q) = f == e
-is_over e (ended_silent f m) = f == e
-is_over e (ended_excluded f m) = f == e
-is_over e (start f members held count) = f == e
-is_over e (down n why) = n == coordinator e
-is_over e _ = false
-
--- e is the last attempt of its coordinator, and it is not over
-abbrev pub is_under_way : ℕ → List Moment → Bool
-is_under_way e before = is_number e (attempt_of (coordinator e) before) && not (list_any (is_over e) (since (is_attempt e) before))
 
 -- ---- results of seizing a device, in the attempt e, and what shows each
 
@@ -135,11 +141,11 @@ abbrev pub reads_without : Header → ℕ → ℕ → ℕ → List Moment → Mo
 reads_without h d m reader before (device n x command.Keys (Given (answer.Keys keys))) = (n == reader) && (x == d) && lacks_key h m keys
 reads_without h d m reader before _ = false
 
--- whether m sent a Promise of e while it did not hold d valid
+-- whether m promised e while it did not hold d valid
 abbrev pub promised_invalid : Header → ℕ → ℕ → ℕ → List Moment → Bool
 promised_invalid h e d m [] = false
-promised_invalid h e d m (sent p n b called bytes ∷ before) =
-    ((n == m) && is_promise called && is_number e (promised_to before) && not (is_valid (validity h m d before))) || promised_invalid h e d m before
+promised_invalid h e d m (saved n ∷ before) =
+    ((n == m) && in_collect n before && is_number e (promised_to before) && not (is_valid (validity h m d before))) || promised_invalid h e d m before
 promised_invalid h e d m (_ ∷ before) = promised_invalid h e d m before
 
 -- m may not seize d for e: it did not hold it valid where it promised e, or began e, or a reading in this attempt lacks its key
@@ -152,38 +158,35 @@ is_unregistered h e d before m =
 abbrev pub attached_members : Header → ℕ → ℕ → List ℕ
 attached_members h d members = filter (λ m. has (paths_of h d) m) (nodes_of members)
 
-abbrev pub is_shown : Header → ℕ → ℕ → List Moment → LackCause → Bool
-is_shown h e d before lack.NoPath = length (attached_members h d (members_of e before)) == 0
-is_shown h e d before lack.NotRegistered = list_all (is_unregistered h e d before) (attached_members h d (members_of e before))
-is_shown h e d before (lack.Greater w) = nat_lt e w && some_member e before (shows_word d w)
-is_shown h e d before lack.Expelled = some_member e before (shows_expelled h d)
-is_shown h e d before (lack.Contended key) = some_member e before (shows_contended h (members_of e before) d key)
-is_shown h e d before lack.Fault = some_member e before (shows_fault d)
+abbrev pub is_ended_so : Header → ℕ → ℕ → List Moment → SeizeEnd Unit → Bool
+is_ended_so h e d before (Held keys) = false
+is_ended_so h e d before (NotRegistered keys) = list_all (is_unregistered h e d before) (attached_members h d (members_of e before))
+is_ended_so h e d before (Greater w) = nat_lt e w && some_member e before (shows_word d w)
+is_ended_so h e d before Expelled = some_member e before (shows_expelled h d)
+is_ended_so h e d before (Contended key) = some_member e before (shows_contended h (members_of e before) d key)
+is_ended_so h e d before Fault = some_member e before (shows_fault d)
+
+abbrev pub is_shown : Header → ℕ → ℕ → List Moment → Obstacle → Bool
+is_shown h e d before NoPath = length (attached_members h d (members_of e before)) == 0
+is_shown h e d before (Seizing end) = is_ended_so h e d before end
 
 -- a device for which no member has a path is named so, and no other
-abbrev pub is_no_path : LackCause → Bool
-is_no_path lack.NoPath = true
-is_no_path _ = false
+abbrev pub is_no_path : Obstacle → Bool
+is_no_path NoPath = true
+is_no_path (Seizing end) = false
 
 pub record IsLack (h : Header) (before : List Moment) (e : ℕ) (x : Lack) : Type 0 where
-  pub shown : is_shown h e x.device before x.cause ≡ true
-  pub path : is_no_path x.cause ≡ (length (attached_members h x.device (members_of e before)) == 0)
+  pub shown : is_shown h e x.device before x.obstacle ≡ true
+  pub path : is_no_path x.obstacle ≡ (length (attached_members h x.device (members_of e before)) == 0)
 
 -- ---- `ended e votes`
-
-abbrev pub has_promised : ℕ → ℕ → List Moment → ℕ → Bool
-has_promised e c before m = reached_since (is_attempt e) (λ l. is_letter name.Promise m c l && is_number e (promised_to l.before)) before
-
-abbrev pub is_enabled : DevState → Bool
-is_enabled Enabled = true
-is_enabled _ = false
 
 abbrev pub is_listed : ℕ → List Lack → Bool
 is_listed d lacking = list_any (λ x. x.device == d) lacking
 
 -- the enabled devices without a listed result, up to k, as a set
 abbrev pub counted_devices : ℕ → VoteTable → List Lack → List ℕ
-counted_devices k v lacking = filter (λ d. is_enabled (state_of (device_at v d)) && not (is_listed d lacking)) (numbers_to k (2 ^ 16 - 1))
+counted_devices k v lacking = filter (λ d. is_enabled (state_of (device_at v d)) && not (is_listed d lacking)) (all_to k)
 
 abbrev pub set_of : List ℕ → ℕ
 set_of [] = 0
@@ -201,23 +204,33 @@ may_be_enough h v members lacking =
     nat_le (needed_of v) (held_of v members (set_of (filter (λ d. nat_lt 0 (length (attached_members h d members))) (counted_devices 16 v lacking))))
 
 -- the counts are those under the votes of its committed texts, or, where these may be enough, with the pending one
-abbrev pub counts_for : Setting → Counted → ℕ → ℕ → ℕ → List Lack → Bool
+abbrev pub counts_for : Setting → NodeRecord → ℕ → ℕ → ℕ → List Lack → Bool
 counts_for S r members have need lacking =
-    counts S.header (S.votes (take r.committed r.shown.texts)) members have need lacking
-    || (may_be_enough S.header (S.votes (take r.committed r.shown.texts)) members lacking && counts S.header (S.votes r.shown.texts) members have need lacking)
+    counts S.header (S.votes (take (committed_of r) r.texts)) members have need lacking
+    || (may_be_enough S.header (S.votes (take (committed_of r) r.texts)) members lacking && counts S.header (S.votes r.texts) members have need lacking)
 
 -- .. of the newest of these records
-abbrev pub is_counted : Setting → ℕ → ℕ → ℕ → List Lack → List Counted → Bool
+abbrev pub is_counted : Setting → ℕ → ℕ → ℕ → List Lack → List NodeRecord → Bool
 is_counted S members have need lacking records = list_any (λ r. counts_for S r members have need lacking) (filter (is_newest records) records)
 
 pub record IsShort (S : Setting) (before : List Moment) (e have need : ℕ) (lacking : List Lack) : Type 0 where
   pub too_few : have < need
-  -- every other member sent its Promise
-  pub promised : list_all (has_promised e (coordinator e) before) (others e (members_of e before)) ≡ true
+  pub promised : all_promised e before ≡ true
   -- the newest record is its own at the attempt, or one of those that were promised, where its own is known
-  pub counted : IfSome (shown_of (coordinator e) (before_last (is_attempt e) before)) (λ r.
-      list_any (λ own. is_counted S (members_of e before) have need lacking (own ∷ promises_in e (coordinator e) before)) (owned (coordinator e) r (before_last (is_attempt e) before)) ≡ true)
+  pub counted : IfSome (records_in_hand e before) (λ records. is_counted S (members_of e before) have need lacking records ≡ true)
   pub results : AllByRecursion (IsLack S.header before e) lacking
+
+-- ---- `ended e foreign m`: of the members that are configured neither under the newest committed updates nor with the pending one m is least
+
+abbrev pub is_foreign_to : Setting → NodeRecord → ℕ → Bool
+is_foreign_to S r m = not (is_configured (S.votes (take (committed_of r) r.texts)) m) && not (is_configured (S.votes r.texts) m)
+
+abbrev pub is_foreign : Setting → ℕ → ℕ → List NodeRecord → Bool
+is_foreign S members m records = list_any (λ r. is_number m (find (is_foreign_to S r) (nodes_of members))) (filter (is_newest records) records)
+
+pub record IsForeign (S : Setting) (before : List Moment) (e m : ℕ) : Type 0 where
+  pub promised : all_promised e before ≡ true
+  pub foreign : IfSome (records_in_hand e before) (λ records. is_foreign S (members_of e before) m records ≡ true)
 
 -- ---- `ended e superseded q`
 
@@ -231,10 +244,6 @@ is_collect_of c q l = is_letter name.Collect l.from c l && is_number q (number_o
 abbrev pub is_nack_of : ℕ → ℕ → ℕ → Letter → Bool
 is_nack_of c e q l = is_letter name.Nack l.from c l && is_nack e q (says l.bytes)
 
-abbrev pub is_boot_of : ℕ → Moment → Bool
-is_boot_of n (up m) = m == n
-is_boot_of n _ = false
-
 abbrev pub stops_of : ℕ → Moment → Bool
 stops_of n (stopped m) = m == n
 stops_of n (disk_failed m) = m == n
@@ -242,7 +251,7 @@ stops_of n _ = false
 
 -- e itself may stand against the attempt where a node went up since, and so has promised e in an earlier life
 abbrev pub is_own_nack : ℕ → ℕ → List Moment → Letter → Bool
-is_own_nack c e before l = is_nack_of c e e l && list_any (is_boot_of l.from) (since (is_attempt e) before)
+is_own_nack c e before l = is_nack_of c e e l && list_any (is_boot l.from) (since (is_attempt e) before)
 
 abbrev pub stands_against : ℕ → ℕ → List Moment → Bool
 stands_against e q before =
@@ -252,14 +261,10 @@ stands_against e q before =
 
 -- ---- `ended e silent m`
 
-abbrev pub sends : ℕ → ℕ → MessageName → Moment → Bool
-sends c m called (sent p a b found bytes) = (a == c) && (b == m) && same_name found called
-sends c m called _ = false
-
 -- a message and what answers it, for each device
 pub record Question : Type 0 where
-  pub ask : MessageName
-  pub reply : MessageName
+  pub ask : Name
+  pub reply : Name
 
 abbrev pub seize_questions : List ℕ → List Question
 seize_questions [] = []
@@ -267,7 +272,7 @@ seize_questions (d ∷ others) =
     record { ask = name.SeizeQuorum d; reply = name.Seized d } ∷ record { ask = name.SeizeData d; reply = name.Seized d } ∷ seize_questions others
 
 abbrev pub questions : ℕ → List Question
-questions devices = record { ask = name.Collect; reply = name.Promise } ∷ record { ask = name.Install; reply = name.Ready } ∷ seize_questions (numbers_to devices (2 ^ 16 - 1))
+questions devices = record { ask = name.Collect; reply = name.Promise } ∷ record { ask = name.Install; reply = name.Ready } ∷ seize_questions (all_to devices)
 
 -- c asked m, and no answer that was sent after it came has reached c
 abbrev pub is_unanswered : ℕ → List Moment → ℕ → Question → Bool
@@ -277,56 +282,55 @@ is_unanswered c moments m q = list_any (sends c m q.ask) moments && not (is_exch
 abbrev pub is_missing : Setting → ℕ → List Moment → ℕ → Bool
 is_missing S e before m =
     if m == coordinator e
-    then nat_lt 0 (length (S.queue before m))
+    then has_work S m before
     else list_any (is_unanswered (coordinator e) (since (is_attempt e) before) m) (questions (length S.header.devices))
 
 -- the least member whose answer is missing
 abbrev pub first_missing : Setting → ℕ → List Moment → Option ℕ
 first_missing S e before = find (is_missing S e before) (nodes_of (members_of e before))
 
-abbrev pub is_question : MessageName → Bool
+abbrev pub is_question : Name → Bool
 is_question name.Collect = true
 is_question name.Install = true
 is_question (name.SeizeQuorum d) = true
 is_question (name.SeizeData d) = true
 is_question _ = false
 
--- how many ticks of c came since it last asked something for the first time, in the moments of one attempt
-abbrev pub ticks_of_phase : ℕ → List Moment → ℕ
-ticks_of_phase c [] = 0
-ticks_of_phase c (ticked n ∷ before) = if n == c then ticks_of_phase c before + 1 else ticks_of_phase c before
-ticks_of_phase c (sent p a b called bytes ∷ before) =
-    if (a == c) && is_question called && not (list_any (sends c b called) before) then 0 else ticks_of_phase c before
-ticks_of_phase c (_ ∷ before) = ticks_of_phase c before
+-- something is asked of b for the first time in the attempt, or the coordinator gets a task of its own
+abbrev pub asks_first : ℕ → List Moment → Moment → Bool
+asks_first c before (sent p a b called bytes) = (a == c) && is_question (named called) && not (list_any (sends c b (named called)) before)
+asks_first c before _ = false
 
--- the coordinator has a task of its own on d: there is none before each other member has promised
-abbrev pub has_task : Setting → ℕ → ℕ → List Moment → Bool
-has_task S e d before =
-    list_any (λ x. x == d) (S.queue before (coordinator e)) && list_all (has_promised e (coordinator e) before) (others e (members_of e before))
+abbrev pub gets_task : Setting → ℕ → List Moment → Moment → Bool
+gets_task S c before x = list_any (λ d. not (is_queued S c d before)) (queue_of S c (x ∷ before))
 
--- how many of its ticks in the attempt, up to the last, found it with this task
-abbrev pub ticks_of_task : Setting → ℕ → ℕ → List Moment → ℕ
-ticks_of_task S e d [] = 0
-ticks_of_task S e d (attempt f members ∷ before) = if f == e then 0 else ticks_of_task S e d before
-ticks_of_task S e d (ticked n ∷ before) =
-    if n == coordinator e then (if has_task S e d before then ticks_of_task S e d before + 1 else 0) else ticks_of_task S e d before
-ticks_of_task S e d (_ ∷ before) = ticks_of_task S e d before
+-- The phase tick: how many ticks of the coordinator came since a phase of the attempt e began, or a message of it was sent first. A phase
+-- begins with messages, or with tasks of the coordinator's own.
+abbrev pub phase_tick : Setting → ℕ → List Moment → ℕ
+phase_tick S e [] = 0
+phase_tick S e (attempt f members ∷ before) = if f == e then 0 else phase_tick S e before
+phase_tick S e (ticked n ∷ before) = if n == coordinator e then phase_tick S e before + 1 else phase_tick S e before
+phase_tick S e (sent p a b called bytes ∷ before) =
+    if asks_first (coordinator e) (since (is_attempt e) before) (sent p a b called bytes) then 0 else phase_tick S e before
+phase_tick S e (delivered p a b ∷ before) = if gets_task S (coordinator e) before (delivered p a b) then 0 else phase_tick S e before
+phase_tick S e (device n d done reply ∷ before) = if gets_task S (coordinator e) before (device n d done reply) then 0 else phase_tick S e before
+phase_tick S e (installed n f ∷ before) = if (n == coordinator e) && (f == e) then 0 else phase_tick S e before
+phase_tick S e (_ ∷ before) = phase_tick S e before
 
--- So many ticks of a phase came. It begins where the coordinator asks something new, or gets its own tasks, or both; and where it asks
--- something new later, its ticks are counted anew.
-abbrev pub has_waited : Setting → ℕ → ℕ → List Moment → Bool
-has_waited S e k before =
-    nat_le k (ticks_of_phase (coordinator e) (since (is_attempt e) before))
-    && list_all (λ d. nat_le k (ticks_of_task S e d before)) (S.queue before (coordinator e))
+-- where its own tasks are not told, the coordinator may be named, or the least of the others whose answer is missing
+abbrev pub may_be_silent : Setting → ℕ → ℕ → List Moment → Bool
+may_be_silent S e m before = (m == coordinator e) || is_number m (find (is_missing S e before) (others e (members_of e before)))
 
 abbrev pub is_silent : Setting → ℕ → ℕ → List Moment → Bool
-is_silent S e m before = has_waited S e 8 before && is_number m (first_missing S e before)
+is_silent S e m before =
+    nat_le 8 (phase_tick S e before)
+    && (if queue_is_open S (coordinator e) before then may_be_silent S e m before else is_number m (first_missing S e before))
 
 -- ---- an attempt does end at the eighth tick, where an answer is missing then
 
 -- the next tick of the attempt e, which is under way, is the eighth of a phase, or a later one, and an answer is missing
 abbrev pub is_overtime : Setting → ℕ → List Moment → Bool
-is_overtime S e before = is_under_way e before && has_waited S e 7 before && is_some (first_missing S e before)
+is_overtime S e before = is_under_way e before && not (queue_is_open S (coordinator e) before) && nat_le 7 (phase_tick S e before) && is_some (first_missing S e before)
 
 abbrev pub ends_silent_or_falls : ℕ → Moment → Bool
 ends_silent_or_falls e (ended_silent f m) = f == e
@@ -360,7 +364,7 @@ is_left_out e m here before = list_any (leaves_out e (members_of e before) m (la
 abbrev pub is_excluded : ℕ → ℕ → List Moment → Bool
 is_excluded e m before =
     if m == coordinator e then is_left_out e m before before
-    else reached_since (is_attempt e) (λ l. is_letter name.Promise m (coordinator e) l && is_number e (promised_to l.before) && is_left_out e m l.before before) before
+    else list_any (λ (l : Letter). (l.from == m) && is_left_out e m l.before before) (promises e before)
 
 -- ---- a device attached to a member that a start does not hold
 
@@ -383,19 +387,31 @@ is_enabled_for S d updates =
 
 abbrev pub is_not_held : Setting → ℕ → ℕ → List (List ℕ) → List Moment → Bool
 is_not_held S e d updates before =
-    some_member e before (shows_greater e d) || is_shown S.header e d before lack.Expelled
-    || some_member e before (shows_contention S.header (members_of e before) d) || is_shown S.header e d before lack.Fault
-    || (is_enabled_for S d updates && is_shown S.header e d before lack.NotRegistered)
+    some_member e before (shows_greater e d) || is_ended_so S.header e d before Expelled
+    || some_member e before (shows_contention S.header (members_of e before) d) || is_ended_so S.header e d before Fault
+    || (is_enabled_for S d updates && is_ended_so S.header e d before (NotRegistered tt))
 
 -- each device is held, or no member is attached to it, or something shows why it is not held
-abbrev pub is_accounted : Setting → List Moment → Start → ℕ → Bool
-is_accounted S moments s d =
-    has s.held d || (length (attached_members S.header d s.members) == 0)
-    || is_not_held S s.epoch d (base_of s.epoch moments) (before_last (is_start s.epoch) moments)
+abbrev pub is_accounted : Setting → List Moment → Start → List (List ℕ) → ℕ → Bool
+is_accounted S moments s updates d =
+    has s.held d || (length (attached_members S.header d s.members) == 0) || is_not_held S s.epoch d updates (before_last (is_start s.epoch) moments)
+
+abbrev pub IsAccounted : Setting → List Moment → Start → List (List ℕ) → Type 0
+IsAccounted S moments s updates = list_all (is_accounted S moments s updates) (all_to (length S.header.devices)) ≡ true
 
 abbrev pub AllAccounted : Setting → List Moment → Type 0
-AllAccounted S moments =
-    AllByRecursion (λ (s : Start). list_all (is_accounted S moments s) (numbers_to (length S.header.devices) (2 ^ 16 - 1)) ≡ true) (starts moments)
+AllAccounted S moments = EachStart (IsAccounted S) moments
+
+-- ---- Heartbeats: a node sends them in its ticks, to each other node that is configured in its own committed updates; one that is not
+-- configured there itself sends them to each node that it heard since it went up
+
+abbrev pub gets_heartbeat : (ℕ → Bool) → ℕ → List Moment → ℕ → Bool
+gets_heartbeat configured n before m = not (m == n) && (if configured n then configured m else is_some (age_of n m before))
+
+abbrev pub IsBeat : Setting → List Moment → ℕ → ℕ → Name → Type 0
+IsBeat S before n m name.Heartbeat =
+    (under_way before ≡ Some (Tick n)) × IfSome (configured_for S n before) (λ configured. gets_heartbeat configured n before m ≡ true)
+IsBeat S before n m _ = Unit {0}
 
 -- ---- together
 
@@ -405,8 +421,10 @@ HasCause S before (ended_votes e have need lacking) = (is_under_way e before ≡
 HasCause S before (ended_superseded e q) = (is_under_way e before ≡ true) × (stands_against e q before ≡ true)
 HasCause S before (ended_silent e m) =
     (is_under_way e before ≡ true) × (under_way before ≡ Some (Tick (coordinator e))) × (is_silent S e m before ≡ true)
+HasCause S before (ended_foreign e m) = (is_under_way e before ≡ true) × IsForeign S before e m
 HasCause S before (ended_excluded e m) = (is_under_way e before ≡ true) × (is_excluded e m before ≡ true)
 HasCause S before (start e members held count) = is_under_way e before ≡ true
+HasCause S before (sent p n m called bytes) = IsBeat S before n m (named called)
 HasCause S before _ = Unit {0}
 
 abbrev pub Attempts : Setting → List Moment → Type 0

@@ -1,6 +1,6 @@
 -- Answers, of commands: what a node answers by itself, and when an answer is `unknown`. What the president answers over the
 -- configuration belongs to the part on resource groups.
-use Rattle.std.specs.Prelude.{◌≡◌, ◌⊎◌, ◌≤◌, ℕ, ◌+◌, ◌==◌, ◌&&◌, not, nat_le, Bool, true, false, if◌then◌else◌, List, [], ◌∷◌, length, Option, Some, None, slice_get, MatchOption}
+use Rattle.std.specs.Prelude.{◌≡◌, ◌⊎◌, ◌≤◌, ℕ, ◌+◌, ◌==◌, ◌&&◌, not, nat_le, Bool, true, false, if◌then◌else◌, List, [], ◌∷◌, Option, Some, None, slice_get, MatchOption}
 use Rattle.std.specs.List.{list_any, count_by}
 use Rattle.schedule_text.specs.declared.event.Event.TheVariants as event
 use Rattle.schedule_text.specs.declared.line.Line.TheVariants as line
@@ -15,7 +15,7 @@ use Rattle.history.specs.Order.{Always, EachEvent, since, so_far}
 use Rattle.history.specs.Setting.{Setting, coordinator}
 use Rattle.history.specs.Member.{is_up, member_of}
 use Rattle.history.specs.Seizing.{is_boot}
-use Rattle.history.specs.Contact.{is_asking, before_asking}
+use Rattle.history.specs.Requests.{is_asking, before_asking}
 
 -- ---- numbers of requests
 
@@ -93,10 +93,6 @@ is_word_error answer.MissingOperand = true
 is_word_error answer.BadValue = true
 is_word_error _ = false
 
-abbrev pub is_word_answer : ℕ → ℕ → Option Moment → Bool
-is_word_answer n q (Some (answered m r reply)) = (m == n) && (r == q) && is_word_error reply
-is_word_answer n q _ = false
-
 abbrev pub is_own_answer : Answer → Bool
 is_own_answer answer.UnknownCommand = true
 is_own_answer answer.MissingOperand = true
@@ -110,13 +106,14 @@ abbrev pub has_own_answer : Moment → Bool
 has_own_answer (answered n q reply) = is_own_answer reply
 has_own_answer _ = false
 
-abbrev pub FitsOwn : Own → ℕ → ℕ → List Moment → Type 0
-FitsOwn BadWords n q entries = (length entries ≡ 2) × (is_word_answer n q (slice_get entries 1) ≡ true)
-FitsOwn Stranger n q entries = entries ≡ asked n q ∷ answered n q answer.NotMember ∷ []
-FitsOwn (Elsewhere c) n q entries = entries ≡ asked n q ∷ answered n q (answer.Ask c) ∷ []
-FitsOwn Full n q entries = entries ≡ asked n q ∷ answered n q answer.QueueFull ∷ []
-FitsOwn MayBeFull n q entries = (entries ≡ asked n q ∷ answered n q answer.QueueFull ∷ []) ⊎ (list_any has_own_answer entries ≡ false)
-FitsOwn Taken n q entries = list_any has_own_answer entries ≡ false
+-- of the errors in words the first that fits
+abbrev pub FitsOwn : Setting → List ℕ → Own → ℕ → ℕ → List Moment → Type 0
+FitsOwn S words BadWords n q entries = (is_word_error (S.word_error words) ≡ true) × (entries ≡ asked n q ∷ answered n q (S.word_error words) ∷ [])
+FitsOwn S words Stranger n q entries = entries ≡ asked n q ∷ answered n q answer.NotMember ∷ []
+FitsOwn S words (Elsewhere c) n q entries = entries ≡ asked n q ∷ answered n q (answer.Ask c) ∷ []
+FitsOwn S words Full n q entries = entries ≡ asked n q ∷ answered n q answer.QueueFull ∷ []
+FitsOwn S words MayBeFull n q entries = (entries ≡ asked n q ∷ answered n q answer.QueueFull ∷ []) ⊎ (list_any has_own_answer entries ≡ false)
+FitsOwn S words Taken n q entries = list_any has_own_answer entries ≡ false
 
 -- a query at the president is answered in its event
 abbrev pub is_own_query : Setting → ℕ → Option (List ℕ) → Option ℕ → Own → Bool
@@ -134,7 +131,7 @@ number_in _ = None
 -- the command of this number, which n deals with in this way
 pub record TakesCommand (S : Setting) (before : List Moment) (n : ℕ) (words : List ℕ) (entries : List Moment) (own : Own) (number : ℕ) : Type 0 where
   pub numbered : IsNumbered n number before
-  pub own_answer : FitsOwn own n number entries
+  pub own_answer : FitsOwn S words own n number entries
   pub query : AnswersQuery (is_own_query S n (S.canonical words) (member_of n before) own) n number entries
 
 abbrev pub IfUp : Bool → Type 0 → Type 0

@@ -12,14 +12,16 @@ use Rattle.status_report.specs.declared.device_entry.DeviceAnswer.TheVariants.{G
 use Rattle.history.specs.Moment.{Moment}
 use Rattle.history.specs.Trace.{device, fault}
 use Rattle.history.specs.Order.{Always}
-use Rattle.history.specs.Setting.{key_of, paths_of, is_quorum}
+use Rattle.history.specs.Setting.{key_of, paths_of, is_quorum, is_configured}
 
--- the attached nodes up to k with their keys, ascending
+-- the attached nodes up to k that the header configures, with their keys, ascending
 abbrev pub keys_to : ℕ → Header → ℕ → List Registration
 keys_to zero h attached = []
-keys_to (suc k) h attached = keys_to k h attached ++ (if has attached (k + 1) then record { node = k + 1; key = key_of h (k + 1) } ∷ [] else [])
+keys_to (suc k) h attached =
+    keys_to k h attached ++ (if has attached (k + 1) && is_configured h (k + 1) then record { node = k + 1; key = key_of h (k + 1) } ∷ [] else [])
 
--- At first word and data are 0 and there is no reservation; a quorum device has the keys of its attached nodes, a data device none.
+-- At first word and data are 0 and there is no reservation; a quorum device has the keys of its attached nodes that are configured at
+-- first, a data device none.
 abbrev pub first_state : Header → ℕ → Device
 first_state h d = record {
   paths = paths_of h d;

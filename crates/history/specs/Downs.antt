@@ -1,21 +1,22 @@
 -- Answers, of nodes that go down: each cause has its evidence. A node stops exactly where an armed stop falls in one of its saves or in
--- its mounting: each takes four calls of its local disk. (A method that stops a resource under HARD: see the part on resource groups.)
+-- its mounting: each takes four calls of its local disk. It saves only where the rules let it (Saves). (A method that stops a resource under HARD: see the part on resource groups.)
 use Rattle.std.specs.Prelude.{◌≡◌, ℕ, ◌-◌, ◌==◌, ◌&&◌, ◌||◌, nat_le, Bool, true, false, if◌then◌else◌, List, [], ◌∷◌, Option, Some, None}
 use Rattle.std.specs.List.{list_any}
 use Rattle.cl_base.specs.declared.panic.Panic.TheVariants as panic
 use Rattle.schedule_text.specs.declared.event.Event.TheVariants as event
 use Rattle.wire.specs.declared.message.Body.{Body}
 use Rattle.wire.specs.declared.message.Body.TheVariants as body
-use Rattle.status_report.specs.declared.packet_entry.MessageName.TheVariants as name
+use Rattle.history.specs.Names as name
 use Rattle.status_report.specs.declared.node_entry.DownCause.TheVariants as cause
 use Rattle.status_report.specs.declared.device_entry.WriteRefusal.TheVariants.{Fenced}
 use Rattle.history.specs.Moment.{Moment}
 use Rattle.history.specs.Trace.{up, down, saved, stopped, crashat, refused, attempt, ended_excluded}
 use Rattle.history.specs.Order.{Always, so_far, under_way}
-use Rattle.history.specs.Setting.{coordinator}
+use Rattle.history.specs.Setting.{Setting, coordinator}
 use Rattle.history.specs.Letters.{Letter, is_letter, passes, arrived, says}
-use Rattle.history.specs.Member.{members_of}
+use Rattle.history.specs.Member.{members_of, last_installed}
 use Rattle.history.specs.Attempts.{leaves_out}
+use Rattle.history.specs.Saves.{may_save}
 
 -- ---- stops
 
@@ -72,10 +73,10 @@ abbrev pub is_the_one : ℕ → Moment → Bool
 is_the_one f (attempt g members) = g == f
 is_the_one f _ = false
 
--- an `ended e excluded n` line among these, and the attempt f is one that leaves n out, seen where n had installed no more than this
+-- an `ended e excluded n` line among these, and the attempt f, with a number above the newest that n installed, is one that leaves n out
 abbrev pub is_excluded_by : ℕ → ℕ → ℕ → List Moment → List Moment → Bool
 is_excluded_by f e n event before =
-    list_any (is_exclusion e n) event && list_any (λ x. is_the_one f x && leaves_out e (members_of e before) n 0 x) before
+    list_any (is_exclusion e n) event && list_any (λ x. is_the_one f x && leaves_out e (members_of e before) n (last_installed n before) x) before
 
 abbrev pub is_notice : ℕ → ℕ → Letter → Option Body → Bool
 is_notice n f l (Some (body.Excluded epoch newest)) = (newest == f) && is_excluded_by f epoch n (so_far l.before) l.before
@@ -90,19 +91,19 @@ abbrev pub is_told_excluded : ℕ → ℕ → List Moment → Bool
 is_told_excluded n f before =
     list_any (is_own_exclusion n f before) (so_far before) || passes (λ l. is_letter name.Excluded l.from n l && is_notice n f l (says l.bytes)) (arrived before)
 
-abbrev pub HasDownCause : List Moment → Moment → Type 0
-HasDownCause before (down n cause.Crash) = under_way before ≡ Some (event.Crash n)
-HasDownCause before (stopped n) = stops_here n before ≡ true
-HasDownCause before (down n (cause.Panic (panic.Fenced d))) = list_any (is_fenced_write n d) (so_far before) ≡ true
-HasDownCause before (down n (cause.Panic (panic.Excluded f))) = is_told_excluded n f before ≡ true
+abbrev pub HasDownCause : Setting → List Moment → Moment → Type 0
+HasDownCause S before (down n cause.Crash) = under_way before ≡ Some (event.Crash n)
+HasDownCause S before (stopped n) = (stops_here n before ≡ true) × (may_save S n before ≡ true)
+HasDownCause S before (down n (cause.Panic (panic.Fenced d))) = list_any (is_fenced_write n d) (so_far before) ≡ true
+HasDownCause S before (down n (cause.Panic (panic.Excluded f))) = is_told_excluded n f before ≡ true
 -- no line of a schedule makes a local disk fail but by a stop
-HasDownCause before (down n (cause.Panic panic.Disk)) = ⊥
-HasDownCause before (down n (cause.Panic (panic.Stop resource))) = Unit {0}
-HasDownCause before (saved n) = stops_next n before ≡ false
-HasDownCause before _ = Unit {0}
+HasDownCause S before (down n (cause.Panic panic.Disk)) = ⊥
+HasDownCause S before (down n (cause.Panic (panic.Stop resource))) = Unit {0}
+HasDownCause S before (saved n) = stops_next n before ≡ false
+HasDownCause S before _ = Unit {0}
 
-abbrev pub GoesDown : List Moment → Moment → Type 0
-GoesDown before x = HasDownCause before x × StopsWhereDue (stop_due before) x
+abbrev pub GoesDown : Setting → List Moment → Moment → Type 0
+GoesDown S before x = HasDownCause S before x × StopsWhereDue (stop_due before) x
 
-abbrev pub Downs : List Moment → Type 0
-Downs moments = Always GoesDown moments
+abbrev pub Downs : Setting → List Moment → Type 0
+Downs S moments = Always (GoesDown S) moments

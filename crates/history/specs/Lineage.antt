@@ -1,11 +1,7 @@
 -- Lineage: each membership stands on the one before it, by number.
-use Rattle.std.specs.Prelude.{◌≡◌, ◌⊎◌, ℕ, ◌+◌, ◌==◌, ◌&&◌, nat_lt, false, if◌then◌else◌, List, [], ◌∷◌, ◌++◌, length, take, map, Option, Some, None}
+use Rattle.std.specs.Prelude.{◌≡◌, ◌⊎◌, ℕ, ◌+◌, ◌==◌, ◌&&◌, nat_lt, false, if◌then◌else◌, List, [], ◌∷◌, ◌++◌, length, take, Option, Some, None}
 use Rattle.std.specs.List.{list_any, AllByRecursion}
-use Rattle.history.specs.Moment.{Moment}
-use Rattle.history.specs.Starts.{starts, base_of, proposed_in, acked_in}
-
-abbrev pub start_numbers : List Moment → List ℕ
-start_numbers moments = map (λ s. s.epoch) (starts moments)
+use Rattle.history.specs.Deeds.{Deed, start_numbers, base_in, proposed_in, acked_in}
 
 -- none of these numbers comes twice
 abbrev pub AllDiffer : List ℕ → Type 0
@@ -26,11 +22,12 @@ abbrev pub Continues : List (List ℕ) → List (List ℕ) → ℕ → List (Lis
 Continues old proposed acked new = (new ≡ old ++ take acked proposed) ⊎ (new ≡ old ++ take (acked + 1) proposed)
 
 -- The first membership begins with no update. Each other stands on the one with the next smaller number.
-abbrev pub StandsOn : List Moment → ℕ → Option ℕ → Type 0
-StandsOn moments e None = base_of e moments ≡ []
-StandsOn moments e (Some f) = Continues (base_of f moments) (proposed_in f moments) (length (acked_in f moments)) (base_of e moments)
+abbrev pub StandsOn : List Deed → ℕ → Option ℕ → Type 0
+StandsOn deeds e None = base_in e deeds ≡ []
+StandsOn deeds e (Some f) = Continues (base_in f deeds) (proposed_in f deeds) (length (acked_in f deeds)) (base_in e deeds)
 
-pub record Lineage (moments : List Moment) : Type 0 where
+-- It is judged whenever a deed has come: a smaller number may start late, and then stands between two that started before.
+pub record Lineage (deeds : List Deed) : Type 0 where
   -- no two starts have the same number
-  pub once : AllDiffer (start_numbers moments)
-  pub stands : AllByRecursion (λ e. StandsOn moments e (last_below e (start_numbers moments))) (start_numbers moments)
+  pub once : AllDiffer (start_numbers deeds)
+  pub stands : AllByRecursion (λ e. StandsOn deeds e (last_below e (start_numbers deeds))) (start_numbers deeds)

@@ -1,8 +1,9 @@
 -- Answers, by the line: which entries a line of the schedule, or a part of a round, has, and when it is skipped.
-use Rattle.std.specs.Prelude.{◌≡◌, ◌⊎◌, ℕ, ◌==◌, ◌&&◌, not, nat_le, Bool, true, false, if◌then◌else◌, List, [], ◌∷◌, Option, Some, None, MatchOption, slice_get}
-use Rattle.std.specs.List.{list_any, count_by}
+use Rattle.std.specs.Prelude.{◌≡◌, ◌⊎◌, ℕ, ◌==◌, ◌&&◌, ◌||◌, not, Bool, true, false, if◌then◌else◌, List, [], ◌∷◌, ◌++◌, length, Option, Some, None, MatchOption, slice_get}
+use Rattle.std.specs.List.{list_any}
 use Rattle.cl_base.specs.Sets.{has}
 use Rattle.cl_base.specs.declared.panic.Panic.TheVariants.{Fenced}
+use Rattle.pgr_device.specs.declared.command.PrCommand.{PrCommand}
 use Rattle.pgr_device.specs.declared.command.PrCommand.TheVariants.{Write}
 use Rattle.pgr_device.specs.declared.command.PrCommand.TheVariants as command
 use Rattle.pgr_device.specs.declared.command.PrAnswer.TheVariants as answer
@@ -12,7 +13,7 @@ use Rattle.schedule_text.specs.declared.event.Event.TheVariants as event
 use Rattle.status_report.specs.declared.entry.Entry.TheVariants as entry
 use Rattle.status_report.specs.declared.call_entry.CallEntry.TheVariants as call
 use Rattle.status_report.specs.declared.node_entry.DownCause.TheVariants as cause
-use Rattle.status_report.specs.declared.packet_entry.DropCause.TheVariants as drop_cause
+use Rattle.cl_base.specs.declared.packet.DropCause.TheVariants as drop_cause
 use Rattle.status_report.specs.declared.device_entry.DeviceAnswer.{DeviceAnswer}
 use Rattle.status_report.specs.declared.device_entry.DeviceAnswer.TheVariants.{Given, Failed}
 use Rattle.status_report.specs.declared.device_entry.WriteRefusal.{WriteRefusal}
@@ -21,15 +22,15 @@ use Rattle.status_report.specs.declared.schedule_entry.SkipCause.{SkipCause}
 use Rattle.status_report.specs.declared.schedule_entry.SkipCause.TheVariants as skip
 use Rattle.interconnect.specs.Links.{Packet}
 use Rattle.history.specs.Moment.{Moment, Said, Part, Told}
-use Rattle.history.specs.Trace.{up, down, ticked, stopped, delivered, lost, repeated, dropped, device, accepted, refused, asked, clock_stands, queued, armed, skipped}
+use Rattle.history.specs.Trace.{up, down, ticked, stopped, delivered, lost, repeated, dropped, device, accepted, refused, asked, clock_stands, queued, armed, skipped, served}
 use Rattle.history.specs.Order.{EachEvent, since}
-use Rattle.history.specs.Setting.{Setting, paths_of}
+use Rattle.history.specs.Setting.{Setting, coordinator, paths_of, is_server}
 use Rattle.history.specs.DeviceRun.{armed_fault, state_of, answer_of}
 use Rattle.history.specs.Links.{in_flight, oldest}
 use Rattle.history.specs.Member.{is_up, member_of}
 use Rattle.history.specs.Starts.{Start, start_of}
 use Rattle.history.specs.Seizing.{is_install}
-use Rattle.history.specs.Round.{has_work}
+use Rattle.history.specs.Queue.{has_work, queued_of, due_of, queue_is_open}
 
 -- ---- when a line is skipped
 
@@ -51,14 +52,20 @@ number_in None = None
 number_in (Some p) = Some p.number
 
 -- the packet that a packet line is about
-abbrev pub packet_for : List Moment → Event → Option ℕ
-packet_for before (event.Deliver p) = number_in (in_flight p before)
-packet_for before (event.Lose p) = number_in (in_flight p before)
-packet_for before (event.Repeat p) = number_in (in_flight p before)
-packet_for before (event.Next a b) = oldest a b before
-packet_for before (event.Drop a b) = oldest a b before
-packet_for before (event.Again a b) = oldest a b before
-packet_for before _ = None
+abbrev pub packet_for : Setting → List Moment → Event → Option ℕ
+packet_for S before (event.Deliver p) = number_in (in_flight S.cells p before)
+packet_for S before (event.Lose p) = number_in (in_flight S.cells p before)
+packet_for S before (event.Repeat p) = number_in (in_flight S.cells p before)
+packet_for S before (event.Next a b) = oldest S.cells a b before
+packet_for S before (event.Drop a b) = oldest S.cells a b before
+packet_for S before (event.Again a b) = oldest S.cells a b before
+packet_for S before _ = None
+
+-- a client's request wants the president of a membership
+abbrev pub skip_president : ℕ → Bool → Option ℕ → Option SkipCause
+skip_president n false membership = Some skip.Down
+skip_president n true None = Some skip.NoPresident
+skip_president n true (Some e) = if coordinator e == n then None else Some skip.NoPresident
 
 -- the cause for which a line is skipped, if it is (where the monitor of a resource is not running, see the part on resource groups)
 abbrev pub skip_due : Setting → List Moment → Event → Option SkipCause
@@ -68,13 +75,14 @@ skip_due S before (event.Tick n) = skip_unless_up (is_up n before)
 skip_due S before (event.Write n d value) = skip_unless_up (is_up n before)
 skip_due S before (event.Command n words) = skip_unless_up (is_up n before)
 skip_due S before (event.Probe n resource good) = skip_unless_up (is_up n before)
-skip_due S before (event.Disk n) = skip_disk (is_up n before) (has_work S n before)
-skip_due S before (event.Deliver p) = skip_packet (packet_for before (event.Deliver p))
-skip_due S before (event.Lose p) = skip_packet (packet_for before (event.Lose p))
-skip_due S before (event.Repeat p) = skip_packet (packet_for before (event.Repeat p))
-skip_due S before (event.Next a b) = skip_packet (packet_for before (event.Next a b))
-skip_due S before (event.Drop a b) = skip_packet (packet_for before (event.Drop a b))
-skip_due S before (event.Again a b) = skip_packet (packet_for before (event.Again a b))
+skip_due S before (event.Client n address client port) = skip_president n (is_up n before) (member_of n before)
+skip_due S before (event.Disk n) = skip_disk (is_up n before) (has_work S n before || queue_is_open S n before)
+skip_due S before (event.Deliver p) = skip_packet (packet_for S before (event.Deliver p))
+skip_due S before (event.Lose p) = skip_packet (packet_for S before (event.Lose p))
+skip_due S before (event.Repeat p) = skip_packet (packet_for S before (event.Repeat p))
+skip_due S before (event.Next a b) = skip_packet (packet_for S before (event.Next a b))
+skip_due S before (event.Drop a b) = skip_packet (packet_for S before (event.Drop a b))
+skip_due S before (event.Again a b) = skip_packet (packet_for S before (event.Again a b))
 skip_due S before _ = None
 
 -- ---- writes
@@ -98,7 +106,7 @@ has_joined n d e before = holds_in d (start_of e before) && not (list_any (spoil
 abbrev pub refusal_due : Setting → List Moment → ℕ → ℕ → Option ℕ → Option WriteRefusal
 refusal_due S before n d None = Some refusal.NotMember
 refusal_due S before n d (Some e) =
-    if not (has (paths_of S.header d) n) then Some refusal.NoPath else (if has_joined n d e before then None else Some refusal.NotHeld)
+    if not (has (paths_of S.header d) n) || is_server S.header d then Some refusal.NoPath else (if has_joined n d e before then None else Some refusal.NotHeld)
 
 -- what the device's answer comes to
 abbrev pub written : ℕ → ℕ → ℕ → ℕ → DeviceAnswer → List Moment
@@ -123,17 +131,19 @@ write_entries S before n d value = asked_device S before n d value (refusal_due 
 
 -- ---- the entries of each line
 
-abbrev pub is_device_line : ℕ → Moment → Bool
-is_device_line n (device m d command reply) = m == n
-is_device_line n _ = false
-
-abbrev pub is_any_device_line : Moment → Bool
-is_any_device_line (device m d command reply) = true
-is_any_device_line _ = false
+-- the commands that n does in these entries, each on its device
+abbrev pub commands_in : ℕ → List Moment → List (ℕ × PrCommand)
+commands_in n [] = []
+commands_in n (device m d done reply ∷ later) = (if m == n then (d, done) ∷ [] else []) ++ commands_in n later
+commands_in n (_ ∷ later) = commands_in n later
 
 abbrev pub is_probe : ℕ → Moment → Bool
 is_probe n (Told (entry.Call (call.Probed m resource result))) = m == n
 is_probe n _ = false
+
+abbrev pub is_service : ℕ → ℕ → Moment → Bool
+is_service client port (served address c p _) = (c == client) && (p == port)
+is_service client port _ = false
 
 abbrev pub is_stopped : ℕ → Moment → Bool
 is_stopped n (stopped m) = m == n
@@ -151,9 +161,13 @@ abbrev pub is_asked_of : ℕ → Option Moment → Bool
 is_asked_of n (Some (asked m q)) = m == n
 is_asked_of n _ = false
 
--- or the node stops in a save before it
-abbrev pub OrStops : ℕ → Type 0 → List Moment → Type 0
-OrStops n P entries = P ⊎ (list_any (is_stopped n) entries ≡ true)
+-- A `disk` line does the command that is due; a node that stops in a save before it does none. Where the tasks of the node are not told, it
+-- does one command.
+abbrev pub DoesNext : Bool → ℕ → List (ℕ × PrCommand) → List Moment → Type 0
+DoesNext true n due entries =
+    (length (commands_in n entries) ≡ 1) ⊎ ((commands_in n entries ≡ []) × (list_any (is_stopped n) entries ≡ true)) ⊎ (entries ≡ skipped skip.NoWork ∷ [])
+DoesNext false n due entries =
+    (commands_in n entries ≡ due) ⊎ ((commands_in n entries ≡ []) × (list_any (is_stopped n) entries ≡ true))
 
 -- where its receiver is down a packet is dropped, and nothing else happens
 abbrev pub ArrivesOr : Bool → ℕ → ℕ → ℕ → List Moment → Type 0
@@ -173,19 +187,21 @@ HasEntries S before (event.Boot n) entries = BeginWith (up n) entries
 HasEntries S before (event.Crash n) entries = entries ≡ down n cause.Crash ∷ []
 HasEntries S before (event.CrashAt n calls choice) entries = entries ≡ armed ∷ []
 HasEntries S before (event.Tick n) entries = BeginWith (ticked n) entries
-HasEntries S before (event.Deliver p) entries = OfPacket (packet_for before (event.Deliver p)) (λ k. Arrives before k entries (in_flight k before))
-HasEntries S before (event.Next a b) entries = OfPacket (packet_for before (event.Next a b)) (λ k. Arrives before k entries (in_flight k before))
-HasEntries S before (event.Lose p) entries = OfPacket (packet_for before (event.Lose p)) (λ k. entries ≡ lost k ∷ [])
-HasEntries S before (event.Drop a b) entries = OfPacket (packet_for before (event.Drop a b)) (λ k. entries ≡ lost k ∷ [])
-HasEntries S before (event.Repeat p) entries = OfPacket (packet_for before (event.Repeat p)) (λ k. is_copy_of k (slice_get entries 0) ≡ true)
-HasEntries S before (event.Again a b) entries = OfPacket (packet_for before (event.Again a b)) (λ k. is_copy_of k (slice_get entries 0) ≡ true)
-HasEntries S before (event.Disk n) entries =
-    OrStops n (list_any (is_device_line n) entries ≡ true) entries × (nat_le (count_by is_any_device_line entries) 1 ≡ true)
+HasEntries S before (event.Deliver p) entries = OfPacket (packet_for S before (event.Deliver p)) (λ k. Arrives before k entries (in_flight S.cells k before))
+HasEntries S before (event.Next a b) entries = OfPacket (packet_for S before (event.Next a b)) (λ k. Arrives before k entries (in_flight S.cells k before))
+HasEntries S before (event.Lose p) entries = OfPacket (packet_for S before (event.Lose p)) (λ k. entries ≡ lost k ∷ [])
+HasEntries S before (event.Drop a b) entries = OfPacket (packet_for S before (event.Drop a b)) (λ k. entries ≡ lost k ∷ [])
+HasEntries S before (event.Repeat p) entries = OfPacket (packet_for S before (event.Repeat p)) (λ k. is_copy_of k (slice_get entries 0) ≡ true)
+HasEntries S before (event.Again a b) entries = OfPacket (packet_for S before (event.Again a b)) (λ k. is_copy_of k (slice_get entries 0) ≡ true)
+HasEntries S before (event.Disk n) entries = DoesNext (queue_is_open S n before) n (due_of (queued_of S n before)) entries
 HasEntries S before (event.Fault n d done) entries = entries ≡ armed ∷ []
 HasEntries S before (event.Write n d value) entries = entries ≡ write_entries S before n d value
 HasEntries S before (event.Command n words) entries = is_asked_of n (slice_get entries 0) ≡ true
 HasEntries S before (event.Outcome n resource method outcome) entries = entries ≡ queued ∷ []
 HasEntries S before (event.Probe n resource good) entries = (list_any (is_probe n) entries ≡ true) ⊎ (entries ≡ skipped skip.NoMonitor ∷ [])
+-- which addresses there are, and which node serves the request, see the part on resource groups
+HasEntries S before (event.Client n address client port) entries =
+    (list_any (is_service client port) entries ≡ true) ⊎ (entries ≡ skipped skip.NoAddress ∷ [])
 HasEntries S before (event.Clock s) entries = entries ≡ clock_stands s ∷ []
 -- the parts of the rounds stand after this line, and `rounds done` after them (Round)
 HasEntries S before (event.Rounds count nodes) entries = entries ≡ []

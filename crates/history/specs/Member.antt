@@ -2,11 +2,11 @@
 -- no attempt and saved nothing in the event of a Collect that was delivered to it.
 use Rattle.std.specs.Prelude.{ℕ, ◌==◌, ◌&&◌, Bool, true, false, if◌then◌else◌, List, [], ◌∷◌, Option, Some, None}
 use Rattle.std.specs.Option.{option_and_then}
-use Rattle.status_report.specs.declared.packet_entry.MessageName.{MessageName}
-use Rattle.status_report.specs.declared.packet_entry.MessageName.TheVariants as name
+use Rattle.history.specs.Names as name
+use Rattle.history.specs.Names.{same_name}
 use Rattle.history.specs.Moment.{Moment}
-use Rattle.history.specs.Trace.{up, down, saved, installed, member, attempt, sent, stopped, disk_failed}
-use Rattle.history.specs.Letters.{Letter, arrived, passes, same_name}
+use Rattle.history.specs.Trace.{up, down, saved, installed, member, attempt, stopped, disk_failed}
+use Rattle.history.specs.Letters.{Letter, arrived, passes}
 use Rattle.history.specs.Setting.{coordinator}
 
 abbrev pub is_up : ℕ → List Moment → Bool
@@ -52,21 +52,18 @@ members_of e (_ ∷ before) = members_of e before
 abbrev pub number_of : Letter → Option ℕ
 number_of l = attempt_of l.from l.before
 
--- the number of the Promise that is sent next: that of the Collect that was delivered in this event
+-- the number that is promised in this event: that of the Collect that was delivered
 abbrev pub promised_to : List Moment → Option ℕ
 promised_to before = option_and_then number_of (arrived before)
 
-abbrev pub is_promise : MessageName → Bool
-is_promise called = same_name called name.Promise
-
--- the session of n: the number of its last Promise since it went up, or of the attempt that it began after that
+-- the session of n: the number that it promised last since it went up, be it for a Collect or for an attempt of its own. It changes where
+-- the promise is saved, and so does the membership of n.
 abbrev pub session_of : ℕ → List Moment → Option ℕ
 session_of n [] = None
 session_of n (up m ∷ before) = if m == n then None else session_of n before
 session_of n (down m why ∷ before) = if m == n then None else session_of n before
 session_of n (attempt e members ∷ before) = if coordinator e == n then Some e else session_of n before
-session_of n (sent p m b called bytes ∷ before) =
-    if (m == n) && is_promise called then promised_to before else session_of n before
+session_of n (saved m ∷ before) = if (m == n) && in_collect n before then promised_to before else session_of n before
 session_of n (_ ∷ before) = session_of n before
 
 -- the installed epoch of n: that of its last `installed` line, or 0 without one; None, where a later save may have stopped

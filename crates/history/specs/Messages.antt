@@ -1,23 +1,25 @@
 -- Answers, of messages: those that are owed stand in the event that calls for them, unless the node that owes them goes down in it; and
 -- all doings of nodes in one event are of one node.
-use Rattle.std.specs.Prelude.{◌≡◌, ℕ, ◌+◌, ◌-◌, ◌^◌, ◌==◌, ◌&&◌, ◌||◌, not, Bool, true, false, if◌then◌else◌, List, [], ◌∷◌, length, Option, Some, None, is_some, IfSome}
+use Rattle.std.specs.Prelude.{◌≡◌, ℕ, ◌+◌, ◌==◌, ◌&&◌, ◌||◌, not, Bool, true, false, if◌then◌else◌, List, [], ◌∷◌, length, Option, Some, None, is_some, IfSome}
 use Rattle.std.specs.List.{list_any, list_all, AllByRecursion}
 use Rattle.schedule_text.specs.declared.event.Event.{Event}
 use Rattle.schedule_text.specs.declared.event.Event.TheVariants as event
-use Rattle.status_report.specs.declared.packet_entry.MessageName.{MessageName}
-use Rattle.status_report.specs.declared.packet_entry.MessageName.TheVariants as name
 use Rattle.status_report.specs.declared.entry.Entry.TheVariants as entry
 use Rattle.status_report.specs.declared.call_entry.CallEntry.TheVariants as call
 use Rattle.history.specs.Moment.{Moment, event_of}
 use Rattle.history.specs.Moment.{Told}
-use Rattle.history.specs.Trace.{up, down, stopped, ticked, saved, installed, member, sent, delivered, device, accepted, refused, attempt, ended_votes, ended_superseded, ended_silent, ended_excluded, start, base, adopt, propose, ack, asked, answered}
+use Rattle.history.specs.Names as name
+use Rattle.history.specs.Names.{Name, named}
+use Rattle.history.specs.Trace.{up, down, stopped, ticked, saved, installed, member, sent, delivered, device, accepted, refused, attempt, ended_votes, ended_superseded, ended_silent, ended_excluded, ended_foreign, start, base, adopt, propose, ack, asked, answered}
 use Rattle.history.specs.Order.{EachEvent, since}
-use Rattle.history.specs.Setting.{Setting, coordinator, numbers_to}
-use Rattle.history.specs.Letters.{Letter, letter_of, same_name, is_exchanged, reached_since, is_letter}
+use Rattle.history.specs.Setting.{Setting, coordinator}
+use Rattle.history.specs.Letters.{Letter, letter_of, sends, is_exchanged, reached_since, is_letter}
 use Rattle.history.specs.Member.{member_of, members_of, session_of, number_of}
-use Rattle.history.specs.Starts.{start_of}
-use Rattle.history.specs.Seizing.{is_boot, is_start}
-use Rattle.history.specs.Contact.{is_number, others, members_in, is_proposal}
+use Rattle.history.specs.Starts.{start_of, members_in}
+use Rattle.history.specs.Seizing.{is_boot, is_start, is_number, or_else}
+use Rattle.history.specs.Requests.{number_asked}
+use Rattle.history.specs.Contact.{others, is_proposal}
+use Rattle.history.specs.Queue.{queue_of, is_queued, has_work}
 use Rattle.history.specs.Commands.{is_monitors, waits}
 
 -- ---- entries
@@ -27,17 +29,13 @@ abbrev pub onto : List Moment → List Moment → List Moment
 onto before [] = before
 onto before (x ∷ later) = onto (x ∷ before) later
 
-abbrev pub is_sent_to : ℕ → ℕ → MessageName → Moment → Bool
-is_sent_to n m called (sent p a b found bytes) = (a == n) && (b == m) && same_name found called
-is_sent_to n m called _ = false
-
 abbrev pub is_down_of : ℕ → Moment → Bool
 is_down_of n (down m why) = m == n
 is_down_of n _ = false
 
 -- n sends the message to m in these entries, or goes down
-abbrev pub sends_or_falls : ℕ → ℕ → MessageName → List Moment → Bool
-sends_or_falls n m called entries = list_any (λ x. is_sent_to n m called x || is_down_of n x) entries
+abbrev pub sends_or_falls : ℕ → ℕ → Name → List Moment → Bool
+sends_or_falls n m called entries = list_any (λ x. sends n m called x || is_down_of n x) entries
 
 -- ---- replies
 
@@ -54,22 +52,16 @@ is_fellow n l before = are_same (member_of n before) (member_of l.from l.before)
 abbrev pub is_in_session : ℕ → Letter → List Moment → Bool
 is_in_session n l before = are_same (session_of n before) (number_of l) && not (is_some (member_of n before))
 
-abbrev pub is_queued : Setting → List Moment → ℕ → ℕ → Bool
-is_queued S moments n d = list_any (λ x. x == d) (S.queue moments n)
-
-abbrev pub is_idle : Setting → List Moment → ℕ → Bool
-is_idle S moments n = length (S.queue moments n) == 0
-
 -- what a letter that is delivered to n calls for, in these entries, with these moments before the event and these after it
-abbrev pub replies : Setting → ℕ → Letter → MessageName → List Moment → List Moment → List Moment → Bool
+abbrev pub replies : Setting → ℕ → Letter → Name → List Moment → List Moment → List Moment → Bool
 replies S n l (name.Order k) before entries after = not (is_fellow n l before) || sends_or_falls n l.from (name.Done k) entries
 replies S n l (name.Prepare v) before entries after = not (is_fellow n l before) || sends_or_falls n l.from (name.Prepared v) entries
 replies S n l name.Collect before entries after = sends_or_falls n l.from name.Promise entries || sends_or_falls n l.from name.Nack entries
 replies S n l (name.SeizeQuorum d) before entries after =
-    not (is_in_session n l before) || is_queued S after n d || sends_or_falls n l.from (name.Seized d) entries
+    not (is_in_session n l before) || is_queued S n d after || sends_or_falls n l.from (name.Seized d) entries
 replies S n l (name.SeizeData d) before entries after =
-    not (is_in_session n l before) || is_queued S after n d || sends_or_falls n l.from (name.Seized d) entries
-replies S n l name.Install before entries after = not (is_in_session n l before) || not (is_idle S after n) || sends_or_falls n l.from name.Ready entries
+    not (is_in_session n l before) || is_queued S n d after || sends_or_falls n l.from (name.Seized d) entries
+replies S n l name.Install before entries after = not (is_in_session n l before) || has_work S n after || sends_or_falls n l.from name.Ready entries
 replies S n l _ before entries after = true
 
 abbrev pub replies_to : Setting → ℕ → Option Letter → List Moment → List Moment → List Moment → Bool
@@ -93,7 +85,7 @@ is_install_of n before l = is_letter name.Install l.from n l && is_in_session n 
 -- a task of n on d ended in these entries
 abbrev pub ended_task : Setting → List Moment → List Moment → ℕ → List ℕ → Option ℕ
 ended_task S before after n [] = None
-ended_task S before after n (d ∷ others) = if is_queued S after n d then None else Some d
+ended_task S before after n (d ∷ others) = if is_queued S n d after then None else Some d
 
 -- the coordinator of a session
 abbrev pub owner_of : Option ℕ → ℕ
@@ -106,12 +98,12 @@ ReportsTask S before n entries after None = Unit {0}
 ReportsTask S before n entries after (Some d) =
     ((not (reached_since (is_boot n) (is_seize_of n d before) before) || reached_since (is_boot n) (is_install_of n before) before
     || sends_or_falls n (owner_of (session_of n before)) (name.Seized d) entries) ≡ true)
-    × ((not (reached_since (is_boot n) (is_install_of n before) before) || not (is_idle S after n)
+    × ((not (reached_since (is_boot n) (is_install_of n before) before) || has_work S n after
     || sends_or_falls n (owner_of (session_of n before)) name.Ready entries) ≡ true)
 
 abbrev pub ReportsDisk : Setting → List Moment → Moment → Option Event → List Moment → Type 0
 ReportsDisk S before x (Some (event.Disk n)) entries =
-    ReportsTask S before n entries (onto (x ∷ before) entries) (ended_task S before (onto (x ∷ before) entries) n (S.queue before n))
+    ReportsTask S before n entries (onto (x ∷ before) entries) (ended_task S before (onto (x ∷ before) entries) n (queue_of S n before))
 ReportsDisk S before x _ entries = Unit {0}
 
 -- ---- Prepares and Requests
@@ -134,7 +126,7 @@ abbrev pub passes_on : ℕ → ℕ → List ℕ → List Moment → Bool
 passes_on n e members_but_n entries =
     if length members_but_n == 0
     then list_any (λ x. is_start e x || is_stop_of n x) entries
-    else list_all (λ m. list_any (is_sent_to n m name.Install) entries) members_but_n
+    else list_all (λ m. list_any (sends n m name.Install) entries) members_but_n
 
 abbrev pub EachInstall : List Moment → List Moment → List Moment → Type 0
 EachInstall before entries [] = Unit {0}
@@ -149,9 +141,9 @@ one_more None = None
 one_more (Some k) = Some (k + 1)
 
 -- how many ticks of n came since it last sent the message to m; None, where it sent none
-abbrev pub ticks_since : ℕ → ℕ → MessageName → List Moment → Option ℕ
+abbrev pub ticks_since : ℕ → ℕ → Name → List Moment → Option ℕ
 ticks_since n m called [] = None
-ticks_since n m called (sent p a b found bytes ∷ before) = if is_sent_to n m called (sent p a b found bytes) then Some 0 else ticks_since n m called before
+ticks_since n m called (sent p a b found bytes ∷ before) = if sends n m called (sent p a b found bytes) then Some 0 else ticks_since n m called before
 ticks_since n m called (ticked k ∷ before) = if k == n then one_more (ticks_since n m called before) else ticks_since n m called before
 ticks_since n m called (_ ∷ before) = ticks_since n m called before
 
@@ -207,8 +199,12 @@ RequestsOf before entries after n =
     (list_any (is_monitors n) (since (is_boot n) after)
     || requests n (member_of n after) (oldest_waiting n after after) (oldest_waiting n before before) entries) ≡ true
 
-abbrev pub EachRequest : Setting → List Moment → List Moment → List Moment → Type 0
-EachRequest S before entries after = AllByRecursion (RequestsOf before entries after) (numbers_to S.header.nodes (2 ^ 32 - 1))
+-- the oldest changes only where a command is asked or answered
+abbrev pub EachRequest : List Moment → List Moment → List Moment → List Moment → Type 0
+EachRequest before entries after [] = Unit {0}
+EachRequest before entries after (asked n q ∷ later) = RequestsOf before entries after n × EachRequest before entries after later
+EachRequest before entries after (answered n q reply ∷ later) = RequestsOf before entries after n × EachRequest before entries after later
+EachRequest before entries after (x ∷ later) = EachRequest before entries after later
 
 -- ---- a Request that lacks its Answer goes again
 
@@ -219,7 +215,7 @@ is_membership_of n _ = false
 -- the number of the last Request that n sent
 abbrev pub last_request : ℕ → List Moment → Option ℕ
 last_request n [] = None
-last_request n (sent p m b (name.Request q) bytes ∷ before) = if m == n then Some q else last_request n before
+last_request n (sent p m b called bytes ∷ before) = if m == n then or_else (number_asked (named called)) (last_request n before) else last_request n before
 last_request n (_ ∷ before) = last_request n before
 
 -- among the moments since n became a member under the president c: the Request went out three ticks ago, so this is the fourth, and its
@@ -255,6 +251,7 @@ actor_of (ended_votes e have need lacking) = Some (coordinator e)
 actor_of (ended_superseded e q) = Some (coordinator e)
 actor_of (ended_silent e m) = Some (coordinator e)
 actor_of (ended_excluded e m) = Some (coordinator e)
+actor_of (ended_foreign e m) = Some (coordinator e)
 actor_of (start e members held count) = Some (coordinator e)
 actor_of (base e v words) = Some (coordinator e)
 actor_of (adopt e n resource flags) = Some (coordinator e)
@@ -285,7 +282,7 @@ pub record Owes (S : Setting) (before : List Moment) (x : Moment) (entries : Lis
   pub prepares : EachProposal before entries entries
   pub installs : EachInstall before entries entries
   pub prepares_again : PreparesAgain before (event_of x) entries
-  pub requests : EachRequest S before entries (onto (x ∷ before) entries)
+  pub requests : EachRequest before entries (onto (x ∷ before) entries) entries
   pub requests_again : RequestsAgain before (event_of x) entries
   pub one_node : are_of_one None entries ≡ true
 

@@ -2,31 +2,17 @@
 use Rattle.std.specs.Prelude.{◌≡◌, List, [], ◌∷◌, Bool, true, false, ◌||◌, if◌then◌else◌, Option, None}
 use Rattle.schedule_text.specs.declared.event.Event.{Event}
 use Rattle.history.specs.Moment.{Moment, Said, Part, Told, event_of}
-use Rattle.history.specs.Trace.{base, adopt, rounds_done}
+use Rattle.history.specs.Trace.{rounds_done}
 
 -- P holds at each moment, of what was before it and of the moment.
 abbrev pub Always : (List Moment → Moment → Type 0) → List Moment → Type 0
 Always P [] = Unit {0}
 Always P (x ∷ before) = P before x × Always P before
 
--- A start counts from the last of its `base` and `adopt` lines on: what ends directly before such a line is no whole prefix.
-abbrev pub goes_on : Moment → Bool
-goes_on (base e v words) = true
-goes_on (adopt e n resource flags) = true
-goes_on _ = false
-
+-- P, unless the test passes
 abbrev pub Unless : Bool → Type 0 → Type 0
 Unless true P = Unit {0}
 Unless false P = P
-
--- P holds of each whole prefix that ends before a moment ..
-abbrev pub OfEarlier : (List Moment → Type 0) → List Moment → Type 0
-OfEarlier P [] = Unit {0}
-OfEarlier P (x ∷ before) = Unless (goes_on x) (P before) × OfEarlier P before
-
--- .. and of these moments themselves: so of every whole prefix.
-abbrev pub OfPrefixes : (List Moment → Type 0) → List Moment → Type 0
-OfPrefixes P moments = P moments × OfEarlier P moments
 
 -- whether test passes at some moment, of what was before it and of the moment
 abbrev pub somewhere : (List Moment → Moment → Bool) → List Moment → Bool

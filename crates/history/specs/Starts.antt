@@ -1,8 +1,10 @@
--- What stands of memberships in a trace: their starts, their bases, and the updates proposed and acknowledged in them.
-use Rattle.std.specs.Prelude.{◌≡◌, ℕ, ◌+◌, ◌==◌, nat_lt, Bool, if◌then◌else◌, List, [], ◌∷◌, ◌++◌, map, Option, Some, None}
+-- The starts of memberships in a trace. A start has the lines `start e .. base K`, and right after it K lines `base e V ..` with V from 1
+-- to K; it is complete with the last of them.
+use Rattle.std.specs.Prelude.{◌≡◌, ℕ, ◌+◌, ◌==◌, nat_lt, Bool, if◌then◌else◌, List, [], ◌∷◌, ◌++◌, length, Option, Some, None, IfSome}
 use Rattle.std.specs.List.{list_any, find}
+use Rattle.std.specs.Option.{option_and_then}
 use Rattle.history.specs.Moment.{Moment}
-use Rattle.history.specs.Trace.{start, base, propose, ack}
+use Rattle.history.specs.Trace.{start, base}
 use Rattle.history.specs.Order.{Always}
 
 -- a `start` line
@@ -11,12 +13,6 @@ pub record Start : Type 0 where
   pub members : ℕ
   pub held : ℕ
   pub count : ℕ
-
--- a `propose` or an `ack` line
-pub record Update : Type 0 where
-  pub epoch : ℕ
-  pub place : ℕ
-  pub words : List ℕ
 
 -- the starts, newest first
 abbrev pub starts : List Moment → List Start
@@ -30,57 +26,41 @@ start_of e moments = find (λ s. s.epoch == e) (starts moments)
 abbrev pub is_started : ℕ → List Moment → Bool
 is_started e moments = list_any (λ s. s.epoch == e) (starts moments)
 
--- the updates of the base of e, in order
-abbrev pub base_of : ℕ → List Moment → List (List ℕ)
-base_of e [] = []
-base_of e (base f v words ∷ before) = base_of e before ++ (if f == e then words ∷ [] else [])
-base_of e (_ ∷ before) = base_of e before
+abbrev pub members_in : Option Start → ℕ
+members_in None = 0
+members_in (Some s) = s.members
 
--- the `propose` lines, newest first, and the `ack` lines
-abbrev pub proposals : List Moment → List Update
-proposals [] = []
-proposals (propose e v words ∷ before) = record { epoch = e; place = v; words = words } ∷ proposals before
-proposals (_ ∷ before) = proposals before
+-- ---- the lines of a start
 
-abbrev pub acks : List Moment → List Update
-acks [] = []
-acks (ack e v words ∷ before) = record { epoch = e; place = v; words = words } ∷ acks before
-acks (_ ∷ before) = acks before
+-- the start whose lines stand last
+abbrev pub start_so_far : List Moment → Option Start
+start_so_far [] = None
+start_so_far (start e members held count ∷ before) = Some (record { epoch = e; members = members; held = held; count = count })
+start_so_far (base e v words ∷ before) = start_so_far before
+start_so_far (_ ∷ before) = None
 
--- the updates of e among these, the oldest first
-abbrev pub updates_in : ℕ → List Update → List Update
-updates_in e [] = []
-updates_in e (u ∷ older) = updates_in e older ++ (if u.epoch == e then u ∷ [] else [])
-
-abbrev pub proposed_in : ℕ → List Moment → List (List ℕ)
-proposed_in e moments = map (λ u. u.words) (updates_in e (proposals moments))
-
-abbrev pub acked_in : ℕ → List Moment → List (List ℕ)
-acked_in e moments = map (λ u. u.words) (updates_in e (acks moments))
-
--- Configuration: the updates in force in e are its base, and then those that are acknowledged in it.
-abbrev pub in_force : ℕ → List Moment → List (List ℕ)
-in_force e moments = base_of e moments ++ acked_in e moments
-
--- ---- the lines of a start: `start e .. base K`, and right after it K lines `base e V ..` with V from 1 to K
-
-abbrev pub next_base : ℕ → ℕ → ℕ → Option (ℕ × ℕ)
-next_base e v count = if nat_lt v count then Some (e, v + 1) else None
-
-abbrev pub count_in : Option Start → ℕ
-count_in None = 0
-count_in (Some s) = s.count
+-- the updates of the `base` lines that stand last, in order
+abbrev pub base_so_far : List Moment → List (List ℕ)
+base_so_far [] = []
+base_so_far (base e v words ∷ before) = base_so_far before ++ words ∷ []
+base_so_far (_ ∷ before) = []
 
 -- epoch and place of the `base` line that is to come next
 abbrev pub base_due : List Moment → Option (ℕ × ℕ)
-base_due [] = None
-base_due (start e members held count ∷ before) = next_base e 0 count
-base_due (base e v words ∷ before) = next_base e v (count_in (start_of e before))
-base_due (_ ∷ before) = None
+base_due moments =
+    option_and_then (λ (s : Start). if nat_lt (length (base_so_far moments)) s.count then Some (s.epoch, length (base_so_far moments) + 1) else None) (start_so_far moments)
 
-abbrev pub base_in : Moment → Option (ℕ × ℕ)
-base_in (base e v words) = Some (e, v)
-base_in _ = None
+abbrev pub base_line : Moment → Option (ℕ × ℕ)
+base_line (base e v words) = Some (e, v)
+base_line _ = None
 
 abbrev pub StartLines : List Moment → Type 0
-StartLines moments = Always (λ before x. base_in x ≡ base_due before) moments
+StartLines moments = Always (λ before x. base_line x ≡ base_due before) moments
+
+-- the start of which the newest moment is the last line
+abbrev pub completed : List Moment → Option Start
+completed moments = option_and_then (λ (s : Start). if length (base_so_far moments) == s.count then Some s else None) (start_so_far moments)
+
+-- P holds of each start and its base, where it is complete, with the moments up to there.
+abbrev pub EachStart : (List Moment → Start → List (List ℕ) → Type 0) → List Moment → Type 0
+EachStart P moments = Always (λ before x. IfSome (completed (x ∷ before)) (λ s. P (x ∷ before) s (base_so_far (x ∷ before)))) moments

@@ -1,6 +1,6 @@
 -- The moments by the words of their lines: `up n` is the entry that prints as the line `up N`, and `boots n` is the line `boot N` of a
 -- schedule. Nothing is said here but how they are called.
-use Rattle.std.specs.Prelude.{ℕ, List, Bool}
+use Rattle.std.specs.Prelude.{ℕ, List, Bool, Option}
 use Rattle.cl_base.specs.declared.panic.Panic.TheVariants as panic
 use Rattle.pgr_device.specs.declared.command.PrCommand.{PrCommand}
 use Rattle.schedule_text.specs.declared.line.Line.TheVariants as line
@@ -10,17 +10,18 @@ use Rattle.status_report.specs.declared.entry.Entry.TheVariants as entry
 use Rattle.status_report.specs.declared.node_entry.NodeEntry.TheVariants as node
 use Rattle.status_report.specs.declared.node_entry.DownCause.{DownCause}
 use Rattle.status_report.specs.declared.node_entry.DownCause.TheVariants as cause
-use Rattle.status_report.specs.declared.packet_entry.MessageName.{MessageName}
-use Rattle.status_report.specs.declared.packet_entry.DropCause.{DropCause}
+use Rattle.cl_base.specs.declared.packet.MessageName.{MessageName}
+use Rattle.cl_base.specs.declared.packet.DropCause.{DropCause}
 use Rattle.status_report.specs.declared.packet_entry.PacketEntry.TheVariants as packet
 use Rattle.status_report.specs.declared.device_entry.DeviceAnswer.{DeviceAnswer}
 use Rattle.status_report.specs.declared.device_entry.WriteRefusal.{WriteRefusal}
 use Rattle.status_report.specs.declared.device_entry.DeviceEntry.TheVariants as device_entry
-use Rattle.status_report.specs.declared.attempt_entry.Lack.{Lack}
+use Rattle.cl_base.specs.declared.seizing.Lack.{Lack}
 use Rattle.status_report.specs.declared.attempt_entry.AttemptEntry.TheVariants as attempt_entry
 use Rattle.status_report.specs.declared.start_entry.AdoptedFlags.{AdoptedFlags}
 use Rattle.status_report.specs.declared.start_entry.StartEntry.TheVariants as start_entry
 use Rattle.status_report.specs.declared.update_entry.UpdateEntry.TheVariants as update
+use Rattle.status_report.specs.declared.address_entry.AddressEntry.TheVariants as address_entry
 use Rattle.status_report.specs.declared.command_entry.Answer.{Answer}
 use Rattle.status_report.specs.declared.command_entry.CommandEntry.TheVariants as command
 use Rattle.status_report.specs.declared.schedule_entry.SkipCause.{SkipCause}
@@ -93,6 +94,9 @@ ended_silent e m = Told (entry.Attempt (attempt_entry.Silent e m))
 pattern abbrev pub ended_excluded : ℕ → ℕ → Moment
 ended_excluded e m = Told (entry.Attempt (attempt_entry.Excluded e m))
 
+pattern abbrev pub ended_foreign : ℕ → ℕ → Moment
+ended_foreign e m = Told (entry.Attempt (attempt_entry.Foreign e m))
+
 pattern abbrev pub start : ℕ → ℕ → ℕ → ℕ → Moment
 start e members held count = Told (entry.Start (start_entry.Started e members held count))
 
@@ -113,6 +117,9 @@ asked n q = Told (entry.Command (command.Asked n q))
 
 pattern abbrev pub answered : ℕ → ℕ → Answer → Moment
 answered n q answer = Told (entry.Command (command.Answered n q answer))
+
+pattern abbrev pub served : List ℕ → ℕ → ℕ → Option ℕ → Moment
+served address client port node = Told (entry.Address (address_entry.Served address client port node))
 
 pattern abbrev pub clock_stands : ℕ → Moment
 clock_stands s = Told (entry.Schedule (schedule.Clock s))

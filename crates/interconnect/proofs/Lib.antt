@@ -7,3 +7,4 @@ mod Indexes
 mod Finds
 mod Sends
 mod Crowds
+pub mod FirstFrom

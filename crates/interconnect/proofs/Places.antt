@@ -94,13 +94,13 @@ below_more ps m n p pairs l e less k b =
       | inr upper ↦ let same : m ≡ k = omega arith in subst (λ (j : ℕ). get_or (numbers_of ps) j 0 < n) same (omega arith)
     ]
 
-pub above_more : (ps : List Place) (m n : ℕ) (p : Place) → Pairs ps → m < length ps → p ≡ get_or ps m p → n < p.number
-    → (k : ℕ) → m ≤ k → k < length ps → n < get_or (numbers_of ps) k 0
-above_more ps m n p pairs l e more k b t =
+pub from_more : (ps : List Place) (m n : ℕ) (p : Place) → Pairs ps → m < length ps → p ≡ get_or ps m p → n ≤ p.number
+    → (k : ℕ) → m ≤ k → k < length ps → n ≤ get_or (numbers_of ps) k 0
+from_more ps m n p pairs l e more k b t =
     let here : get_or (numbers_of ps) m 0 ≡ p.number = get_or-map (λ (v : Place). v.number) ps m p 0 l ∙ ap (λ (v : Place). v.number) (sym e) in
-    elim (cases_lt m k) as (λ _. n < get_or (numbers_of ps) k 0) [
+    elim (cases_lt m k) as (λ _. n ≤ get_or (numbers_of ps) k 0) [
       | inl upper ↦ let q = pairs m k upper t in omega arith
-      | inr lower ↦ let same : m ≡ k = omega arith in subst (λ (j : ℕ). n < get_or (numbers_of ps) j 0) same (omega arith)
+      | inr lower ↦ let same : m ≡ k = omega arith in subst (λ (j : ℕ). n ≤ get_or (numbers_of ps) j 0) same (omega arith)
     ]
 
 -- a packet of another number in front, and of this one

@@ -1,6 +1,7 @@
 -- How the packets in flight stand in the pool: each has a chain of its own there.
 use Rattle.std.specs.Prelude.{ℕ, ◌+◌, ◌≤◌, ◌≡◌, ◌≢◌, List, [], ◌∷◌, Option, length, map, sum_by}
 use Rattle.cell_pool.specs.Cells.{IsInUse, bytes_of, used_cells}
+use Rattle.cl_base.specs.Limits.{most_packets}
 use Rattle.interconnect.specs.declared.by_number.Held.{Held}
 use Rattle.interconnect.specs.Links.{Packet, cells_of, count_on}
 use Rattle.interconnect.specs.Numbers.{IsIndex}
@@ -42,6 +43,6 @@ pub record IsWhole (pool : List (Option (List ℕ))) (packets : Numbered) (links
   pub sound : IsSound pool packets.held packets.most packets.next
   pub index : IsIndex links packets.held
 
--- no link has more than 64 packets
+-- no link has more packets than it holds
 abbrev pub IsUncrowded : List Packet → Type 0
-IsUncrowded packets = (from to : ℕ) → count_on packets from to ≤ 64
+IsUncrowded packets = (from to : ℕ) → count_on packets from to ≤ most_packets

@@ -1,9 +1,10 @@
 -- What the links hold: the packets in flight, in the order of their numbers. Nothing here speaks
 -- of the places in which they stand.
-use Rattle.std.specs.Prelude.{ℕ, ◌+◌, ◌-◌, ◌==◌, ◌&&◌, not, nat_lt, Bool, if◌then◌else◌, List, [], ◌∷◌, ◌++◌, Option, Some, None, length, filter, find, sum_by, count_by, drop}
+use Rattle.std.specs.Prelude.{ℕ, ◌+◌, ◌-◌, ◌≤◌, ◌==◌, ◌&&◌, not, nat_lt, nat_le, Bool, if◌then◌else◌, List, [], ◌∷◌, ◌++◌, Option, Some, None, length, filter, find, sum_by, count_by, drop}
 use Rattle.std.specs.Option.{option_map}
 use Rattle.cell_pool.specs.Cells.{cells_for}
-use Rattle.interconnect.specs.declared.packet.DropCause.TheVariants.{Link, Pool}
+use Rattle.cl_base.specs.Limits.{most_packets}
+use Rattle.cl_base.specs.declared.packet.DropCause.TheVariants.{Link, Pool}
 use Rattle.interconnect.specs.declared.packet.Sent.{Sent}
 use Rattle.interconnect.specs.declared.packet.Delivery.{Delivery}
 
@@ -40,6 +41,19 @@ count_on packets from to = count_by (is_on from to) packets
 abbrev pub oldest_on : List Packet → ℕ → ℕ → Option ℕ
 oldest_on packets from to = option_map (λ p. p.number) (find (is_on from to) packets)
 
+-- the numbers rise, from low on, and stay below the next
+abbrev pub NumbersRise : ℕ → List Packet → ℕ → Type 0
+NumbersRise low [] next = low ≤ next
+NumbersRise low (p ∷ rest) next = (low ≤ p.number) × NumbersRise (p.number + 1) rest next
+
+-- the first packet in flight of this number or a greater one, by its number
+abbrev pub first_from_of : List Packet → ℕ → Option ℕ
+first_from_of packets number = option_map (λ p. p.number) (find (λ p. nat_le number p.number) packets)
+
+-- from whom to whom a packet goes
+abbrev pub route_of : Packet → ℕ × ℕ
+route_of p = (p.from, p.to)
+
 -- the packet of a number
 abbrev pub packet_of : List Packet → ℕ → Option Packet
 packet_of packets number = find (λ p. p.number == number) packets
@@ -74,10 +88,10 @@ dropping net number None = record { after = net; sent = record { number = Some n
 dropping net number (Some oldest) =
     record { after = removing net oldest; sent = record { number = Some number; dropped = Some (oldest, Link) } }
 
--- a link that now has more than 64 packets drops its oldest
+-- a link that now has more packets than it holds drops its oldest
 abbrev pub crowding : Links → ℕ → ℕ → ℕ → Outcome
 crowding net number from to =
-    if nat_lt 64 (count_on net.packets from to) then dropping net number (oldest_on net.packets from to)
+    if nat_lt most_packets (count_on net.packets from to) then dropping net number (oldest_on net.packets from to)
     else record { after = net; sent = record { number = Some number; dropped = None } }
 
 -- a packet is sent

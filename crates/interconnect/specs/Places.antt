@@ -1,6 +1,7 @@
 -- How the packets stand in places: two lists of places, one after the other, in the order of the
 -- numbers. A place whose packet has left stays empty until it is swept.
-use Rattle.std.specs.Prelude.{ℕ, ◌+◌, ◌*◌, ◌≤◌, ◌≡◌, List, [], ◌∷◌, ◌++◌, Option, Some, None, length}
+use Rattle.std.specs.Prelude.{ℕ, ◌+◌, ◌*◌, ◌≤◌, ◌≡◌, List, [], ◌∷◌, ◌++◌, Option, Some, None, length, nat_le, find}
+use Rattle.std.specs.Option.{option_map}
 use Rattle.interconnect.specs.declared.by_number.Held.{Held}
 use Rattle.interconnect.specs.declared.by_number.Place.{Place}
 
@@ -29,6 +30,15 @@ Bears number (Some h) = h.number ≡ number
 abbrev pub IsAscending : ℕ → List Place → ℕ → Type 0
 IsAscending low [] next = low ≤ next
 IsAscending low (p ∷ rest) next = (low ≤ p.number) × Bears p.number p.held × IsAscending (p.number + 1) rest next
+
+-- the places are in the order of the numbers
+pub record IsOrdered (ps : List Place) : Type 0 where
+  pub next : ℕ
+  pub rises : IsAscending 1 ps next
+
+-- the first packet of this number or a greater one, by its number
+abbrev pub first_held_from : List Held → ℕ → Option ℕ
+first_held_from held number = option_map (λ h. h.number) (find (λ h. nat_le number h.number) held)
 
 -- two lists of places
 pub record Lists : Type 0 where

@@ -1,7 +1,7 @@
 ghost use Rattle.std.specs.Prelude.{◌≡◌, ◌≢◌, ◌==◌, ℕ, ◌+◌, ◌^◌, ◌<◌, ◌≤◌, ◌++◌, ◌∷◌, [], length, filter, find, map, not, slice_index, IfSome, IfNone, IfOk};
 ghost use Rattle.std.specs.Option.{option_copied};
 ghost use Rattle.std.specs.VecDeque.{deque_len, deque_capacity};
-ghost use Rattle.interconnect.specs.Places.{sweeping};
+ghost use Rattle.interconnect.specs.Places.{sweeping, live, first_held_from, IsOrdered};
 
 use cell_pool::Chain;
 use cl_base::NodeId;
@@ -120,6 +120,16 @@ impl ByNumber {
         self.unswept[place].held.as_ref()
     }
 
+    /// The number of the first packet from a number on.
+    pub(crate) fn first_from(&self, number: u64) -> Option<u64>
+        ensures { result ≡ first_held_from self.now.held number }
+    {
+        if let Some(first) = first_in(&self.swept, number) {
+            return Some(first);
+        }
+        first_in(&self.unswept, number)
+    }
+
     /// Takes the packet of a number out.
     pub(crate) fn remove(&mut self, number: u64) -> Option<Held>
         ensures found { result ≡ find (λ h. h.number == number) self.old.held }
@@ -156,19 +166,45 @@ fn place_of(places: &VecDeque<Place>, number: u64) -> Option<usize>
     ensures found { IfSome result (λ i. (i < length places.now.items) × (slice_index (map (λ p. p.number) places.now.items) i ≡ number)) }
     ensures none { IfNone result ((k : ℕ) → k < length places.now.items → slice_index (map (λ p. p.number) places.now.items) k ≢ number) }
 {
+    let place = place_from(places, number);
+    if place < places.len() && places[place].number == number {
+        return Some(place);
+    }
+    None
+}
+
+/// The number of the first packet of a list, which is in the order of the numbers, from a number on.
+fn first_in(places: &VecDeque<Place>, number: u64) -> Option<u64>
+    requires { IsOrdered places.now.items }
+    ensures { result ≡ first_held_from (live places.now.items) number }
+{
+    let mut place = place_from(places, number);
+    while place < places.len() {
+        let here = &places[place];
+        if here.held.is_some() {
+            return Some(here.number);
+        }
+        place += 1;
+    }
+    None
+}
+
+/// The first place of a list, which is in the order of the numbers, from a number on, by halving.
+fn place_from(places: &VecDeque<Place>, number: u64) -> usize
+    requires { (i k : ℕ) → i < k → k < length places.now.items → slice_index (map (λ p. p.number) places.now.items) i < slice_index (map (λ p. p.number) places.now.items) k }
+    ensures within { result ≤ length places.now.items }
+    ensures below { (k : ℕ) → k < result → slice_index (map (λ p. p.number) places.now.items) k < number }
+    ensures from { (k : ℕ) → result ≤ k → k < length places.now.items → number ≤ slice_index (map (λ p. p.number) places.now.items) k }
+{
     let mut low = 0;
     let mut high = places.len();
     while low < high {
         let middle = low + (high - low) / 2;
-        let here = places[middle].number;
-        if here == number {
-            return Some(middle);
-        }
-        if here < number {
+        if places[middle].number < number {
             low = middle + 1;
         } else {
             high = middle;
         }
     }
-    None
+    low
 }

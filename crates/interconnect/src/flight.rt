@@ -1,12 +1,14 @@
 ghost use Rattle.std.specs.Prelude.{◌≡◌, ◌+◌, ◌^◌, ◌<◌, ◌≤◌, [], length, not, nat_lt, if◌then◌else◌, IfOk, IsOk, IsErr, IsOkAnd, MatchOption};
+ghost use Rattle.std.specs.Option.{option_map};
+ghost use Rattle.cl_base.specs.Limits.{most_packets};
 ghost use Rattle.cell_pool.specs.Cells.{cells_for};
-ghost use Rattle.interconnect.specs.Links.{sending, appending, removing, packet_of, oldest_on, count_on, free_cells_of, delivery_of, copied};
+ghost use Rattle.interconnect.specs.Links.{sending, appending, removing, packet_of, oldest_on, count_on, first_from_of, route_of, NumbersRise, free_cells_of, delivery_of, copied};
 
 use crate::by_link::ByLink;
 use crate::by_number::ByNumber;
-use crate::packet::{Delivery, DropCause, NoSuchPacket, Sent};
+use crate::packet::{Delivery, NoSuchPacket, Sent};
 use cell_pool::Pool;
-use cl_base::NodeId;
+use cl_base::{DropCause, NodeId};
 use std::alloc::{AllocError, Global};
 use std::marker::Model;
 
@@ -49,11 +51,36 @@ impl Flight {
         })
     }
 
+    /// The number of the next packet.
+    pub(crate) fn next_number(&self) -> u64
+        ensures number { result ≡ self.now.next }
+        ensures rising { NumbersRise 1 self.now.packets self.now.next }
+    {
+        self.packets.next()
+    }
+
+    /// From whom to whom the packet of a number goes.
+    pub(crate) fn route(&self, number: u64) -> Option<(NodeId, NodeId)>
+        ensures { result ≡ option_map route_of (packet_of self.now.packets number) }
+    {
+        let Some(held) = self.packets.find(number) else {
+            return None;
+        };
+        Some((held.from, held.to))
+    }
+
+    /// The number of the first packet from a number on.
+    pub(crate) fn first_from(&self, number: u64) -> Option<u64>
+        ensures { result ≡ first_from_of self.now.packets number }
+    {
+        self.packets.first_from(number)
+    }
+
     /// Gives a packet the next number, and puts it into flight where enough cells are free.
     fn append(&mut self, from: NodeId, to: NodeId, bytes: &[u8]) -> bool
         requires number { self.old.next < 2 ^ 63 }
         requires size { length bytes.now ≤ 131072 }
-        requires room { count_on self.old.packets from to ≤ 64 }
+        requires room { count_on self.old.packets from to ≤ most_packets }
         ensures exactly { result ≡ not (nat_lt (free_cells_of self.old) (cells_for (length bytes.now))) }
         ensures after { self.new ≡ (if result then appending self.old from to bytes.now else record self.old { next = self.old.next + 1 }) }
     {
@@ -70,7 +97,7 @@ impl Flight {
     pub(crate) fn send(&mut self, from: NodeId, to: NodeId, bytes: &[u8]) -> Sent
         requires number { self.old.next < 2 ^ 63 }
         requires size { length bytes.now ≤ 131072 }
-        requires room { count_on self.old.packets from to ≤ 64 }
+        requires room { count_on self.old.packets from to ≤ most_packets }
         ensures after { self.new ≡ (sending self.old from to bytes.now).after }
         ensures sent { result ≡ (sending self.old from to bytes.now).sent }
     {

@@ -11,4 +11,4 @@ mod net;
 mod packet;
 
 pub use net::Net;
-pub use packet::{Delivery, DropCause, NoSuchPacket, Sent};
+pub use packet::{Delivery, NoSuchPacket, Sent};

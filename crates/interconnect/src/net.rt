@@ -1,5 +1,6 @@
 ghost use Rattle.std.specs.Prelude.{◌≡◌, ℕ, ◌+◌, ◌^◌, ◌<◌, ◌≤◌, [], length, IfOk, IsOk, IsErr, IsOkAnd, MatchOption};
-ghost use Rattle.interconnect.specs.Links.{Links, sending, repeating, removing, packet_of, oldest_on, count_on, delivery_of, copied};
+ghost use Rattle.interconnect.specs.Links.{Links, sending, repeating, removing, packet_of, oldest_on, count_on, first_from_of, route_of, NumbersRise, delivery_of, copied};
+ghost use Rattle.std.specs.Option.{option_map};
 
 use crate::flight::Flight;
 use crate::packet::{Delivery, NoSuchPacket, Sent};
@@ -97,6 +98,30 @@ impl Net {
         Ok(self.flight.send(found.from, found.to, &self.buffer[..found.length as usize]))
     }
 
+    /// The number that the next packet gets. The numbers of the packets in flight rise, and are below
+    /// it.
+    pub fn next_number(&self) -> u64
+        ensures number { result ≡ self.now.next }
+        ensures rising { NumbersRise 1 self.now.packets self.now.next }
+    {
+        self.flight.next_number()
+    }
+
+    /// From whom to whom the packet of a number goes, if it is in flight, by a search by halving.
+    pub fn route(&self, number: u64) -> Option<(NodeId, NodeId)>
+        ensures { result ≡ option_map route_of (packet_of self.now.packets number) }
+    {
+        self.flight.route(number)
+    }
+
+    /// The number of the first packet in flight from a number on. Its steps: a search by halving,
+    /// and the places between that packets have left and that are not swept yet.
+    pub fn first_from(&self, number: u64) -> Option<u64>
+        ensures { result ≡ first_from_of self.now.packets number }
+    {
+        self.flight.first_from(number)
+    }
+
     /// The number of the oldest packet in flight on a link, in one step.
     pub fn oldest(&self, from: NodeId, to: NodeId) -> Option<u64>
         ensures { result ≡ oldest_on self.now.packets from to }
@@ -115,77 +140,100 @@ impl Net {
 #[cfg(test)]
 mod tests {
     use super::*;
-    use crate::packet::DropCause;
+    use cl_base::DropCause;
+    use std::process::Abort;
     use std::test::Fail;
+
+    /// A packet of this many bytes is answered so.
+    fn sends(rt: &impl Abort, net: &mut Net, way: (NodeId, NodeId), bytes: &[u8], answer: Sent)
+        requires number { net.old.next < 2 ^ 63 }
+        requires size { length bytes.now ≤ 131072 }
+        ensures next { net.new.next ≡ net.old.next + 1 }
+    {
+        let sent = net.send(way.0, way.1, bytes);
+        assert!(rt; sent == answer);
+    }
+
+    fn in_flight(number: u64) -> Sent {
+        Sent {
+            number: Some(number),
+            dropped: None,
+        }
+    }
+
+    /// Of three cells the first packet takes all, so that the second is dropped.
+    fn takes_cells(rt: &impl Abort, net: &mut Net, out: &mut [u8], one: NodeId, two: NodeId)
+        requires first { net.old.next ≡ 1 }
+        requires room { 131072 ≤ length out.old }
+    {
+        sends(rt, net, (one, two), &[5; 600], in_flight(1));
+        let dropped = Sent {
+            number: None,
+            dropped: Some((2, DropCause::Pool)),
+        };
+        sends(rt, net, (two, one), &[6], dropped);
+        assert!(rt; net.route(1) == Some((one, two)));
+        assert!(rt; net.oldest(one, two) == Some(1));
+        assert!(rt; net.deliver(1, out).is_ok());
+        assert!(rt; out[599] == 5 && out[600] == 0);
+        sends(rt, net, (two, one), &[7], in_flight(3));
+        assert!(rt; net.repeat(3).is_ok());
+        assert!(rt; net.lose(3).is_ok());
+        assert!(rt; net.first_from(1) == Some(4));
+        assert!(rt; net.next_number() == 5);
+        assert!(rt; net.in_flight(two, one) == 1);
+    }
 
     #[test]
     fn cells_of_a_send(rt: HostRuntime) -> Result<(), Fail> {
+        let (one, two) = (NodeId::new(1)?, NodeId::new(2)?);
         let mut net = Net::new(rt.alloc(), 3)?;
-        let one = NodeId::new(1)?;
-        let two = NodeId::new(2)?;
         let mut out = vec![in rt.alloc(); 0u8; MOST]?;
-        let first = net.send(one, two, &[5; 600]);
-        assert_eq!(rt; (first.number, first.dropped), (Some(1), None));
-        let second = net.send(two, one, &[6]);
-        assert_eq!(rt;
-            (second.number, second.dropped),
-            (None, Some((2, DropCause::Pool)))
-        );
-        assert_eq!(rt;
-            (net.oldest(one, two), net.in_flight(two, one)),
-            (Some(1), 0)
-        );
-        let found = net.deliver(1, &mut out)?;
-        assert_eq!(rt; (found.from, found.to, found.length), (one, two, 600));
-        assert_eq!(rt; (out[0], out[599], out[600]), (5, 5, 0));
-        assert!(rt; net.deliver(1, &mut out).is_err());
-        let third = net.send(two, one, &[7]);
-        assert_eq!(rt; (third.number, third.dropped), (Some(3), None));
-        let copy = net.repeat(3)?;
-        assert_eq!(rt; (copy.number, copy.dropped), (Some(4), None));
-        net.lose(3)?;
-        assert_eq!(rt; net.oldest(two, one), Some(4));
+        takes_cells(&rt, &mut net, &mut out, one, two);
         Ok(())
+    }
+
+    /// Packets 2 to 39 come and are lost while packet 1 stays.
+    fn comes_and_goes(rt: &impl Abort, net: &mut Net, one: NodeId, two: NodeId)
+        requires first { net.old.next ≡ 1 }
+    {
+        sends(rt, net, (one, two), &[5], in_flight(1));
+        for number in 2..40u64 {
+            sends(rt, net, (two, one), &[6], in_flight(number));
+            assert!(rt; net.lose(number).is_ok());
+        }
+        assert!(rt; net.first_from(1) == Some(1));
+        assert!(rt; net.first_from(2) == None);
     }
 
     #[test]
     fn old_packet(rt: HostRuntime) -> Result<(), Fail> {
+        let (one, two) = (NodeId::new(1)?, NodeId::new(2)?);
         let mut net = Net::new(rt.alloc(), 4)?;
-        let one = NodeId::new(1)?;
-        let two = NodeId::new(2)?;
-        let mut out = vec![in rt.alloc(); 0u8; MOST]?;
-        let _ = net.send(one, two, &[5]);
-        for number in 2..40u64 {
-            let _ = net.send(two, one, &[6]);
-            net.lose(number)?;
-        }
-        assert_eq!(rt;
-            (net.oldest(one, two), net.in_flight(two, one)),
-            (Some(1), 0)
-        );
-        let found = net.deliver(1, &mut out)?;
-        assert_eq!(rt; (found.from, found.to, found.length), (one, two, 1));
-        assert_eq!(rt; (net.oldest(one, two), out[0]), (None, 5));
+        comes_and_goes(&rt, &mut net, one, two);
         Ok(())
+    }
+
+    /// The 65th packet of a link pushes the first out.
+    fn pushes_out(rt: &impl Abort, net: &mut Net, one: NodeId, two: NodeId)
+        requires first { net.old.next ≡ 1 }
+    {
+        for number in 1..65u64 {
+            sends(rt, net, (one, two), &[1], in_flight(number));
+        }
+        let pushed = Sent {
+            number: Some(65),
+            dropped: Some((1, DropCause::Link)),
+        };
+        sends(rt, net, (one, two), &[2], pushed);
+        assert!(rt; net.oldest(one, two) == Some(2));
     }
 
     #[test]
     fn full_link(rt: HostRuntime) -> Result<(), Fail> {
+        let (one, two) = (NodeId::new(1)?, NodeId::new(2)?);
         let mut net = Net::new(rt.alloc(), 100)?;
-        let one = NodeId::new(1)?;
-        let two = NodeId::new(2)?;
-        for _ in 0..64u64 {
-            let _ = net.send(one, two, &[1]);
-        }
-        let last = net.send(one, two, &[2]);
-        assert_eq!(rt;
-            (last.number, last.dropped),
-            (Some(65), Some((1, DropCause::Link)))
-        );
-        assert_eq!(rt;
-            (net.oldest(one, two), net.in_flight(one, two)),
-            (Some(2), 64)
-        );
+        pushes_out(&rt, &mut net, one, two);
         Ok(())
     }
 }

@@ -1,14 +1,5 @@
-use cl_base::NodeId;
+use cl_base::{DropCause, NodeId};
 use thiserror::Error;
-
-/// Why a packet was dropped.
-#[derive(Clone, Copy, Debug, PartialEq, Eq)]
-pub enum DropCause {
-    /// Its link held 64 packets when another was sent.
-    Link,
-    /// Too few cells were free for it.
-    Pool,
-}
 
 /// What became of a send.
 #[derive(Clone, Copy, Debug, PartialEq, Eq)]

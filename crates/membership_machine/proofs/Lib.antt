@@ -10,4 +10,5 @@ pub mod Leaders
 pub mod Updates
 pub mod Preserved
 pub mod Lineages
+pub mod Promises
 pub mod SampleRun

@@ -21,6 +21,12 @@ pub record AttemptsDiffer (S : Setting) (w : Memberships) : Type 0 where
   pub promised : (q : ℕ) → (w.epoch q).tried ≡ true → q ≤ (w.node (coordinator q)).promised
   pub once : (q : ℕ) (members : ℕ → Bool) → (w.epoch q).tried ≡ true → Allowed S w (Begin q members) → ⊥
 
+-- Nobody promises a number that no coordinator has begun: a promise is 0, or a number that was tried, and so is each number whose Collect
+-- was ever answered.
+pub record PromisesAreTried (w : Memberships) : Type 0 where
+  pub promised : (m : ℕ) → ((w.node m).promised ≡ 0) ⊎ ((w.epoch (w.node m).promised).tried ≡ true)
+  pub answered : (m q : ℕ) → (w.node m).answered q ≡ true → (w.epoch q).tried ≡ true
+
 -- A start was counted. An attempt that counted was answered by every member, and its members with the devices that it held are a majority
 -- under the committed entries of its base and under all of it. A start was installed by every member, and its base is acknowledged.
 pub record StartsAreCounted (S : Setting) (w : Memberships) : Type 0 where

@@ -17,7 +17,7 @@ ghost use Rattle.membership_machine.specs.Events.{Event, Run};
 ghost use Rattle.membership_machine.specs.Starts.{last_start, Follows, Alike, DevicesMeet};
 ghost use Rattle.membership_machine.specs.Growth.{Grows};
 ghost use Rattle.membership_machine.specs.Sample.{sample_setting, forming, formed, changing, reforming, updating, splitting, split, add_device, create_group};
-ghost use Rattle.membership_machine.specs.Parts.{PromisesHold, AttemptsDiffer, StartsAreCounted, RecordsAgree, ShareMember, ShareDevice};
+ghost use Rattle.membership_machine.specs.Parts.{PromisesHold, AttemptsDiffer, PromisesAreTried, StartsAreCounted, RecordsAgree, ShareMember, ShareDevice};
 
 /// A durable promise never falls, sessions and installed epochs are promises, and members are in a membership that started.
 pub fn promises_hold()
@@ -27,6 +27,11 @@ pub fn promises_hold()
 /// Distinct attempts have distinct numbers: none is begun again, and each number has the one coordinator that it names.
 pub fn attempts_differ()
     ensures { (S : Setting) (events : List Event) (w : Memberships) → Run S first_memberships events w → AttemptsDiffer S w }
+{}
+
+/// A promise is 0 or the number of an attempt that was begun, and only such a number's Collect was ever answered.
+pub fn promises_are_tried()
+    ensures { (S : Setting) (events : List Event) (w : Memberships) → Run S first_memberships events w → PromisesAreTried w }
 {}
 
 /// What a message tells stays true: of two states of one run the earlier grows to the later.

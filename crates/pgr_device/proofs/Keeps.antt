@@ -12,7 +12,7 @@ use Rattle.pgr_device.specs.declared.command.PrAnswer.TheVariants as answer
 use Rattle.pgr_device.specs.Allowed.{IsAllowed}
 use Rattle.pgr_device.specs.Device.{Device}
 use Rattle.pgr_device.specs.Kept.{IsApart, IsHeld, IsDevice}
-use Rattle.pgr_device.specs.Registered.{key_of, is_registered, has_key, rekeyed, without_node, without_key}
+use Rattle.pgr_device.specs.Registered.{registered_key, is_registered, has_key, rekeyed, without_node, without_key}
 use Rattle.pgr_device.specs.Access.{same_kind}
 use Rattle.pgr_device.specs.Spc.{Outcome, answers, good, conflict, with_key, released_by, shows_key, reserving, releasing, cleared, is_holders, preempted, swapping, carried_out, step}
 
@@ -20,13 +20,13 @@ use Rattle.pgr_device.specs.Spc.{Outcome, answers, good, conflict, with_key, rel
 registered_push : (rs : List Registration) (r : Registration) (n : ℕ) → is_registered rs n ≡ true → is_registered (rs ++ r ∷ []) n ≡ true
 registered_push rs r n h = list_any-append (λ q. q.node == n) rs (r ∷ []) ∙ or_left _ _ h
 
-unregistered_push : (rs : List Registration) (r : Registration) (n : ℕ) → is_registered rs n ≡ false → (r.node == n) ≡ false → is_registered (rs ++ r ∷ []) n ≡ false
+pub unregistered_push : (rs : List Registration) (r : Registration) (n : ℕ) → is_registered rs n ≡ false → (r.node == n) ≡ false → is_registered (rs ++ r ∷ []) n ≡ false
 unregistered_push rs r n h e = list_any-append (λ q. q.node == n) rs (r ∷ []) ∙ or_from _ _ h (or_from _ _ e refl)
 
 other_way : (a b : ℕ) → (a == b) ≡ false → (b == a) ≡ false
 other_way a b h = ne_eqb b a (λ e. eqb-false a b h (sym e))
 
-apart_push : (paths : ℕ) (rs : List Registration) (r : Registration) → 1 ≤ r.node → r.node ≤ 32 → has paths r.node ≡ true → r.key ≢ 0 → is_registered rs r.node ≡ false
+pub apart_push : (paths : ℕ) (rs : List Registration) (r : Registration) → 1 ≤ r.node → r.node ≤ 32 → has paths r.node ≡ true → r.key ≢ 0 → is_registered rs r.node ≡ false
     → IsApart paths rs → IsApart paths (rs ++ r ∷ [])
 apart_push paths [] r low high path key new h = (low, high, path, key, refl, tt)
 apart_push paths (q ∷ rs) r low high path key new h =
@@ -103,14 +103,14 @@ held_without_node rs node (Some held) h =
 -- the key that a node shows
 at_key : (r : Registration) (rs : List Registration) (n key : ℕ) (b : Bool) → (r.node == n) ≡ b
     → shows_key (option_map (λ q. q.key) (cond b (Some r) (find (λ q. q.node == n) rs))) key ≡ false → (b || is_registered rs n) ≡ true
-    → (shows_key (key_of rs n) key ≡ false → is_registered rs n ≡ true → is_registered (without_key key rs) n ≡ true) → is_registered (without_key key (r ∷ rs)) n ≡ true
+    → (shows_key (registered_key rs n) key ≡ false → is_registered rs n ≡ true → is_registered (without_key key rs) n ≡ true) → is_registered (without_key key (r ∷ rs)) n ≡ true
 at_key r rs n key true e shows h later =
     subst (λ (qs : List Registration). is_registered qs n ≡ true) (sym (cond-true (not (r.key == key)) (r ∷ without_key key rs) (without_key key rs) (not_from_false _ shows))) (or_left _ _ e)
 at_key r rs n key false e shows h later =
     cond_both (not (r.key == key)) (r ∷ without_key key rs) (without_key key rs) (λ (qs : List Registration). is_registered qs n ≡ true)
     (λ _. or_right _ _ (later shows h)) (λ _. later shows h)
 
-registered_without_key : (rs : List Registration) (n key : ℕ) → shows_key (key_of rs n) key ≡ false → is_registered rs n ≡ true → is_registered (without_key key rs) n ≡ true
+registered_without_key : (rs : List Registration) (n key : ℕ) → shows_key (registered_key rs n) key ≡ false → is_registered rs n ≡ true → is_registered (without_key key rs) n ≡ true
 registered_without_key [] n key shows h = h
 registered_without_key (r ∷ rs) n key shows h = at_key r rs n key (r.node == n) refl shows h (registered_without_key rs n key)
 
@@ -119,20 +119,20 @@ held_without_key rs key None other h = tt
 held_without_key rs key (Some held) other h = registered_without_key rs held.holder key other h
 
 shown_at : (r : Registration) (rs : List Registration) (n key : ℕ) (b : Bool) → shows_key (option_map (λ q. q.key) (cond b (Some r) (find (λ q. q.node == n) rs))) key ≡ true
-    → (shows_key (key_of rs n) key ≡ true → is_registered rs n ≡ true) → (b || is_registered rs n) ≡ true
+    → (shows_key (registered_key rs n) key ≡ true → is_registered rs n ≡ true) → (b || is_registered rs n) ≡ true
 shown_at r rs n key true shows later = refl
 shown_at r rs n key false shows later = later shows
 
-registered_by_key : (rs : List Registration) (n key : ℕ) → shows_key (key_of rs n) key ≡ true → is_registered rs n ≡ true
+registered_by_key : (rs : List Registration) (n key : ℕ) → shows_key (registered_key rs n) key ≡ true → is_registered rs n ≡ true
 registered_by_key [] n key shows = shows
 registered_by_key (r ∷ rs) n key shows = shown_at r rs n key (r.node == n) shows (registered_by_key rs n key)
 
 none_at : (r : Registration) (rs : List Registration) (n : ℕ) (b : Bool) → option_map (λ q. q.key) (cond b (Some r) (find (λ q. q.node == n) rs)) ≡ None
-    → (key_of rs n ≡ None → is_registered rs n ≡ false) → (b || is_registered rs n) ≡ false
+    → (registered_key rs n ≡ None → is_registered rs n ≡ false) → (b || is_registered rs n) ≡ false
 none_at r rs n true none later = absurd (cc)
 none_at r rs n false none later = later none
 
-pub unregistered_by_key : (rs : List Registration) (n : ℕ) → key_of rs n ≡ None → is_registered rs n ≡ false
+pub unregistered_by_key : (rs : List Registration) (n : ℕ) → registered_key rs n ≡ None → is_registered rs n ≡ false
 unregistered_by_key [] n none = refl
 unregistered_by_key (r ∷ rs) n none = none_at r rs n (r.node == n) none (unregistered_by_key rs n)
 
@@ -141,7 +141,7 @@ shows_one None key other shows ne = refl
 shows_one (Some k) key other shows ne = ne_eqb k other (λ e. ne (sym e ∙ eqb-true k key shows))
 
 -- command by command
-with_key_keeps : (d : Device) (node new : ℕ) (held : Option ℕ) → key_of d.registrations node ≡ held → 1 ≤ node → node ≤ 32 → has d.paths node ≡ true → IsDevice d → IsDevice (with_key d node new held)
+with_key_keeps : (d : Device) (node new : ℕ) (held : Option ℕ) → registered_key d.registrations node ≡ held → 1 ≤ node → node ≤ 32 → has d.paths node ≡ true → IsDevice d → IsDevice (with_key d node new held)
 with_key_keeps d node new None none low high path h =
     let taken : Registration = record { node = node; key = new } in
     let more : Device = record d { registrations = d.registrations ++ taken ∷ [] } in
@@ -170,7 +170,7 @@ releasing_keeps d node kind (Some held) h =
     (λ _. keeps_if (same_kind held.kind kind) (good (record d { reservation = None })) (answers d answer.InvalidRelease) (λ _. record { apart = h.apart; held = tt }) (λ _. h))
     (λ _. h)
 
-preempted_keeps : (d : Device) (node : ℕ) (kind : PrKind) (key victim : ℕ) → shows_key (key_of d.registrations node) key ≡ true → victim ≢ key → IsDevice d → IsDevice (preempted d node kind victim)
+preempted_keeps : (d : Device) (node : ℕ) (kind : PrKind) (key victim : ℕ) → shows_key (registered_key d.registrations node) key ≡ true → victim ≢ key → IsDevice d → IsDevice (preempted d node kind victim)
 preempted_keeps d node kind key victim shows ne h =
     let taken : Reservation = record { holder = node; kind = kind } in
     let all : Device = record d { registrations = without_key victim d.registrations; reservation = Some taken } in
@@ -179,7 +179,7 @@ preempted_keeps d node kind key victim shows ne h =
     cond_both (is_holders d.registrations victim d.reservation) all some IsDevice
     (λ _. record {
       apart = apart;
-      held = registered_without_key d.registrations node victim (shows_one (key_of d.registrations node) key victim shows ne) (registered_by_key d.registrations node key shows);
+      held = registered_without_key d.registrations node victim (shows_one (registered_key d.registrations node) key victim shows ne) (registered_by_key d.registrations node key shows);
     })
     (λ other. record { apart = apart; held = held_without_key d.registrations victim d.reservation other h.held })
 
@@ -189,15 +189,15 @@ swapping_keeps d expect new h =
 
 pub carried_out_keeps : (d : Device) (node : ℕ) (c : PrCommand) → 1 ≤ node → node ≤ 32 → has d.paths node ≡ true → IsAllowed c → IsDevice d → IsDevice (carried_out d node c).after
 carried_out_keeps d node (command.Register key new) low high path allowed h =
-    keeps_if _ _ (conflict d) (λ _. with_key_keeps d node new (key_of d.registrations node) refl low high path h) (λ _. h)
-carried_out_keeps d node (command.Ignore new) low high path allowed h = with_key_keeps d node new (key_of d.registrations node) refl low high path h
+    keeps_if _ _ (conflict d) (λ _. with_key_keeps d node new (registered_key d.registrations node) refl low high path h) (λ _. h)
+carried_out_keeps d node (command.Ignore new) low high path allowed h = with_key_keeps d node new (registered_key d.registrations node) refl low high path h
 carried_out_keeps d node (command.Reserve kind key) low high path allowed h =
-    keeps_if (shows_key (key_of d.registrations node) key) _ (conflict d) (λ shows. reserving_keeps d node kind d.reservation (registered_by_key d.registrations node key shows) h) (λ _. h)
+    keeps_if (shows_key (registered_key d.registrations node) key) _ (conflict d) (λ shows. reserving_keeps d node kind d.reservation (registered_by_key d.registrations node key shows) h) (λ _. h)
 carried_out_keeps d node (command.Release kind key) low high path allowed h = keeps_if _ _ (conflict d) (λ _. releasing_keeps d node kind d.reservation h) (λ _. h)
 carried_out_keeps d node (command.Clear key) low high path allowed h =
-    keeps_if (shows_key (key_of d.registrations node) key) (good (cleared d)) (conflict d) (λ _. record { apart = tt; held = tt }) (λ _. h)
+    keeps_if (shows_key (registered_key d.registrations node) key) (good (cleared d)) (conflict d) (λ _. record { apart = tt; held = tt }) (λ _. h)
 carried_out_keeps d node (command.Preempt kind key victim) low high path allowed h =
-    keeps_if (shows_key (key_of d.registrations node) key) _ (conflict d)
+    keeps_if (shows_key (registered_key d.registrations node) key) _ (conflict d)
     (λ shows. keeps_if (has_key d.registrations victim) _ (conflict d) (λ _. preempted_keeps d node kind key victim shows allowed.1 h) (λ _. h))
     (λ _. h)
 carried_out_keeps d node command.Keys low high path allowed h = h

@@ -13,11 +13,13 @@ use Rattle.pgr_device.specs.declared.command.PrAnswer.TheVariants as answer
 use Rattle.pgr_device.specs.declared.run.Step.{Step}
 use Rattle.pgr_device.specs.declared.run.Step.TheVariants.{Command, PowerLoss}
 use Rattle.pgr_device.specs.Access.{same_kind}
-use Rattle.pgr_device.specs.Device.{Device, fresh}
+use Rattle.pgr_device.specs.Device.{Device, fresh, with_keys}
 use Rattle.pgr_device.specs.Kept.{IsApart, IsHeld, IsDevice}
-use Rattle.pgr_device.specs.Registered.{key_of, is_registered, has_key, without_node, without_key, rekeyed}
+use Rattle.pgr_device.specs.Registered.{registered_key, is_registered, has_key, without_node, without_key, rekeyed}
 use Rattle.pgr_device.specs.Runs.{run, run_answers, IsRun}
 use Rattle.pgr_device.specs.Spc.{Outcome, answers, good, conflict, with_key, released_by, shows_key, reserving, releasing, cleared, is_holders, preempted, preempting, swapping, may_read, may_write, carried_out, step}
+use Rattle.pgr_device.specs.Statements.{RegisteredOnce, RegisteredWithPath, NoZeroKey, HolderIsRegistered}
+use Rattle.pgr_device.proofs.FirstKeys.{with_keys_is}
 use Rattle.pgr_device.proofs.Keeps.{step_keeps}
 
 pub run_keeps : (d : Device) (steps : List Step) → IsRun steps → IsDevice d → IsDevice (run d steps)
@@ -64,13 +66,13 @@ swapping_stays : (d : Device) (expect new : ℕ) → (swapping d expect new).aft
 swapping_stays d expect new = stays_if d.paths (d.word == expect) (good (record d { word = new })) (answers d (answer.Miscompare d.word)) refl refl
 
 carried_out_stays : (d : Device) (node : ℕ) (c : PrCommand) → (carried_out d node c).after.paths ≡ d.paths
-carried_out_stays d node (command.Register key new) = stays_if d.paths _ _ (conflict d) (with_key_stays d node new (key_of d.registrations node)) refl
-carried_out_stays d node (command.Ignore new) = with_key_stays d node new (key_of d.registrations node)
-carried_out_stays d node (command.Reserve kind key) = stays_if d.paths (shows_key (key_of d.registrations node) key) _ (conflict d) (reserving_stays d node kind d.reservation) refl
-carried_out_stays d node (command.Release kind key) = stays_if d.paths (shows_key (key_of d.registrations node) key) _ (conflict d) (releasing_stays d node kind d.reservation) refl
-carried_out_stays d node (command.Clear key) = stays_if d.paths (shows_key (key_of d.registrations node) key) (good (cleared d)) (conflict d) refl refl
+carried_out_stays d node (command.Register key new) = stays_if d.paths _ _ (conflict d) (with_key_stays d node new (registered_key d.registrations node)) refl
+carried_out_stays d node (command.Ignore new) = with_key_stays d node new (registered_key d.registrations node)
+carried_out_stays d node (command.Reserve kind key) = stays_if d.paths (shows_key (registered_key d.registrations node) key) _ (conflict d) (reserving_stays d node kind d.reservation) refl
+carried_out_stays d node (command.Release kind key) = stays_if d.paths (shows_key (registered_key d.registrations node) key) _ (conflict d) (releasing_stays d node kind d.reservation) refl
+carried_out_stays d node (command.Clear key) = stays_if d.paths (shows_key (registered_key d.registrations node) key) (good (cleared d)) (conflict d) refl refl
 carried_out_stays d node (command.Preempt kind key victim) =
-    stays_if d.paths (shows_key (key_of d.registrations node) key) (preempting d node kind victim) (conflict d) (preempting_stays d node kind victim) refl
+    stays_if d.paths (shows_key (registered_key d.registrations node) key) (preempting d node kind victim) (conflict d) (preempting_stays d node kind victim) refl
 carried_out_stays d node command.Keys = refl
 carried_out_stays d node command.Holder = refl
 carried_out_stays d node command.Read = stays_if d.paths (may_read d.registrations node d.reservation) (answers d (answer.Value d.value)) (conflict d) refl refl
@@ -127,19 +129,42 @@ is_held : (rs : List Registration) (held : Option Reservation) → IsHeld rs hel
 is_held rs None h = tt
 is_held rs (Some held) h = h
 
-pub once : (paths node : ℕ) (steps : List Step) → IsRun steps → count_by (λ r. r.node == node) (run (fresh paths) steps).registrations ≤ 1
-once paths node steps ok = count_once (run (fresh paths) steps).paths (run (fresh paths) steps).registrations node (run_keeps (fresh paths) steps ok (fresh_is paths)).apart
+once_from : (d : Device) (node : ℕ) (steps : List Step) → IsDevice d → IsRun steps → count_by (λ r. r.node == node) (run d steps).registrations ≤ 1
+once_from d node steps h ok = count_once (run d steps).paths (run d steps).registrations node (run_keeps d steps ok h).apart
 
-pub path : (paths node : ℕ) (steps : List Step) → IsRun steps → is_registered (run (fresh paths) steps).registrations node ≡ true → has paths node ≡ true
-path paths node steps ok there =
-    subst (λ (p : ℕ). has p node ≡ true) (run_stays (fresh paths) steps)
-    (has_path (run (fresh paths) steps).paths (run (fresh paths) steps).registrations node (run_keeps (fresh paths) steps ok (fresh_is paths)).apart there)
+path_from : (d : Device) (node : ℕ) (steps : List Step) → IsDevice d → IsRun steps → is_registered (run d steps).registrations node ≡ true → has d.paths node ≡ true
+path_from d node steps h ok there =
+    subst (λ (p : ℕ). has p node ≡ true) (run_stays d steps) (has_path (run d steps).paths (run d steps).registrations node (run_keeps d steps ok h).apart there)
 
-pub no_zero : (paths : ℕ) (steps : List Step) → IsRun steps → has_key (run (fresh paths) steps).registrations 0 ≡ false
-no_zero paths steps ok = not_zero (run (fresh paths) steps).paths (run (fresh paths) steps).registrations (run_keeps (fresh paths) steps ok (fresh_is paths)).apart
+no_zero_from : (d : Device) (steps : List Step) → IsDevice d → IsRun steps → has_key (run d steps).registrations 0 ≡ false
+no_zero_from d steps h ok = not_zero (run d steps).paths (run d steps).registrations (run_keeps d steps ok h).apart
 
-pub holder : (paths : ℕ) (steps : List Step) → IsRun steps → IfSome (run (fresh paths) steps).reservation (λ held. is_registered (run (fresh paths) steps).registrations held.holder ≡ true)
-holder paths steps ok = is_held (run (fresh paths) steps).registrations (run (fresh paths) steps).reservation (run_keeps (fresh paths) steps ok (fresh_is paths)).held
+holder_from : (d : Device) (steps : List Step) → IsDevice d → IsRun steps → IfSome (run d steps).reservation (λ held. is_registered (run d steps).registrations held.holder ≡ true)
+holder_from d steps h ok = is_held (run d steps).registrations (run d steps).reservation (run_keeps d steps ok h).held
+
+pub once : RegisteredOnce fresh
+once paths node steps ok = once_from (fresh paths) node steps (fresh_is paths) ok
+
+pub path : RegisteredWithPath fresh
+path paths node steps ok there = path_from (fresh paths) node steps (fresh_is paths) ok there
+
+pub no_zero : NoZeroKey fresh
+no_zero paths steps ok = no_zero_from (fresh paths) steps (fresh_is paths) ok
+
+pub holder : HolderIsRegistered fresh
+holder paths steps ok = holder_from (fresh paths) steps (fresh_is paths) ok
+
+pub once_keyed : (nodes cluster : ℕ) → RegisteredOnce (λ paths. with_keys paths nodes cluster)
+once_keyed nodes cluster paths node steps ok = once_from (with_keys paths nodes cluster) node steps (with_keys_is paths nodes cluster) ok
+
+pub path_keyed : (nodes cluster : ℕ) → RegisteredWithPath (λ paths. with_keys paths nodes cluster)
+path_keyed nodes cluster paths node steps ok there = path_from (with_keys paths nodes cluster) node steps (with_keys_is paths nodes cluster) ok there
+
+pub no_zero_keyed : (nodes cluster : ℕ) → NoZeroKey (λ paths. with_keys paths nodes cluster)
+no_zero_keyed nodes cluster paths steps ok = no_zero_from (with_keys paths nodes cluster) steps (with_keys_is paths nodes cluster) ok
+
+pub holder_keyed : (nodes cluster : ℕ) → HolderIsRegistered (λ paths. with_keys paths nodes cluster)
+holder_keyed nodes cluster paths steps ok = holder_from (with_keys paths nodes cluster) steps (with_keys_is paths nodes cluster) ok
 
 pub loss_after : (d : Device) (steps later : List Step) → run d (steps ++ PowerLoss ∷ later) ≡ run d (steps ++ later)
 loss_after d [] later = refl

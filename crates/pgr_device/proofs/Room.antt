@@ -7,7 +7,7 @@ use Rattle.std.proofs.lemmas.Map.Steps.{length-le_from_distinct_below}
 use Rattle.std.proofs.lemmas.Map.Keys.{IsDistinct-cons}
 use Rattle.pgr_device.specs.declared.registration.Registration.{Registration}
 use Rattle.pgr_device.specs.Kept.{IsApart}
-use Rattle.pgr_device.specs.Registered.{key_of, is_registered}
+use Rattle.pgr_device.specs.Registered.{registered_key, is_registered}
 use Rattle.pgr_device.proofs.Keeps.{unregistered_by_key}
 
 abbrev nodes : List Registration → List ℕ
@@ -45,7 +45,7 @@ below_with paths rs n q high h e = elim (or_cases (eqb q 0) (eqb q n || list_any
   ]
 ]
 
-pub room : (paths : ℕ) (rs : List Registration) (n : ℕ) → 1 ≤ n → n ≤ 32 → IsApart paths rs → key_of rs n ≡ None → length rs < 32
+pub room : (paths : ℕ) (rs : List Registration) (n : ℕ) → 1 ≤ n → n ≤ 32 → IsApart paths rs → registered_key rs n ≡ None → length rs < 32
 room paths rs n low high h none =
     let apart : IsDistinct eqb (n ∷ nodes rs) = IsDistinct-cons eqb n (nodes rs) (other_nodes rs n (unregistered_by_key rs n none)) (distinct_nodes paths rs h) in
     let zero_apart : AllByRecursion (λ y. eqb 0 y ≡ false) (n ∷ nodes rs) = (ne_eqb 0 n (λ e. omega (arith, low, e)), no_zero paths rs h) in

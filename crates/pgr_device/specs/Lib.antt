@@ -4,9 +4,9 @@ pub mod Device
 pub mod Kept
 pub mod KeyFields
 pub mod Keys
-pub mod Padded
 pub mod Ports
 pub mod Registered
 pub mod Runs
 pub mod Seen
 pub mod Spc
+pub mod Statements

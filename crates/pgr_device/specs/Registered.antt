@@ -4,8 +4,8 @@ use Rattle.std.specs.List.{list_any}
 use Rattle.pgr_device.specs.declared.registration.Registration.{Registration}
 
 -- the key that a node has registered
-abbrev pub key_of : List Registration → ℕ → Option ℕ
-key_of registrations node = option_map (λ r. r.key) (find (λ r. r.node == node) registrations)
+abbrev pub registered_key : List Registration → ℕ → Option ℕ
+registered_key registrations node = option_map (λ r. r.key) (find (λ r. r.node == node) registrations)
 
 -- whether a node has registered a key
 abbrev pub is_registered : List Registration → ℕ → Bool

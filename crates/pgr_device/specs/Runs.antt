@@ -1,6 +1,6 @@
 -- A run of a device: commands and losses of power, one after another. A loss of power changes nothing
 -- and has no answer.
-use Rattle.std.specs.Prelude.{◌≤◌, List, [], ◌∷◌}
+use Rattle.std.specs.Prelude.{◌≡◌, ◌≤◌, ℕ, List, [], ◌∷◌, length, take}
 use Rattle.pgr_device.specs.declared.command.PrAnswer.{PrAnswer}
 use Rattle.pgr_device.specs.declared.run.Step.{Step}
 use Rattle.pgr_device.specs.declared.run.Step.TheVariants.{Command, PowerLoss}
@@ -25,3 +25,9 @@ abbrev pub IsRun : List Step → Type 0
 IsRun [] = Unit {0}
 IsRun (Command node command ∷ steps) = (1 ≤ node) × (node ≤ 32) × IsAllowed command × IsRun steps
 IsRun (PowerLoss ∷ steps) = IsRun steps
+
+-- the first so many of the steps were taken
+pub record IsRunInPart (old : Device) (steps : List Step) (new : Device) : Type 0 where
+  pub taken : ℕ
+  pub within : taken ≤ length steps
+  pub after : new ≡ run old (take taken steps)

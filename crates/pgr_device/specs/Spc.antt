@@ -13,7 +13,7 @@ use Rattle.pgr_device.specs.declared.command.PrCommand.TheVariants as command
 use Rattle.pgr_device.specs.declared.command.PrAnswer.{PrAnswer}
 use Rattle.pgr_device.specs.declared.command.PrAnswer.TheVariants as answer
 use Rattle.pgr_device.specs.Device.{Device}
-use Rattle.pgr_device.specs.Registered.{key_of, is_registered, has_key, keys_of, rekeyed, without_node, without_key}
+use Rattle.pgr_device.specs.Registered.{registered_key, is_registered, has_key, keys_of, rekeyed, without_node, without_key}
 use Rattle.pgr_device.specs.Access.{reads_allowed, writes_allowed, same_kind}
 
 pub record Outcome : Type 0 where
@@ -75,7 +75,7 @@ cleared d = record d { registrations = []; reservation = None }
 -- whether the reservation's holder has this key
 abbrev pub is_holders : List Registration → ℕ → Option Reservation → Bool
 is_holders registrations key None = false
-is_holders registrations key (Some held) = shows_key (key_of registrations held.holder) key
+is_holders registrations key (Some held) = shows_key (registered_key registrations held.holder) key
 
 -- PREEMPT (service action 04h): the registrations with the victim's key go, and the sender takes the
 -- reservation where its holder is among them
@@ -91,7 +91,7 @@ preempting d node kind victim = if has_key d.registrations victim then good (pre
 -- READ RESERVATION (PERSISTENT RESERVE IN, service action 01h): the holder's key and the type
 abbrev pub reservation_of : List Registration → Option Reservation → Option (ℕ × PrKind)
 reservation_of registrations None = None
-reservation_of registrations (Some held) = option_map (λ key. (key, held.kind)) (key_of registrations held.holder)
+reservation_of registrations (Some held) = option_map (λ key. (key, held.kind)) (registered_key registrations held.holder)
 
 -- who may read and write: everyone where no reservation stands
 abbrev pub may_read : List Registration → ℕ → Option Reservation → Bool
@@ -115,12 +115,12 @@ swapping d expect new = if d.word == expect then good (record d { word = new }) 
 
 -- RESERVE, RELEASE, CLEAR and PREEMPT, a conflict where the sender does not show its key
 abbrev pub registered_only : Device → ℕ → ℕ → Outcome → Outcome
-registered_only d node shown outcome = if shows_key (key_of d.registrations node) shown then outcome else conflict d
+registered_only d node shown outcome = if shows_key (registered_key d.registrations node) shown then outcome else conflict d
 
 -- the command of a node that has a path
 abbrev pub carried_out : Device → ℕ → PrCommand → Outcome
-carried_out d node (command.Register key new) = registering d node key new (key_of d.registrations node)
-carried_out d node (command.Ignore new) = good (with_key d node new (key_of d.registrations node))
+carried_out d node (command.Register key new) = registering d node key new (registered_key d.registrations node)
+carried_out d node (command.Ignore new) = good (with_key d node new (registered_key d.registrations node))
 carried_out d node (command.Reserve kind key) = registered_only d node key (reserving d node kind d.reservation)
 carried_out d node (command.Release kind key) = registered_only d node key (releasing d node kind d.reservation)
 carried_out d node (command.Clear key) = registered_only d node key (good (cleared d))

@@ -1,6 +1,6 @@
 ghost use Rattle.std.specs.Prelude.{◌≡◌};
 ghost use Rattle.pgr_device.specs.Allowed.{IsAllowed};
-ghost use Rattle.pgr_device.specs.Device.{Device, fresh};
+ghost use Rattle.pgr_device.specs.Device.{Device, fresh, with_keys};
 ghost use Rattle.pgr_device.specs.Keys.{HasNoZeroKey};
 ghost use Rattle.pgr_device.specs.Spc.{step};
 
@@ -37,6 +37,16 @@ impl Pgr {
     {
         Pgr {
             state: State::new(paths),
+        }
+    }
+
+    /// The same device, but that those of these nodes that have a path are registered, in ascending
+    /// order, each by its key in the cluster: the cluster's id times 2^32, and the node's number.
+    pub fn with_keys(paths: NodeSet, nodes: NodeSet, cluster: u32) -> Pgr
+        ensures { result ≡ with_keys paths nodes cluster }
+    {
+        Pgr {
+            state: State::with_keys(paths, nodes, cluster),
         }
     }
 

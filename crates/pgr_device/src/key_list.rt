@@ -14,7 +14,7 @@ impl Model for KeyList {
 
     ghost Value = { List ℕ };
 
-    ghost use Rattle.pgr_device.specs.Padded.{IsPadded};
+    ghost use Rattle.cl_base.specs.Padded.{IsPadded};
     ghost use Rattle.pgr_device.specs.KeyFields.{fields_back};
 
     ghost view = { λ k. take k.len k.places };

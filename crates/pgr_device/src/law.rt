@@ -1,11 +1,12 @@
 //! What follows from the rules. Each law is a function that does nothing: its clauses are the law,
-//! proved of every state that a new device comes to by commands and losses of power, or of every
-//! state at all.
-ghost use Rattle.std.specs.Prelude.{◌≡◌, ◌≤◌, ◌==◌, ◌↔◌, ℕ, true, false, List, ◌∷◌, ◌++◌, count_by, IfSome, Some};
+//! proved of every state that a device comes to by commands and losses of power, where it begins
+//! without a key or with those of nodes of its cluster, or of every state at all.
+ghost use Rattle.std.specs.Prelude.{◌≡◌, ◌↔◌, ℕ, true, false, List, ◌∷◌, ◌++◌, Some};
 ghost use Rattle.cl_base.specs.Sets.{has};
-ghost use Rattle.pgr_device.specs.Device.{Device, fresh};
-ghost use Rattle.pgr_device.specs.Registered.{is_registered, has_key};
-ghost use Rattle.pgr_device.specs.Runs.{run, run_answers, IsRun};
+ghost use Rattle.pgr_device.specs.Device.{Device, fresh, with_keys};
+ghost use Rattle.pgr_device.specs.Statements.{RegisteredOnce, RegisteredWithPath, NoZeroKey, HolderIsRegistered};
+ghost use Rattle.pgr_device.specs.Registered.{is_registered};
+ghost use Rattle.pgr_device.specs.Runs.{run, run_answers};
 ghost use Rattle.pgr_device.specs.Spc.{step};
 ghost use Rattle.pgr_device.specs.declared.command.PrAnswer.TheVariants as answer;
 ghost use Rattle.pgr_device.specs.declared.command.PrCommand.TheVariants as command;
@@ -15,18 +16,22 @@ ghost use Rattle.pgr_device.specs.declared.run.Step.TheVariants.{PowerLoss};
 
 /// A node is registered once at most, and only where it has a path.
 pub fn registered_once()
-    ensures once { (paths node : ℕ) (steps : List Step) → IsRun steps → count_by (λ r. r.node == node) (run (fresh paths) steps).registrations ≤ 1 }
-    ensures path { (paths node : ℕ) (steps : List Step) → IsRun steps → is_registered (run (fresh paths) steps).registrations node ≡ true → has paths node ≡ true }
+    ensures once { RegisteredOnce fresh }
+    ensures once_with_keys { (nodes cluster : ℕ) → RegisteredOnce (λ paths. with_keys paths nodes cluster) }
+    ensures path { RegisteredWithPath fresh }
+    ensures path_with_keys { (nodes cluster : ℕ) → RegisteredWithPath (λ paths. with_keys paths nodes cluster) }
 {}
 
 /// The key zero is never registered.
 pub fn no_zero_key()
-    ensures { (paths : ℕ) (steps : List Step) → IsRun steps → has_key (run (fresh paths) steps).registrations 0 ≡ false }
+    ensures without_keys { NoZeroKey fresh }
+    ensures with_keys { (nodes cluster : ℕ) → NoZeroKey (λ paths. with_keys paths nodes cluster) }
 {}
 
 /// The holder of a reservation is registered.
 pub fn holder_is_registered()
-    ensures { (paths : ℕ) (steps : List Step) → IsRun steps → IfSome (run (fresh paths) steps).reservation (λ held. is_registered (run (fresh paths) steps).registrations held.holder ≡ true) }
+    ensures without_keys { HolderIsRegistered fresh }
+    ensures with_keys { (nodes cluster : ℕ) → HolderIsRegistered (λ paths. with_keys paths nodes cluster) }
 {}
 
 /// Under a reservation of type 5h a device takes a write exactly from the registered nodes, and

@@ -1,10 +1,12 @@
 ghost use Rattle.std.specs.Prelude.{◌≡◌, ◌≤◌, ◌==◌, map, length};
-ghost use Rattle.pgr_device.specs.Registered.{key_of, is_registered, has_key, rekeyed, without_node, without_key, keys_of};
+ghost use Rattle.cl_base.specs.Limits.{most_nodes};
+ghost use Rattle.pgr_device.specs.Device.{own_key, first_keys};
+ghost use Rattle.pgr_device.specs.Registered.{registered_key, is_registered, has_key, rekeyed, without_node, without_key, keys_of};
 
 use crate::key_list::KeyList;
 use crate::kind::PrKind;
 use arrayvec::ArrayVec;
-use cl_base::NodeId;
+use cl_base::{NodeId, NodeSet};
 
 /// A key that a node has registered.
 #[derive(Clone, Copy, Debug, PartialEq, Eq)]
@@ -44,9 +46,34 @@ pub struct Reservation {
 /// The registrations of a device, in order.
 pub(crate) type Registrations = ArrayVec<Registration, 32>;
 
+/// The node, registered by the key that it has in its cluster.
+fn own_key(cluster: u32, node: NodeId) -> Registration
+    ensures { result ≡ own_key cluster node }
+{
+    let key = cluster as u64 * (1 << 32) + node.number();
+    Registration { node, key }
+}
+
+/// The nodes that are registered at first: those of the set that have a path.
+#[tactic(auto, using(crate::proofs::FirstKeys::first_keys_none, crate::proofs::FirstKeys::first_keys_more))]
+pub(crate) fn first_keys(paths: NodeSet, nodes: NodeSet, cluster: u32) -> Registrations
+    ensures { result.items ≡ first_keys paths nodes cluster most_nodes }
+{
+    let mut registrations = ArrayVec::new();
+    for place in 0..NodeId::MOST {
+        if let Ok(node) = NodeId::new(place + 1)
+            && nodes.has(node)
+            && paths.has(node)
+        {
+            registrations.push(own_key(cluster, node));
+        }
+    }
+    registrations
+}
+
 /// The key of a node, if it is registered.
-pub(crate) fn key_of(registrations: &[Registration], node: NodeId) -> Option<u64>
-    ensures { result ≡ key_of registrations.now node }
+pub(crate) fn registered_key(registrations: &[Registration], node: NodeId) -> Option<u64>
+    ensures { result ≡ registered_key registrations.now node }
 {
     registrations.iter().find(|r| r.node == node).map(|r| r.key)
 }

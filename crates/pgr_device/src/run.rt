@@ -1,5 +1,5 @@
-ghost use Rattle.std.specs.Prelude.{◌≡◌, [], ◌∷◌, IfOk, option_to_list};
-ghost use Rattle.pgr_device.specs.Runs.{run, run_answers, IsRun};
+ghost use Rattle.std.specs.Prelude.{◌≡◌, [], ◌∷◌, IfOk, OnErr, option_to_list};
+ghost use Rattle.pgr_device.specs.Runs.{run, run_answers, IsRun, IsRunInPart};
 
 use crate::command::{PrAnswer, PrCommand};
 use crate::device::Pgr;
@@ -17,11 +17,13 @@ pub enum Step {
 
 impl Pgr {
     /// Takes the steps in turn, and gives the answers to the commands. Where memory is wanting, the
-    /// device may have taken some of the steps.
+    /// device has taken a beginning of the steps, and the answers are lost.
+    #[tactic(auto, using(crate::proofs::RunParts::in_part))]
     pub fn run(&mut self, alloc: Global, steps: &[Step]) -> Result<Vec<PrAnswer>, AllocError>
         requires { IsRun steps.now }
         ensures answers { IfOk result (λ answers. answers.items ≡ run_answers self.old steps.now) }
         ensures after { IfOk result (λ _. self.new ≡ run self.old steps.now) }
+        ensures part { OnErr result (IsRunInPart self.old steps.now self.new) }
     {
         let mut answers = Vec::new(alloc);
         for step in steps {

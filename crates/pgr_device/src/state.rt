@@ -1,6 +1,6 @@
 ghost use Rattle.std.specs.Prelude.{◌≡◌, ◌<◌, ◌==◌, length, None, Some};
-ghost use Rattle.pgr_device.specs.Device.{fresh};
-ghost use Rattle.pgr_device.specs.Registered.{key_of};
+ghost use Rattle.pgr_device.specs.Device.{fresh, with_keys};
+ghost use Rattle.pgr_device.specs.Registered.{registered_key};
 ghost use Rattle.pgr_device.specs.Seen.{seen};
 ghost use Rattle.pgr_device.specs.Spc.{answers, good, with_key, registering, reserving, releasing, cleared, registered_only, is_holders, preempting, reservation_of, reading, may_read, may_write, carried_out, released_by, shows_key};
 ghost use Rattle.pgr_device.specs.declared.command.PrAnswer.TheVariants as answer;
@@ -35,9 +35,18 @@ impl State {
         }
     }
 
+    pub(crate) fn with_keys(paths: NodeSet, nodes: NodeSet, cluster: u32) -> State
+        ensures { seen result ≡ with_keys paths nodes cluster }
+    {
+        State {
+            registrations: registration::first_keys(paths, nodes, cluster),
+            ..State::new(paths)
+        }
+    }
+
     /// Carries out the command of a node that has a path. An unregistered node finds room.
     pub(crate) fn carry_out(&mut self, from: NodeId, command: PrCommand) -> PrAnswer
-        requires { key_of self.old.registrations.items from ≡ None → length self.old.registrations.items < 32 }
+        requires { registered_key self.old.registrations.items from ≡ None → length self.old.registrations.items < 32 }
         ensures after { seen self.new ≡ (carried_out (seen self.old) from command).after }
         ensures answer { result ≡ (carried_out (seen self.old) from command).answer }
     {
@@ -57,29 +66,29 @@ impl State {
         }
     }
 
-    fn key_of(&self, node: NodeId) -> Option<u64>
-        ensures { result ≡ key_of self.now.registrations.items node }
+    fn registered_key(&self, node: NodeId) -> Option<u64>
+        ensures { result ≡ registered_key self.now.registrations.items node }
     {
-        registration::key_of(self.registrations.as_slice(), node)
+        registration::registered_key(self.registrations.as_slice(), node)
     }
 
     fn register(&mut self, from: NodeId, shown: u64, new: u64) -> PrAnswer
-        requires { key_of self.old.registrations.items from ≡ None → length self.old.registrations.items < 32 }
-        ensures after { seen self.new ≡ (registering (seen self.old) from shown new (key_of self.old.registrations.items from)).after }
-        ensures answer { result ≡ (registering (seen self.old) from shown new (key_of self.old.registrations.items from)).answer }
+        requires { registered_key self.old.registrations.items from ≡ None → length self.old.registrations.items < 32 }
+        ensures after { seen self.new ≡ (registering (seen self.old) from shown new (registered_key self.old.registrations.items from)).after }
+        ensures answer { result ≡ (registering (seen self.old) from shown new (registered_key self.old.registrations.items from)).answer }
     {
-        if shown != self.key_of(from).unwrap_or(0) {
+        if shown != self.registered_key(from).unwrap_or(0) {
             return PrAnswer::Conflict;
         }
         self.set_key(from, new)
     }
 
     fn set_key(&mut self, from: NodeId, new: u64) -> PrAnswer
-        requires { key_of self.old.registrations.items from ≡ None → length self.old.registrations.items < 32 }
-        ensures after { seen self.new ≡ with_key (seen self.old) from new (key_of self.old.registrations.items from) }
+        requires { registered_key self.old.registrations.items from ≡ None → length self.old.registrations.items < 32 }
+        ensures after { seen self.new ≡ with_key (seen self.old) from new (registered_key self.old.registrations.items from) }
         ensures answer { result ≡ answer.Good }
     {
-        match self.key_of(from) {
+        match self.registered_key(from) {
             None if new == 0 => {}
             None => self.registrations.push(Registration {
                 node: from,
@@ -100,9 +109,9 @@ impl State {
 
     /// Whether a registered node shows its key.
     fn shows_key(&self, node: NodeId, shown: u64) -> bool
-        ensures { result ≡ shows_key (key_of self.now.registrations.items node) shown }
+        ensures { result ≡ shows_key (registered_key self.now.registrations.items node) shown }
     {
-        match self.key_of(node) {
+        match self.registered_key(node) {
             None => false,
             Some(key) => key == shown,
         }
@@ -190,7 +199,7 @@ impl State {
         ensures { result ≡ reservation_of self.now.registrations.items self.now.reservation }
     {
         let held = self.reservation?;
-        self.key_of(held.holder).map(|key| (key, held.kind))
+        self.registered_key(held.holder).map(|key| (key, held.kind))
     }
 
     fn may_read(&self, node: NodeId) -> bool

@@ -119,6 +119,22 @@ fn preempt(rt: HostRuntime) {
         },
         PrAnswer::Good,
     );
+    // a registrant that is not the holder goes, and the reservation stays
+    let third = PrCommand::Ignore { new: 0xc3 };
+    expect(&rt, &mut device, 3, third, PrAnswer::Good);
+    let preempt = PrCommand::Preempt {
+        kind: REGISTRANTS,
+        key: 0xb2,
+        victim: 0xc3,
+    };
+    expect(&rt, &mut device, 2, preempt, PrAnswer::Good);
+    expect(
+        &rt,
+        &mut device,
+        1,
+        PrCommand::Holder,
+        PrAnswer::Holder(Some((0xa1, REGISTRANTS))),
+    );
     expect(
         &rt,
         &mut device,
@@ -246,9 +262,11 @@ fn exclusive_access(rt: HostRuntime) {
     expect(&rt, &mut device, 2, PrCommand::Word, PrAnswer::Word(65));
 }
 
+/// Of the nodes 2 and 3, which are to be registered in cluster 42, node 3 alone has a path.
 #[test]
-fn power_loss(rt: HostRuntime) {
-    let mut device = shared();
+fn keys_through_power_loss(rt: HostRuntime) {
+    let (paths, nodes) = (NodeSet::from_bits(0b101), NodeSet::from_bits(0b110));
+    let mut device = Pgr::with_keys(paths, nodes, 42);
     let node = NodeId::new(1).expect(&rt, "a node's number");
     let steps = [
         Step::Command {
@@ -263,6 +281,11 @@ fn power_loss(rt: HostRuntime) {
     ];
     let answers = device.run(rt.alloc(), &steps).expect(&rt, "memory");
     assert!(rt;
-        answers.as_slice() == [PrAnswer::Good, PrAnswer::Keys(KeyList::new(&[0xa1]))].as_slice()
+        answers.as_slice()
+            == [
+                PrAnswer::Good,
+                PrAnswer::Keys(KeyList::new(&[(42 << 32) + 3, 0xa1]))
+            ]
+            .as_slice()
     );
 }

@@ -6,7 +6,7 @@ use Rattle.quorum_votes.specs.declared.state.DevState.{DevState}
 use Rattle.quorum_votes.specs.declared.state.DevState.TheVariants.{Absent, Enabled, Disabled}
 use Rattle.quorum_votes.specs.declared.state.VoteDevice.{VoteDevice}
 use Rattle.quorum_votes.specs.declared.change.VoteChange.{VoteChange}
-use Rattle.quorum_votes.specs.declared.change.VoteChange.TheVariants.{NodeVote, Device}
+use Rattle.quorum_votes.specs.declared.change.VoteChange.TheVariants.{NodeVote, Device, Configure, Remove}
 use Rattle.quorum_votes.specs.declared.change.VoteError.{VoteError}
 use Rattle.quorum_votes.specs.declared.change.VoteError.TheVariants.{SameValue, Unknown}
 use Rattle.quorum_votes.specs.Tables.{VoteTable}
@@ -38,25 +38,54 @@ abbrev pub with_state : VoteTable → ℕ → DevState → Option VoteDevice →
 with_state v d state None = Err Unknown
 with_state v d state (Some device) = if same_state device.state state then Err SameValue else Ok (with_device v d (record device { state = state }))
 
--- A node that is not configured and a device that the header does not have are unknown; a vote or a state that stands already is
--- the same value; in every other case that node's vote or that device's state is the new one, and all else stays.
+-- node n is configured, with vote 0, unless it is so already
+abbrev pub with_configured : VoteTable → ℕ → NodeState → Result VoteTable VoteError
+with_configured v n Unconfigured = Ok (with_node v n Maintenance)
+with_configured v n state = Err SameValue
+
+-- a configured node is taken out, whatever its vote
+abbrev pub without_node : VoteTable → ℕ → NodeState → Result VoteTable VoteError
+without_node v n Unconfigured = Err Unknown
+without_node v n state = Ok (with_node v n Unconfigured)
+
+-- A node that is not configured, but for being configured, and a device that the header does not have are unknown; what
+-- stands already is the same value; in every other case that node or that device is as asked, and all else stays.
 abbrev pub changed : VoteTable → VoteChange → Result VoteTable VoteError
 changed v (NodeVote node vote) = with_vote v node vote (node_at v node)
 changed v (Device dev state) = with_state v dev state (device_at v dev)
+changed v (Configure node) = with_configured v node (node_at v node)
+changed v (Remove node) = without_node v node (node_at v node)
 
 -- a vote is 0 or 1
 abbrev pub IsVote : VoteChange → Type 0
 IsVote (NodeVote node vote) = vote ≤ 1
 IsVote (Device dev state) = Unit {0}
+IsVote (Configure node) = Unit {0}
+IsVote (Remove node) = Unit {0}
 
 -- The same seen from outside: what a change alters, and what it leaves.
-pub record ChangesNode (old : VoteTable) (n vote : ℕ) (new : VoteTable) : Type 0 where
+pub record OthersStay (old : VoteTable) (n : ℕ) (new : VoteTable) : Type 0 where
+  pub other_nodes : (m : ℕ) → 1 ≤ m → m ≢ n → node_at new m ≡ node_at old m
+  pub devices : new.devices ≡ old.devices
+
+pub record ChangesVote (old : VoteTable) (n vote : ℕ) (new : VoteTable) : Type 0 where
   pub known : is_configured old n ≡ true
   pub before : vote_of old n ≢ vote
   pub stays : is_configured new n ≡ true
   pub after : vote_of new n ≡ vote
-  pub other_nodes : (m : ℕ) → 1 ≤ m → m ≢ n → node_at new m ≡ node_at old m
-  pub devices : new.devices ≡ old.devices
+  pub others : OthersStay old n new
+
+pub record Configures (old : VoteTable) (n : ℕ) (new : VoteTable) : Type 0 where
+  pub before : is_configured old n ≡ false
+  pub after : is_configured new n ≡ true
+  pub vote : vote_of new n ≡ 0
+  pub others : OthersStay old n new
+
+pub record Removes (old : VoteTable) (n : ℕ) (new : VoteTable) : Type 0 where
+  pub before : is_configured old n ≡ true
+  pub after : is_configured new n ≡ false
+  pub vote : vote_of new n ≡ 0
+  pub others : OthersStay old n new
 
 abbrev pub device_with : DevState → Option VoteDevice → Option VoteDevice
 device_with state None = None
@@ -70,18 +99,30 @@ pub record ChangesDevice (old : VoteTable) (d : ℕ) (state : DevState) (new : V
   pub nodes : new.nodes ≡ old.nodes
 
 abbrev pub Changes : VoteTable → VoteChange → VoteTable → Type 0
-Changes old (NodeVote node vote) new = ChangesNode old node vote new
+Changes old (NodeVote node vote) new = ChangesVote old node vote new
 Changes old (Device dev state) new = ChangesDevice old dev state new
+Changes old (Configure node) new = Configures old node new
+Changes old (Remove node) new = Removes old node new
 
 -- when there is no change, and which answer says so
-abbrev pub IsNodeRefused : VoteTable → ℕ → ℕ → VoteError → Type 0
-IsNodeRefused old n vote Unknown = is_configured old n ≡ false
-IsNodeRefused old n vote SameValue = (is_configured old n ≡ true) × (vote_of old n ≡ vote)
+abbrev pub IsVoteRefused : VoteTable → ℕ → ℕ → VoteError → Type 0
+IsVoteRefused old n vote Unknown = is_configured old n ≡ false
+IsVoteRefused old n vote SameValue = (is_configured old n ≡ true) × (vote_of old n ≡ vote)
 
 abbrev pub IsDeviceRefused : VoteTable → ℕ → DevState → VoteError → Type 0
 IsDeviceRefused old d state Unknown = device_at old d ≡ None
 IsDeviceRefused old d state SameValue = IsSome (device_at old d) × (state_of (device_at old d) ≡ state)
 
+abbrev pub IsConfiguringRefused : VoteTable → ℕ → VoteError → Type 0
+IsConfiguringRefused old n Unknown = ⊥
+IsConfiguringRefused old n SameValue = is_configured old n ≡ true
+
+abbrev pub IsRemovalRefused : VoteTable → ℕ → VoteError → Type 0
+IsRemovalRefused old n Unknown = is_configured old n ≡ false
+IsRemovalRefused old n SameValue = ⊥
+
 abbrev pub IsRefused : VoteTable → VoteChange → VoteError → Type 0
-IsRefused old (NodeVote node vote) e = IsNodeRefused old node vote e
+IsRefused old (NodeVote node vote) e = IsVoteRefused old node vote e
 IsRefused old (Device dev state) e = IsDeviceRefused old dev state e
+IsRefused old (Configure node) e = IsConfiguringRefused old node e
+IsRefused old (Remove node) e = IsRemovalRefused old node e

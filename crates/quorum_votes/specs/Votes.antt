@@ -1,6 +1,9 @@
 -- What each node and each device counts for, and what a membership holds.
-use Rattle.std.specs.Prelude.{ℕ, ◌+◌, ◌-◌, ◌/◌, ◌++◌, Bool, true, false, List, Option, None, Some, map, replicate, length, slice_index_or, if◌then◌else◌}
+use Rattle.std.specs.Prelude.{ℕ, zero, suc, ◌+◌, ◌-◌, ◌/◌, ◌++◌, Bool, true, false, List, [], ◌∷◌, Option, None, Some, map, replicate, length, slice_index_or, if◌then◌else◌}
+use Rattle.cl_base.specs.Limits.{most_nodes}
 use Rattle.cl_base.specs.Sets.{has}
+use Rattle.cl_base.specs.declared.header.DeviceKind.{DeviceKind}
+use Rattle.cl_base.specs.declared.header.DeviceKind.TheVariants.{Data, Quorum, Server}
 use Rattle.cl_base.specs.declared.header.Header.{Header}
 use Rattle.cl_base.specs.declared.header.HeaderDevice.{HeaderDevice}
 use Rattle.quorum_votes.specs.declared.state.NodeState.{NodeState}
@@ -78,19 +81,26 @@ held_of v members devices = node_votes_of v members + sum_to (device_share v dev
 abbrev pub needed_of : VoteTable → ℕ
 needed_of v = total_of v / 2 + 1
 
--- At first each node has vote 1, and of the header's devices the quorum devices are enabled and the others absent.
-abbrev pub first_state : Bool → DevState
-first_state true = Enabled
-first_state false = Absent
+-- At first the nodes that the header configures have vote 1 and the others are not configured; of its devices the quorum
+-- devices and the servers are enabled, and the data devices absent.
+abbrev pub first_state : DeviceKind → DevState
+first_state Data = Absent
+first_state Quorum = Enabled
+first_state Server = Enabled
 
 abbrev pub first_device : HeaderDevice → Option VoteDevice
-first_device d = Some (record { state = first_state d.quorum; attached = d.attached })
+first_device d = Some (record { state = first_state d.kind; attached = d.attached })
 
-abbrev pub first_nodes : ℕ → List NodeState
-first_nodes count = replicate count Voting ++ replicate (32 - count) Unconfigured
+abbrev pub first_node : ℕ → ℕ → NodeState
+first_node configured n = if has configured n then Voting else Unconfigured
+
+-- the nodes 1 to k
+abbrev pub first_nodes : ℕ → ℕ → List NodeState
+first_nodes configured zero = []
+first_nodes configured (suc k) = first_nodes configured k ++ first_node configured (suc k) ∷ []
 
 abbrev pub first_devices : List HeaderDevice → List (Option VoteDevice)
 first_devices devices = map first_device devices ++ replicate (16 - length devices) None
 
 abbrev pub first_of : Header → VoteTable
-first_of h = record { nodes = first_nodes h.nodes; devices = first_devices h.devices }
+first_of h = record { nodes = first_nodes h.configured most_nodes; devices = first_devices h.devices }

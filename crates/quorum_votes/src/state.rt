@@ -3,7 +3,7 @@ use cl_base::NodeSet;
 /// What a node counts for.
 #[derive(Clone, Copy, Debug, PartialEq, Eq)]
 pub enum NodeState {
-    /// It is no node of the cluster, and has no vote.
+    /// It is not configured: it is no node of the cluster, and has no vote.
     Unconfigured,
     /// It is in maintenance: a node of the cluster without a vote.
     Maintenance,

@@ -1,28 +1,34 @@
+ghost use Rattle.quorum_votes.specs.Changes.{IsVote};
+
 use crate::{DevState, VoteChange, VoteError, Votes};
-use cl_base::{DevId, DevSet, Header, HeaderDevice, HeaderDevices, NodeId, NodeSet};
+use cl_base::{
+    DevId, DevSet, DeviceKind, Header, HeaderDevice, HeaderDevices, NodeId, NodeSet, Version,
+};
 use std::alloc::Global;
 use std::process::Abort;
 use std::test::Fail;
 
-/// Four nodes; quorum device 1 has paths to nodes 3 and 4, quorum device 2 to nodes 2 and 4, and
-/// device 3 is a data device.
+/// Four of five nodes are configured; quorum device 1 has paths to nodes 3 and 4, server 2 to nodes
+/// 2 and 4, and device 3 is a data device.
 fn four_nodes(alloc: Global) -> Result<Votes, Fail> {
     let one = HeaderDevice {
-        quorum: true,
+        kind: DeviceKind::Quorum,
         attached: NodeSet::from_bits(0b1100),
     };
     let two = HeaderDevice {
-        quorum: true,
+        kind: DeviceKind::Server,
         attached: NodeSet::from_bits(0b1010),
     };
     let data = HeaderDevice {
-        quorum: false,
+        kind: DeviceKind::Data,
         attached: NodeSet::from_bits(0b1111),
     };
     let devices = HeaderDevices::new(vec![in alloc; one, two, data]?);
     let header = Header {
+        version: Version::Two,
         cluster: 42,
-        nodes: 4,
+        nodes: 5,
+        configured: NodeSet::from_bits(0b01111),
         devices,
     };
     Ok(Votes::first(&header))
@@ -33,31 +39,36 @@ fn expect(rt: &impl Abort, votes: &Votes, total: u64, needed: u64) {
     assert_eq!(rt; votes.needed(), needed);
 }
 
+fn changed(votes: &Votes, c: VoteChange) -> Result<Votes, Fail>
+    requires { IsVote c }
+{
+    votes.change(c).map_err(|_| Fail::new("refused"))
+}
+
 #[test]
 fn counts_votes(rt: HostRuntime) -> Result<(), Fail> {
     let first = four_nodes(rt.alloc())?;
-    let (node, gone, dev) = (NodeId::new(4)?, NodeId::new(5)?, DevId::new(2)?);
+    let (node, new, dev) = (NodeId::new(4)?, NodeId::new(5)?, DevId::new(2)?);
     expect(&rt, &first, 6, 4);
     assert_eq!(rt;
         first.held(NodeSet::from_bits(0b0011), DevSet::from_bits(0b010)),
         3
     );
-
-    let leave = VoteChange::NodeVote { node, vote: 0 };
-    let second = first.change(leave).map_err(|_| Fail::new("refused"))?;
-    expect(&rt, &second, 3, 2);
-    assert_eq!(rt; second.change(leave), Err(VoteError::SameValue));
-    assert_eq!(rt; second.configured(node), true);
-    let unknown = VoteChange::NodeVote {
-        node: gone,
-        vote: 0,
-    };
-    assert_eq!(rt; second.change(unknown), Err(VoteError::Unknown));
-
+    let vote = VoteChange::NodeVote { node, vote: 0 };
+    expect(&rt, &changed(&first, vote)?, 3, 2);
     let state = DevState::Disabled;
-    let disable = VoteChange::Device { dev, state };
-    let third = first.change(disable).map_err(|_| Fail::new("refused"))?;
-    expect(&rt, &third, 5, 3);
-    assert_eq!(rt; third.device_state(dev), DevState::Disabled);
+    expect(
+        &rt,
+        &changed(&first, VoteChange::Device { dev, state })?,
+        5,
+        3,
+    );
+
+    let sixth = VoteChange::NodeVote { node: new, vote: 1 };
+    assert_eq!(rt; first.change(sixth), Err(VoteError::Unknown));
+    let added = changed(&first, VoteChange::Configure(new))?;
+    expect(&rt, &added, 6, 4);
+    expect(&rt, &changed(&added, sixth)?, 7, 4);
+    expect(&rt, &changed(&added, VoteChange::Remove(node))?, 3, 2);
     Ok(())
 }

@@ -1,11 +1,14 @@
 ghost use Rattle.std.specs.Prelude.{◌≡◌, ◌≤◌, ◌<◌, ◌*◌, ◌↔◌, ℕ, length, MatchResult};
 ghost use Rattle.quorum_votes.specs.Sums.{sum_to};
-ghost use Rattle.quorum_votes.specs.Votes.{node_at, device_at, vote_in, vote_of, is_configured, node_votes_of, device_votes_of, state_of, total_of, held_of, needed_of, device_share, first_of, first_nodes, first_device, first_devices};
-ghost use Rattle.quorum_votes.specs.Changes.{changed, with_vote, with_state, IsVote, Changes, ChangesNode, ChangesDevice, IsRefused, IsNodeRefused, IsDeviceRefused};
+ghost use Rattle.quorum_votes.specs.Votes.{node_at, device_at, vote_in, vote_of, is_configured, node_votes_of, device_votes_of, state_of, total_of, held_of, needed_of, device_share, first_of, first_nodes, first_node, first_device, first_devices};
+ghost use Rattle.quorum_votes.specs.Changes.{changed, with_vote, with_state, with_configured, without_node, with_node, IsVote, OthersStay};
+ghost use Rattle.quorum_votes.specs.Changes.{Changes, ChangesVote, ChangesDevice, Configures, Removes};
+ghost use Rattle.quorum_votes.specs.Changes.{IsRefused, IsVoteRefused, IsDeviceRefused, IsConfiguringRefused, IsRemovalRefused};
+ghost use Rattle.cl_base.specs.Limits.{most_nodes, most_devices};
 
 use crate::change::{VoteChange, VoteError};
 use crate::state::{DevState, NodeState, VoteDevice};
-use cl_base::{DevId, DevSet, Header, HeaderDevice, NodeId, NodeSet};
+use cl_base::{DevId, DevSet, DeviceKind, Header, HeaderDevice, NodeId, NodeSet};
 use std::marker::Model;
 
 /// Who has how many votes: what each node and each device of the header counts for. It is kept in
@@ -30,15 +33,16 @@ impl Model for Votes {
 }
 
 impl Votes {
-    /// What a cluster begins with: each node of the header has vote 1, and of its devices, at most
-    /// 16, the quorum devices are enabled and the others absent.
+    /// What a cluster begins with: the nodes that the header configures have vote 1, and no other is
+    /// configured; of its devices, at most 16, the quorum devices and the servers are enabled, and
+    /// the data devices absent.
     pub fn first(h: &Header) -> Votes
-        requires nodes { h.now.nodes ≤ 32 }
-        requires devices { length h.now.devices ≤ 16 }
+        requires devices { length h.now.devices ≤ most_devices }
         ensures value { result ≡ first_of h.now }
+        ensures nodes { (n : ℕ) → 1 ≤ n → n ≤ most_nodes → node_at result n ≡ first_node h.now.configured n }
     {
         Votes {
-            nodes: first_nodes(h.nodes),
+            nodes: first_nodes(h.configured),
             devices: first_devices(h.devices.items()),
         }
     }
@@ -107,8 +111,10 @@ impl Votes {
     }
 
     /// The votes with this change, in which a vote is 0 or 1: all else stays. `Unknown` where it
-    /// names a node that is not configured or a device that the header does not have, else
-    /// `SameValue` where it changes nothing.
+    /// gives a vote to, or takes out, a node that is not configured, or names a device that the
+    /// header does not have, else `SameValue` where it changes nothing. Each node from 1 to 32 that
+    /// is not configured can be: whether the header has it is not known here. A node with vote 1 that
+    /// is taken out loses its vote.
     pub fn change(&self, c: VoteChange) -> Result<Votes, VoteError>
         requires { IsVote c }
         ensures value { result ≡ changed self.now c }
@@ -117,13 +123,15 @@ impl Votes {
         match c {
             VoteChange::NodeVote { node, vote } => self.with_vote(node, vote),
             VoteChange::Device { dev, state } => self.with_state(dev, state),
+            VoteChange::Configure(node) => self.with_configured(node),
+            VoteChange::Remove(node) => self.without_node(node),
         }
     }
 
     fn with_vote(&self, n: NodeId, vote: u64) -> Result<Votes, VoteError>
         requires { vote ≤ 1 }
         ensures value { result ≡ with_vote self.now n vote (node_at self.now n) }
-        ensures outcome { MatchResult result (λ new. ChangesNode self.now n vote new) (λ e. IsNodeRefused self.now n vote e) }
+        ensures outcome { MatchResult result (λ new. ChangesVote self.now n vote new) (λ e. IsVoteRefused self.now n vote e) }
     {
         let old = self.state_of_node(n);
         if old == NodeState::Unconfigured {
@@ -132,13 +140,43 @@ impl Votes {
         if old.vote() == vote {
             return Err(VoteError::SameValue);
         }
-        let mut next = *self;
-        next.nodes[n.number() as usize - 1] = if vote == 1 {
+        let state = if vote == 1 {
             NodeState::Voting
         } else {
             NodeState::Maintenance
         };
-        Ok(next)
+        Ok(self.with_node(n, state))
+    }
+
+    fn with_configured(&self, n: NodeId) -> Result<Votes, VoteError>
+        ensures value { result ≡ with_configured self.now n (node_at self.now n) }
+        ensures outcome { MatchResult result (λ new. Configures self.now n new) (λ e. IsConfiguringRefused self.now n e) }
+    {
+        if self.state_of_node(n) != NodeState::Unconfigured {
+            return Err(VoteError::SameValue);
+        }
+        Ok(self.with_node(n, NodeState::Maintenance))
+    }
+
+    fn without_node(&self, n: NodeId) -> Result<Votes, VoteError>
+        ensures value { result ≡ without_node self.now n (node_at self.now n) }
+        ensures outcome { MatchResult result (λ new. Removes self.now n new) (λ e. IsRemovalRefused self.now n e) }
+    {
+        if self.state_of_node(n) == NodeState::Unconfigured {
+            return Err(VoteError::Unknown);
+        }
+        Ok(self.with_node(n, NodeState::Unconfigured))
+    }
+
+    /// The same votes, but that the node counts for this.
+    fn with_node(&self, n: NodeId, state: NodeState) -> Votes
+        ensures value { result ≡ with_node self.now n state }
+        ensures after { node_at result n ≡ state }
+        ensures others { OthersStay self.now n result }
+    {
+        let mut next = *self;
+        next.nodes[n.number() as usize - 1] = state;
+        next
     }
 
     fn with_state(&self, d: DevId, state: DevState) -> Result<Votes, VoteError>
@@ -245,21 +283,32 @@ impl NodeState {
     }
 }
 
-/// The states of `count` nodes at first.
-fn first_nodes(count: u64) -> [NodeState; 32]
-    requires { count ≤ 32 }
-    ensures { result ≡ first_nodes count }
+/// The nodes at first.
+fn first_nodes(configured: NodeSet) -> [NodeState; 32]
+    ensures { result ≡ first_nodes configured most_nodes }
 {
     let mut nodes = [NodeState::Unconfigured; 32];
-    for place in 0..count as usize {
-        nodes[place] = NodeState::Voting;
+    for place in 0..nodes.len() {
+        nodes[place] = first_node(configured, place as u64 + 1);
     }
     nodes
 }
 
+/// The node of this number, 1 to 32, at first.
+fn first_node(configured: NodeSet, number: u64) -> NodeState
+    requires high { number ≤ most_nodes }
+    requires low { 1 ≤ number }
+    ensures { result ≡ first_node configured number }
+{
+    match NodeId::new(number) {
+        Ok(n) if configured.has(n) => NodeState::Voting,
+        _ => NodeState::Unconfigured,
+    }
+}
+
 /// The devices at first.
 fn first_devices(listed: &[HeaderDevice]) -> [Option<VoteDevice>; 16]
-    requires { length listed.now ≤ 16 }
+    requires { length listed.now ≤ most_devices }
     ensures { result ≡ first_devices listed.now }
 {
     let mut devices = [None; 16];
@@ -273,10 +322,9 @@ fn first_device(device: HeaderDevice) -> VoteDevice
     ensures { first_device device ≡ Some result }
 {
     VoteDevice {
-        state: if device.quorum {
-            DevState::Enabled
-        } else {
-            DevState::Absent
+        state: match device.kind {
+            DeviceKind::Quorum | DeviceKind::Server => DevState::Enabled,
+            DeviceKind::Data => DevState::Absent,
         },
         attached: device.attached,
     }

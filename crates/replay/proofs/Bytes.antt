@@ -1,5 +1,6 @@
 -- What lines and bytes come to, put one after another.
-use Rattle.std.proofs.Common.{◌≡◌, ◌≢◌, ℕ, ◌+◌, ◌==◌, ◌<◌, ◌≤◌, Bool, true, false, if◌then◌else◌, List, [], ◌∷◌, ◌++◌, length, All, slice_index_or, ◌⊎◌, inl, inr, Result, Ok, Err, refl, sym, ap, ◌∙◌, arith, length-append, append_assoc}
+use Rattle.std.proofs.Common.{◌≡◌, ◌≢◌, ℕ, ◌+◌, ◌==◌, ◌<◌, ◌≤◌, Bool, true, false, if◌then◌else◌, List, [], ◌∷◌, ◌++◌, length, All, slice_index_or, ◌⊎◌, inl, inr, Result, Ok, Err, OnOk, refl, sym, ap, subst, ◌∙◌, arith, length-append, append_assoc, append-nil}
+use Rattle.std.specs.String.{string_bytes}
 use Rattle.std.specs.List.{onto_first}
 use Rattle.std.proofs.lemmas.List.Splits.{slice_split_at, length-slice_split, slice_split-cons_no}
 use Rattle.std.proofs.lemmas.List.Elements.{All-tail, All-append}
@@ -7,12 +8,11 @@ use Rattle.std.proofs.lemmas.Bool.Decides.{nat_tests}
 use Rattle.replay.specs.declared.stop.Stop.{Stop}
 use Rattle.replay.specs.declared.stop.Stop.TheVariants as stop
 use Rattle.replay.specs.declared.session.State.{State}
-use Rattle.replay.specs.declared.taking.Reader as reader
+use Rattle.replay.specs.declared.reader.Reader as reader
 use Rattle.replay.specs.declared.task.Task.{Task}
-use Rattle.replay.specs.Sessions.{step}
-use Rattle.replay.specs.Outcomes.{TooLarge, Outcome, outcome, pieces, after, silent, onward, is_too_large}
-use Rattle.replay.specs.Stops.{TakesLine, TakesBytes, Tells}
-use Rattle.replay.proofs.Texts.{starts_with_behind, starts_with_more}
+use Rattle.replay.specs.Sessions.{Step, Goes, Finishes, Refuses, Answers, step}
+use Rattle.replay.specs.Outcomes.{Ending, TooLarge, Outcome, outcome, pieces, after, silent, onward, is_too_large}
+use Rattle.replay.specs.Readers.{TakesLine, TakesBytes, Tells, Stops, with_more}
 
 some_pieces : (bytes : List ℕ) → (length (pieces bytes) == 0) ≡ false
 some_pieces bytes = rw (length-slice_split (λ b. b == 10) bytes) (grind (arith, nat_tests))
@@ -29,59 +29,71 @@ whole_line : (task : Task) (ended : Bool) (line more : List ℕ) (state : State)
     ≡ (if is_too_large read line then silent (TooLarge (read + 1)) else onward (step task state line) read (λ next. outcome task ended (pieces more) next (read + 1)))
 whole_line task ended line more state read = rw (some_pieces more) refl
 
-line_tells : (task : Task) (ended : Bool) (more : List ℕ) (old : reader.Reader) (line : List ℕ) (result : Result reader.Reader Stop) (written : List ℕ)
-    → TakesLine task old line result written
-    → Tells task ended more result (if is_too_large old.lines line then silent (TooLarge (old.lines + 1)) else onward (step task old.state line) old.lines (λ next. outcome task ended (pieces more) next (old.lines + 1))) written
-line_tells task ended more old line (Ok new) written h = rw (h.0, h.1, h.2, h.3) refl
-line_tells task ended more old line (Err (stop.Ended read)) written h = rw (h.0, h.1, h.2, h.3) refl
-line_tells task ended more old line (Err (stop.Refused number kind)) written h = rw (h.0, h.1, h.2, h.3) refl
-line_tells task ended more old line (Err (stop.TooLarge number)) written h = rw (h.0, h.1, h.2) refl
-line_tells task ended more old line (Err stop.ReadFault) written h = absurd h
-line_tells task ended more old line (Err stop.WriteFault) written h = rw (h.0, h.3) (starts_with_more h.2 (outcome task ended (pieces more) h.1 (old.lines + 1)).text written h.4)
-line_tells task ended more old line (Err stop.NoMemory) written h = rw h refl
-
-pub line_bytes : (task : Task) (old : reader.Reader) (line : List ℕ) (result : Result reader.Reader Stop) (written : List ℕ)
-    → All (λ b. (b == 10) ≡ false) (old.held.items ++ line) → TakesLine task old (old.held.items ++ line) result written → TakesBytes task old (line ++ (10 ∷ [])) result written
-line_bytes task old line result written plain h = λ ended more.
-    rw (first_piece old.held.items line more plain, whole_line task ended (old.held.items ++ line) more old.state old.lines)
-    (line_tells task ended more old (old.held.items ++ line) result written h)
-
 pub after_after : (a b : List ℕ) (o : Outcome) → after a (after b o) ≡ after (a ++ b) o
 after_after a b o = ap (λ (t : List ℕ). record { text = t; ending = o.ending }) (sym (append_assoc a b o.text))
 
+pub after_silent : (text : List ℕ) (e : Ending) → after text (silent e) ≡ record { text = text; ending = e }
+after_silent text e = ap (λ (t : List ℕ). record { text = t; ending = e }) (append-nil text)
+
+-- a line was answered, and what follows goes on from there
+pub answered : (A : Type 0) (done : A) (s : Step) (rest : State → Outcome) (read : ℕ) (now : State) (old new : List ℕ) → Answers {A = A} (Ok done) s now old new
+    → after old (onward s read rest) ≡ after new (rest now)
+answered A done (Goes next text) rest read now old new h = rw (h.0, h.1) (after_after old text (rest next))
+answered A done Finishes rest read now old new h = absurd h
+answered A done (Refuses kind) rest read now old new h = absurd h
+
+-- or it is the last
+pub stopped : (A : Type 0) (why : Stop) (s : Step) (rest : State → Outcome) (read : ℕ) (now : State) (old new : List ℕ) → Answers {A = A} (Err why) s now old new
+    → Stops why (after old (onward s read rest)) (read + 1) new
+stopped A stop.Ended s rest read now old new h = rw (h.0, h.1) (after_silent old _)
+stopped A (stop.Refused kind) s rest read now old new h = rw (h.0, h.1) (after_silent old _)
+stopped A stop.TooLarge s rest read now old new h = absurd h
+stopped A stop.NoMemory s rest read now old new h = tt
+
+-- a line that is too long, or one too many
+too_large_stops : (A : Type 0) (task : Task) (ended : Bool) (more : List ℕ) (result : Result A Stop) (read : ℕ) (old : List ℕ) (new : reader.Reader)
+    → result ≡ Err stop.TooLarge → (string_bytes new.text) ≡ old → new.lines ≡ read + 1 → Tells task ended more result (after old (silent (TooLarge (read + 1)))) new
+too_large_stops A task ended more result read old new is text lines =
+    subst (λ (r : Result A Stop). Tells task ended more r (after old (silent (TooLarge (read + 1)))) new) (sym is) (rw (text, lines) (after_silent old (TooLarge (read + 1))))
+
+-- nothing is held behind a line that was answered
+abbrev IsHeldEmpty : {A : Type 0} → Result A Stop → reader.Reader → Type 0
+IsHeldEmpty result new = OnOk result (new.held.items ≡ [])
+
+small_tells : (A : Type 0) (task : Task) (ended : Bool) (more : List ℕ) (old : reader.Reader) (s : Step) (result : Result A Stop) (new : reader.Reader)
+    → Answers result s new.state (string_bytes old.text) (string_bytes new.text) → new.lines ≡ old.lines + 1 → IsHeldEmpty result new
+    → Tells task ended more result (after (string_bytes old.text) (onward s old.lines (λ next. outcome task ended (pieces more) next (old.lines + 1)))) new
+small_tells A task ended more old s (Ok done) new h lines held =
+    rw (lines, held) (answered A done s (λ next. outcome task ended (pieces more) next (old.lines + 1)) old.lines new.state (string_bytes old.text) (string_bytes new.text) h)
+small_tells A task ended more old s (Err why) new h lines held =
+    rw lines (stopped A why s (λ next. outcome task ended (pieces more) next (old.lines + 1)) old.lines new.state (string_bytes old.text) (string_bytes new.text) h)
+
+line_tells : (A : Type 0) (task : Task) (ended : Bool) (more : List ℕ) (old : reader.Reader) (line : List ℕ) (result : Result A Stop) (new : reader.Reader) (large : Bool)
+    → is_too_large old.lines line ≡ large → TakesLine task old line result new
+    → Tells task ended more result (after (string_bytes old.text) (if is_too_large old.lines line then silent (TooLarge (old.lines + 1)) else onward (step task old.state line) old.lines (λ next. outcome task ended (pieces more) next (old.lines + 1)))) new
+line_tells A task ended more old line result new true is takes =
+    rw is (too_large_stops A task ended more result old.lines (string_bytes old.text) new (takes.large is).0 (takes.large is).1 takes.lines)
+line_tells A task ended more old line result new false is takes =
+    rw is (small_tells A task ended more old (step task old.state line) result new (takes.small is) takes.lines takes.held)
+
+pub line_bytes : (A : Type 0) (task : Task) (old : reader.Reader) (line : List ℕ) (result : Result A Stop) (new : reader.Reader)
+    → All (λ b. (b == 10) ≡ false) (old.held.items ++ line) → TakesLine task old (old.held.items ++ line) result new → TakesBytes task old (line ++ (10 ∷ [])) result new
+line_bytes A task old line result new plain takes = λ ended more.
+    rw (first_piece old.held.items line more plain, whole_line task ended (old.held.items ++ line) more old.state old.lines)
+    (line_tells A task ended more old (old.held.items ++ line) result new (is_too_large old.lines (old.held.items ++ line)) refl takes)
+
 -- bytes after bytes
-pub then_tells : (task : Task) (ended : Bool) (more : List ℕ) (result : Result reader.Reader Stop) (o : Outcome) (first next : List ℕ)
-    → Tells task ended more result o next → Tells task ended more result (after first o) (first ++ next)
-then_tells task ended more (Ok new) o first next h = rw h (after_after first next _)
-then_tells task ended more (Err (stop.Ended read)) o first next h = rw h refl
-then_tells task ended more (Err (stop.Refused line kind)) o first next h = rw h refl
-then_tells task ended more (Err (stop.TooLarge line)) o first next h = rw h refl
-then_tells task ended more (Err stop.ReadFault) o first next h = absurd h
-then_tells task ended more (Err stop.WriteFault) o first next h = starts_with_behind first o.text next h
-then_tells task ended more (Err stop.NoMemory) o first next h = starts_with_behind first o.text next h
-
-pub bytes_then : (task : Task) (old mid : reader.Reader) (xs ys : List ℕ) (result : Result reader.Reader Stop) (first next : List ℕ)
-    → TakesBytes task old xs (Ok mid) first → TakesBytes task mid ys result next → TakesBytes task old (xs ++ ys) result (first ++ next)
-bytes_then task old mid xs ys result first next h k = λ ended more.
-    let shape : (xs ++ ys) ++ more ≡ xs ++ (ys ++ more) = append_assoc xs ys more in
-    rw (shape, h ended (ys ++ more)) (then_tells task ended more result _ first next (k ended more))
-
--- nothing was taken
-pub nothing_taken : (task : Task) (old : reader.Reader) → TakesBytes task old [] (Ok old) []
-nothing_taken task old = λ ended more. refl
+pub bytes_then : (A B : Type 0) (done : B) (task : Task) (old mid new : reader.Reader) (xs ys : List ℕ) (result : Result A Stop)
+    → TakesBytes {A = B} task old xs (Ok done) mid → TakesBytes task mid ys result new → TakesBytes task old (xs ++ ys) result new
+bytes_then A B done task old mid new xs ys result h k = λ ended more.
+    let shape : with_more task ended old ((xs ++ ys) ++ more) ≡ with_more task ended old (xs ++ (ys ++ more)) = ap (λ (bytes : List ℕ). with_more task ended old bytes) (append_assoc xs ys more) in
+    let both : with_more task ended old ((xs ++ ys) ++ more) ≡ with_more task ended mid (ys ++ more) = shape ∙ h ended (ys ++ more) in
+    subst (λ (o : Outcome). Tells task ended more result o new) (sym both) (k ended more)
 
 -- a stop stands whatever comes
-stop_tells : (task : Task) (ended : Bool) (more others : List ℕ) (stop : Stop) (o : Outcome) (written : List ℕ) → Tells task ended more (Err stop) o written → Tells task ended others (Err stop) o written
-stop_tells task ended more others (stop.Ended read) o written h = h
-stop_tells task ended more others (stop.Refused line kind) o written h = h
-stop_tells task ended more others (stop.TooLarge line) o written h = h
-stop_tells task ended more others stop.ReadFault o written h = h
-stop_tells task ended more others stop.WriteFault o written h = h
-stop_tells task ended more others stop.NoMemory o written h = h
-
-pub stop_more : (task : Task) (old : reader.Reader) (bytes rest : List ℕ) (stop : Stop) (written : List ℕ) → TakesBytes task old bytes (Err stop) written → TakesBytes task old (bytes ++ rest) (Err stop) written
-stop_more task old bytes rest stop written h = λ ended more.
-    rw (append_assoc bytes rest more) (stop_tells task ended (rest ++ more) more stop _ written (h ended (rest ++ more)))
+pub stop_more : (A : Type 0) (task : Task) (old new : reader.Reader) (bytes rest : List ℕ) (why : Stop) → TakesBytes {A = A} task old bytes (Err why) new → TakesBytes {A = A} task old (bytes ++ rest) (Err why) new
+stop_more A task old new bytes rest why h = λ ended more.
+    subst (λ (xs : List ℕ). Stops why (with_more task ended old xs) new.lines (string_bytes new.text)) (sym (append_assoc bytes rest more)) (h ended (rest ++ more))
 
 -- a line that is too long already, or one too many
 
@@ -138,3 +150,10 @@ not_large read line few short = grind (arith, nat_tests)
 
 pub some_bytes : (xs : List ℕ) → (length xs == 0) ≡ false → 0 < length xs
 some_bytes xs h = grind (arith, nat_tests)
+
+-- and what the reader tells of it
+pub held_stops : (held beginning text : List ℕ) (state : State) (read : ℕ) → All (λ b. b ≢ 10) held → All (λ b. b ≢ 10) beginning → 0 < length beginning
+    → is_too_large read (held ++ beginning) ≡ true → (task : Task) (ended : Bool) (more : List ℕ)
+    → after text (outcome task ended (pieces (held ++ (beginning ++ more))) state read) ≡ record { text = text; ending = TooLarge (read + 1) }
+held_stops held beginning text state read plain plainer some large task ended more =
+    ap (λ (o : Outcome). after text o) (too_large_held held beginning state read plain plainer some large task ended more) ∙ after_silent text (TooLarge (read + 1))

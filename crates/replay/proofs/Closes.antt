@@ -1,115 +1,242 @@
 -- A run, closed.
-use Rattle.std.proofs.Common.{◌≡◌, ◌⊎◌, inl, inr, ℕ, ◌≤◌, List, [], ◌++◌, Option, refl, sym, ap, subst, arith, append-nil}
+use Rattle.std.proofs.Common.{◌≡◌, ◌≢◌, ℕ, ◌≤◌, Bool, true, false, List, [], ◌++◌, length, take, Option, None, Some, Ok, Err, refl, sym, ap, subst, ◌∙◌, arith, append-nil, append_assoc, length-take}
+use Rattle.std.specs.String.{string_bytes}
 use Rattle.std.specs.Io.{StartsWith}
-use Rattle.cl_io.specs.Causes.{Rose}
-use Rattle.cl_io.proofs.KnownLemmas.{appends_then}
-use Rattle.schedule_text.specs.declared.kind.Kind.{Kind}
+use Rattle.std.specs.Io.KnownBytes.{Appends, Consumes, Keeps, IsAtEnd}
+use Rattle.cl_io.specs.Causes.{Rose, AppendsFront}
+use Rattle.cl_io.proofs.KnownLemmas.{appends_then, consumes_then, keeps_consumes}
+use Rattle.replay.specs.declared.reader.Reader as reader
 use Rattle.replay.specs.declared.status.Status.{Status}
 use Rattle.replay.specs.declared.status.Status.TheVariants as status
 use Rattle.replay.specs.declared.stop.Stop.{Stop}
 use Rattle.replay.specs.declared.stop.Stop.TheVariants as stop
 use Rattle.replay.specs.declared.task.Task.{Task}
-use Rattle.replay.specs.Outcomes.{Ended, Refused, TooLarge, Outcome, outcome_of, whole_text, closing}
-use Rattle.replay.specs.Stops.{closing_of}
-use Rattle.replay.specs.Streams.{Stops, IsFault, Replayed}
-use Rattle.replay.specs.Closings.{Closes, ClosesWith, Closed}
-use Rattle.replay.specs.Runs.{IsRun, Says, Writes, IsCaused}
-use Rattle.replay.proofs.Texts.{starts_with_behind, starts_with_more, starts_with_nothing}
+use Rattle.replay.specs.Sessions.{start}
+use Rattle.replay.specs.Outcomes.{Open, Outcome, outcome_of, whole_text, closing, after}
+use Rattle.replay.specs.Readers.{IsReader, Stops, TakesBytes, with_more, ending_of}
+use Rattle.replay.specs.Closings.{Closed, SinkCaused, status_of}
+use Rattle.replay.specs.Loops.{ReadsOn}
+use Rattle.replay.specs.Runs.{IsRun, IsCaused, ReadsNoFurther, Says, Writes}
+use Rattle.replay.proofs.Bytes.{after_after}
+use Rattle.replay.proofs.Ends.{is_open}
+use Rattle.replay.proofs.Texts.{starts_with_behind, starts_with_front, starts_with_more}
 
--- what the status and the written text say of an outcome
-record Told (task : Task) (o : Outcome) (result : Status) (written : List ℕ) (source_rose sink_rose : Type 0) : Type 0 where
-  says : Says result o.ending
-  writes_text : Writes result (whole_text task o) written
-  caused : IsCaused result source_rose sink_rose
+-- nothing was written, nothing taken
+same_appends : (known : Option (List ℕ)) → Appends known known []
+same_appends None = tt
+same_appends (Some xs) = sym (append-nil xs)
 
-begins : (first line next : List ℕ) → StartsWith line next → StartsWith (first ++ line) (first ++ next)
-begins first line next h = starts_with_behind first line next h
+same_consumes : (known : Option (List ℕ)) → Consumes known known []
+same_consumes None = tt
+same_consumes (Some xs) = refl
 
-front_of : (first line : List ℕ) → StartsWith (first ++ line) (first ++ [])
-front_of first line = starts_with_behind first line [] (starts_with_nothing line)
+-- the whole text of a stop
+pub whole_of : (task : Task) (why : Stop) (o : Outcome) (lines : ℕ) (text : List ℕ) → why ≢ stop.NoMemory → Stops why o lines text → whole_text task o ≡ text ++ closing task (ending_of why lines)
+whole_of task stop.Ended o lines text some h = ap (λ (x : Outcome). whole_text task x) h
+whole_of task (stop.Refused kind) o lines text some h = ap (λ (x : Outcome). whole_text task x) h
+whole_of task stop.TooLarge o lines text some h = ap (λ (x : Outcome). whole_text task x) h
+whole_of task stop.NoMemory o lines text some h = absurd (some refl)
 
--- the sink failed at the closing line, or there was no memory for it
-told_badly : (task : Task) (o : Outcome) (result : Status) (first next line : List ℕ) (R Q : Type 0) → o.text ≡ first → closing task o.ending ≡ line
-    → ((result ≡ status.WriteFault) × StartsWith line next × Q) ⊎ ((result ≡ status.NoMemory) × (next ≡ [])) → Told task o result (first ++ next) R Q
-told_badly task o result first next line R Q text closes (inl (is, front, rose)) =
-    subst (λ (s : Status). Told task o s (first ++ next) R Q) (sym is)
-    (record { says = tt; writes_text = rw (text, closes) (begins first line next front); caused = rose })
-told_badly task o result first next line R Q text closes (inr (is, nothing)) =
-    subst (λ (s : Status). Told task o s (first ++ next) R Q) (sym is)
-    (record { says = tt; writes_text = rw (text, closes, nothing) (front_of first line); caused = tt })
+pub says_of : (why : Stop) (o : Outcome) (lines : ℕ) (text : List ℕ) → Stops why o lines text → Says (status_of why) o.ending
+says_of stop.Ended o lines text h = rw h tt
+says_of (stop.Refused kind) o lines text h = rw h tt
+says_of stop.TooLarge o lines text h = rw h tt
+says_of stop.NoMemory o lines text h = tt
 
-told_ended : (task : Task) (o : Outcome) (read : ℕ) (result : Status) (first next : List ℕ) (R Q : Type 0) → o ≡ record { text = first; ending = Ended read }
-    → ClosesWith status.Done result (closing task (Ended read)) next Q → Told task o result (first ++ next) R Q
-told_ended task o read result first next R Q is (inl (done, whole)) =
-    subst (λ (s : Status). Told task o s (first ++ next) R Q) (sym done) (record { says = rw is tt; writes_text = rw (is, whole) refl; caused = tt })
-told_ended task o read result first next R Q is (inr badly) =
-    told_badly task o result first next (closing task (Ended read)) R Q (ap (λ (x : Outcome). x.text) is) (ap (λ (x : Outcome). closing task x.ending) is) badly
+pub writes_of : (task : Task) (why : Stop) (o : Outcome) (lines : ℕ) (text : List ℕ) → why ≢ stop.NoMemory → Stops why o lines text
+    → Writes (status_of why) (whole_text task o) (text ++ closing task (ending_of why lines))
+writes_of task stop.Ended o lines text some h = sym (whole_of task stop.Ended o lines text some h)
+writes_of task (stop.Refused kind) o lines text some h = sym (whole_of task (stop.Refused kind) o lines text some h)
+writes_of task stop.TooLarge o lines text some h = sym (whole_of task stop.TooLarge o lines text some h)
+writes_of task stop.NoMemory o lines text some h = absurd (some refl)
 
-told_refused : (task : Task) (o : Outcome) (line : ℕ) (kind : Kind) (result : Status) (first next : List ℕ) (R Q : Type 0) → o ≡ record { text = first; ending = Refused line kind }
-    → ClosesWith status.Refused result (closing task (Refused line kind)) next Q → Told task o result (first ++ next) R Q
-told_refused task o line kind result first next R Q is (inl (done, whole)) =
-    subst (λ (s : Status). Told task o s (first ++ next) R Q) (sym done) (record { says = rw is tt; writes_text = rw (is, whole) refl; caused = tt })
-told_refused task o line kind result first next R Q is (inr badly) =
-    told_badly task o result first next (closing task (Refused line kind)) R Q (ap (λ (x : Outcome). x.text) is) (ap (λ (x : Outcome). closing task x.ending) is) badly
+pub sink_kept : (why : Stop) (writes writes' : ℕ) → writes' ≡ writes → SinkCaused (status_of why) writes writes'
+sink_kept stop.Ended writes writes' h = h
+sink_kept (stop.Refused kind) writes writes' h = h
+sink_kept stop.TooLarge writes writes' h = h
+sink_kept stop.NoMemory writes writes' h = h
 
-told_large : (task : Task) (o : Outcome) (line : ℕ) (result : Status) (first next : List ℕ) (R Q : Type 0) → o ≡ record { text = first; ending = TooLarge line }
-    → ClosesWith status.TooLarge result (closing task (TooLarge line)) next Q → Told task o result (first ++ next) R Q
-told_large task o line result first next R Q is (inl (done, whole)) =
-    subst (λ (s : Status). Told task o s (first ++ next) R Q) (sym done) (record { says = rw is tt; writes_text = rw (is, whole) refl; caused = tt })
-told_large task o line result first next R Q is (inr badly) =
-    told_badly task o result first next (closing task (TooLarge line)) R Q (ap (λ (x : Outcome). x.text) is) (ap (λ (x : Outcome). closing task x.ending) is) badly
+-- the closing line is written, or the sink fails at it, or memory runs out
+pub close_done : (task : Task) (why : Stop) (lines : ℕ) (text whole : List ℕ) (held held' : Option (List ℕ)) (writes writes' : ℕ) → why ≢ stop.NoMemory
+    → whole ≡ text ++ closing task (ending_of why lines) → Appends held held' whole → writes' ≡ writes → Closed task why lines text (status_of why) held held' writes writes'
+close_done task why lines text whole held held' writes writes' some is appended same = record {
+  written = whole;
+  appended = appended;
+  says = λ o stops. says_of why o lines text stops;
+  writes_text = λ o stops. subst (λ (t : List ℕ). Writes (status_of why) (whole_text task o) t) (sym is) (writes_of task why o lines text some stops);
+  caused = sink_kept why writes writes' same;
+}
 
-with_rise : (wanted result : Status) (line next : List ℕ) (a b c : ℕ) → a ≤ b → ClosesWith wanted result line next (Rose b c) → ClosesWith wanted result line next (Rose a c)
-with_rise wanted result line next a b c le (inl done) = inl done
-with_rise wanted result line next a b c le (inr (inl (is, front, rose))) = inr (inl (is, front, omega arith))
-with_rise wanted result line next a b c le (inr (inr none)) = inr (inr none)
+pub close_failed : (task : Task) (why : Stop) (lines : ℕ) (text whole : List ℕ) (held held' : Option (List ℕ)) (writes writes' : ℕ) → why ≢ stop.NoMemory
+    → whole ≡ text ++ closing task (ending_of why lines) → AppendsFront held held' whole → Rose writes writes' → Closed task why lines text status.WriteFault held held' writes writes'
+close_failed task why lines text whole held held' writes writes' some is front rose = record {
+  written = take front.count whole;
+  appended = front.appended;
+  says = λ o stops. tt;
+  writes_text = λ o stops. subst (λ (t : List ℕ). StartsWith t (take front.count whole)) (is ∙ sym (whole_of task why o lines text some stops)) (starts_with_front whole front.count);
+  caused = rose;
+}
 
-rises : (why : Stop) (result : Status) (line next : List ℕ) (a b c : ℕ) → a ≤ b → Closes why result line next (Rose b c) → Closes why result line next (Rose a c)
-rises (stop.Ended read) result line next a b c le h = with_rise status.Done result line next a b c le h
-rises (stop.Refused number kind) result line next a b c le h = with_rise status.Refused result line next a b c le h
-rises (stop.TooLarge number) result line next a b c le h = with_rise status.TooLarge result line next a b c le h
-rises stop.ReadFault result line next a b c le h = h
-rises stop.WriteFault result line next a b c le h = h
-rises stop.NoMemory result line next a b c le h = h
+pub close_without_memory : (task : Task) (why : Stop) (lines : ℕ) (text : List ℕ) (held : Option (List ℕ)) (writes : ℕ) → Closed task why lines text status.NoMemory held held writes writes
+close_without_memory task why lines text held writes = record {
+  written = [];
+  appended = same_appends held;
+  says = λ o stops. tt;
+  writes_text = λ o stops. refl;
+  caused = refl;
+}
 
-told : (task : Task) (o : Outcome) (why : Stop) (result : Status) (first next : List ℕ) (R Q : Type 0) → Stops why o first → IsFault why R Q
-    → Closes why result (closing_of task why) next Q → Told task o result (first ++ next) R Q
-told task o (stop.Ended read) result first next R Q stops fault closes = told_ended task o read result first next R Q stops closes
-told task o (stop.Refused line kind) result first next R Q stops fault closes = told_refused task o line kind result first next R Q stops closes
-told task o (stop.TooLarge line) result first next R Q stops fault closes = told_large task o line result first next R Q stops closes
-told task o stop.ReadFault result first next R Q stops fault closes =
-    subst (λ (s : Status). Told task o s (first ++ next) R Q) (sym closes.0) (record { says = rw stops tt; writes_text = rw (stops, closes.1) refl; caused = fault })
-told task o stop.WriteFault result first next R Q stops fault closes =
-    subst (λ (s : Status). Told task o s (first ++ next) R Q) (sym closes.0)
-    (record { says = tt; writes_text = rw (closes.1, append-nil first) (starts_with_more o.text (closing task o.ending) first stops); caused = fault })
-told task o stop.NoMemory result first next R Q stops fault closes =
-    subst (λ (s : Status). Told task o s (first ++ next) R Q) (sym closes.0)
-    (record { says = tt; writes_text = rw (closes.1, append-nil first) (starts_with_more o.text (closing task o.ending) first stops); caused = tt })
+-- what was written before
+behind : (task : Task) (result : Status) (o : Outcome) (first written : List ℕ) → Writes result (whole_text task o) written → Writes result (whole_text task (after first o)) (first ++ written)
+behind task status.Done o first written h = ap (λ (t : List ℕ). first ++ t) h ∙ sym (append_assoc first o.text (closing task o.ending))
+behind task status.Usage o first written h = ap (λ (t : List ℕ). first ++ t) h ∙ sym (append_assoc first o.text (closing task o.ending))
+behind task status.Refused o first written h = ap (λ (t : List ℕ). first ++ t) h ∙ sym (append_assoc first o.text (closing task o.ending))
+behind task status.ReadFault o first written h = ap (λ (t : List ℕ). first ++ t) h ∙ sym (append_assoc first o.text (closing task o.ending))
+behind task status.TooLarge o first written h = ap (λ (t : List ℕ). first ++ t) h ∙ sym (append_assoc first o.text (closing task o.ending))
+behind task status.WriteFault o first written h =
+    subst (λ (t : List ℕ). StartsWith t (first ++ written)) (sym (append_assoc first o.text (closing task o.ending))) (starts_with_behind first (whole_text task o) written h)
+behind task status.NoMemory o first written h =
+    subst (λ (t : List ℕ). StartsWith t (first ++ written)) (sym (append_assoc first o.text (closing task o.ending))) (starts_with_behind first (whole_text task o) written h)
 
-more_faults : (why : Stop) (R : Type 0) (a b c : ℕ) → b ≤ c → IsFault why R (Rose a b) → IsFault why R (Rose a c)
-more_faults (stop.Ended read) R a b c le h = tt
-more_faults (stop.Refused line kind) R a b c le h = tt
-more_faults (stop.TooLarge line) R a b c le h = tt
-more_faults stop.ReadFault R a b c le h = h
-more_faults stop.WriteFault R a b c le h = omega arith
-more_faults stop.NoMemory R a b c le h = tt
+caused : (result : Status) (reads reads' writes writes' : ℕ) → reads' ≡ reads → SinkCaused result writes writes' → IsCaused result reads reads' writes writes'
+caused status.Done reads reads' writes writes' same h = (same, h)
+caused status.Usage reads reads' writes writes' same h = (same, h)
+caused status.Refused reads reads' writes writes' same h = (same, h)
+caused status.ReadFault reads reads' writes writes' same h = absurd h
+caused status.WriteFault reads reads' writes writes' same h = (same, h)
+caused status.NoMemory reads reads' writes writes' same h = (same, h)
+caused status.TooLarge reads reads' writes writes' same h = (same, h)
 
-pub closed_run : (task : Task) (left left' : Option (List ℕ)) (reads reads' : ℕ) (held held' held'' : Option (List ℕ)) (writes writes' writes'' : ℕ) (why : Stop) (result : Status)
-    → Replayed task left left' reads reads' held held' writes writes' why → Closed task why result held' held'' writes' writes''
-    → IsRun task left left' held held'' reads reads' writes writes'' result
-closed_run task left left' reads reads' held held' held'' writes writes' writes'' why result replayed closed =
-    let all : Told task (outcome_of task replayed.ended replayed.taken) result (replayed.written ++ closed.written) (Rose reads reads') (Rose writes writes'') =
-    told task (outcome_of task replayed.ended replayed.taken) why result replayed.written closed.written (Rose reads reads') (Rose writes writes'') replayed.stops
-    (more_faults why (Rose reads reads') writes writes' writes'' closed.later replayed.fault)
-    (rises why result (closing_of task why) closed.written writes writes' writes'' replayed.later closed.closes) in
+-- more was wanted before
+wanted : (task : Task) (left left' held held' : Option (List ℕ)) (now : reader.Reader) → IsReader now → (on : ReadsOn task left left' held held' now) → (outcome_of task false on.taken).ending ≡ Open
+wanted task left left' held held' now whole on =
+    let all : outcome_of task false (on.taken ++ []) ≡ after on.written (with_more task false now []) = on.goes_on false [] in
+    ap (λ (xs : List ℕ). (outcome_of task false xs).ending) (sym (append-nil on.taken)) ∙ (ap (λ (o : Outcome). o.ending) all ∙ ap (λ (o : Outcome). o.ending) (is_open task now whole))
+
+no_further : (task : Task) (left left' held held' : Option (List ℕ)) (now : reader.Reader) (piece : List ℕ) → IsReader now → (on : ReadsOn task left left' held held' now) → length piece ≤ 4096
+    → ReadsNoFurther task (on.taken ++ piece)
+no_further task left left' held held' now piece whole on few = record { before = on.taken; last = piece; parts = refl; piece = few; wanted = wanted task left left' held held' now whole on }
+
+-- reading stopped, in a piece or at the end
+pub closed_run : (task : Task) (left left' left'' held held' held'' : Option (List ℕ)) (reads reads' writes writes' writes'' : ℕ) (now : reader.Reader) (piece : List ℕ) (ended : Bool) (why : Stop) (lines : ℕ) (text : List ℕ) (result : Status)
+    → ReadsOn task left left' held held' now → IsReader now → Consumes left' left'' piece → length piece ≤ 4096 → (ended ≡ true → IsAtEnd left'')
+    → Stops why (with_more task ended now piece) lines text → reads' ≡ reads → writes' ≡ writes → Closed task why lines text result held' held'' writes' writes''
+    → IsRun task left left'' held held'' reads reads' writes writes'' result
+closed_run task left left' left'' held held' held'' reads reads' writes writes' writes'' now piece ended why lines text result on whole consumed few gone stops same kept closed =
     record {
-      taken = replayed.taken;
-      consumed = replayed.consumed;
-      ended = replayed.ended;
-      at_end = replayed.at_end;
-      says = all.says;
-      written = replayed.written ++ closed.written;
-      appended = appends_then held held' held'' replayed.written closed.written replayed.appended closed.appended;
-      writes_text = all.writes_text;
-      caused = all.caused;
+      taken = on.taken ++ piece;
+      consumed = consumes_then left left' left'' on.taken piece on.consumed consumed;
+      no_further = no_further task left left' held held' now piece whole on few;
+      ended = ended;
+      at_end = gone;
+      says = subst (λ (x : Outcome). Says result x.ending) (sym (on.goes_on ended piece)) (closed.says (with_more task ended now piece) stops);
+      written = on.written ++ closed.written;
+      appended = appends_then held held' held'' on.written closed.written on.appended closed.appended;
+      writes_text = subst (λ (x : Outcome). Writes result (whole_text task x) (on.written ++ closed.written)) (sym (on.goes_on ended piece))
+          (behind task result (with_more task ended now piece) on.written closed.written (closed.writes_text (with_more task ended now piece) stops));
+      caused = caused result reads reads' writes writes'' same (subst (λ n. SinkCaused result n writes'') kept closed.caused);
     }
+
+-- in a piece
+pub closed_in : (A : Type 0) (task : Task) (left left' left'' held held' held'' : Option (List ℕ)) (reads reads' writes writes' writes'' : ℕ) (now last : reader.Reader) (piece : List ℕ) (why : Stop) (result : Status)
+    → ReadsOn task left left' held held' now → IsReader now → Consumes left' left'' piece → length piece ≤ 4096
+    → TakesBytes {A = A} task now piece (Err why) last → reads' ≡ reads → writes' ≡ writes → Closed task why last.lines (string_bytes last.text) result held' held'' writes' writes''
+    → IsRun task left left'' held held'' reads reads' writes writes'' result
+closed_in A task left left' left'' held held' held'' reads reads' writes writes' writes'' now last piece why result on whole consumed few taken same kept closed =
+    closed_run task left left' left'' held held' held'' reads reads' writes writes' writes'' now piece false why last.lines (string_bytes last.text) result on whole consumed few (λ e. absurd (cc))
+    (subst (λ (xs : List ℕ). Stops why (with_more task false now xs) last.lines (string_bytes last.text)) (append-nil piece) (taken false [])) same kept closed
+
+-- the source failed
+pub read_failed : (task : Task) (left left' left'' held held' : Option (List ℕ)) (reads reads' writes writes' : ℕ) (now : reader.Reader)
+    → ReadsOn task left left' held held' now → IsReader now → (string_bytes now.text) ≡ [] → Keeps left' left'' → Rose reads reads' → writes' ≡ writes
+    → IsRun task left left'' held held' reads reads' writes writes' status.ReadFault
+read_failed task left left' left'' held held' reads reads' writes writes' now on whole none keeps rose same =
+    let all : outcome_of task false (on.taken ++ []) ≡ record { text = on.written; ending = Open } =
+    on.goes_on false [] ∙ (ap (λ (o : Outcome). after on.written o) (is_open task now whole) ∙ ap (λ (t : List ℕ). record { text = t; ending = Open }) (ap (λ (t : List ℕ). on.written ++ t) none ∙ append-nil on.written)) in
+    record {
+      taken = on.taken ++ [];
+      consumed = consumes_then left left' left'' on.taken [] on.consumed (keeps_consumes left' left'' keeps);
+      no_further = no_further task left left' held held' now [] whole on (omega arith);
+      ended = false;
+      at_end = λ e. absurd (cc);
+      says = subst (λ (x : Outcome). Says status.ReadFault x.ending) (sym all) tt;
+      written = on.written;
+      appended = on.appended;
+      writes_text = subst (λ (x : Outcome). on.written ≡ whole_text task x) (sym all) (sym (append-nil on.written));
+      caused = (rose, same);
+    }
+
+-- the sink failed at what a piece was answered
+pub write_failed : (A : Type 0) (done : A) (task : Task) (left left' left'' held held' held'' : Option (List ℕ)) (reads reads' writes writes' : ℕ) (now new : reader.Reader) (piece : List ℕ)
+    → ReadsOn task left left' held held' now → IsReader now → Consumes left' left'' piece → length piece ≤ 4096
+    → TakesBytes {A = A} task now piece (Ok done) new → reads' ≡ reads → AppendsFront held' held'' (string_bytes new.text) → Rose writes writes'
+    → IsRun task left left'' held held'' reads reads' writes writes' status.WriteFault
+write_failed A done task left left' left'' held held' held'' reads reads' writes writes' now new piece on whole consumed few taken same front rose =
+    let all : outcome_of task false (on.taken ++ piece) ≡ after on.written (with_more task false new []) =
+    on.goes_on false piece ∙ (ap (λ (xs : List ℕ). after on.written (with_more task false now xs)) (sym (append-nil piece)) ∙ ap (λ (o : Outcome). after on.written o) (taken false [])) in
+    record {
+      taken = on.taken ++ piece;
+      consumed = consumes_then left left' left'' on.taken piece on.consumed consumed;
+      no_further = no_further task left left' held held' now piece whole on few;
+      ended = false;
+      at_end = λ e. absurd (cc);
+      says = tt;
+      written = on.written ++ take front.count (string_bytes new.text);
+      appended = appends_then held held' held'' on.written (take front.count (string_bytes new.text)) on.appended front.appended;
+      writes_text = subst (λ (x : Outcome). StartsWith (whole_text task x) (on.written ++ take front.count (string_bytes new.text))) (sym all)
+          (starts_with_more _ _ _ (starts_with_behind on.written _ (take front.count (string_bytes new.text))
+          (starts_with_more (string_bytes new.text) _ (take front.count (string_bytes new.text)) (starts_with_front (string_bytes new.text) front.count))));
+      caused = (same, rose);
+    }
+
+-- a piece was taken, and what it was answered is written
+pub read_more : (A : Type 0) (done : A) (task : Task) (left left' left'' held held' held'' : Option (List ℕ)) (now new next : reader.Reader) (piece : List ℕ)
+    → ReadsOn task left left' held held' now → Consumes left' left'' piece → TakesBytes {A = A} task now piece (Ok done) new → Appends held' held'' (string_bytes new.text)
+    → ((ended : Bool) (more : List ℕ) → with_more task ended new more ≡ after (string_bytes new.text) (with_more task ended next more)) → ReadsOn task left left'' held held'' next
+read_more A done task left left' left'' held held' held'' now new next piece on consumed taken wrote flushed = record {
+  taken = on.taken ++ piece;
+  consumed = consumes_then left left' left'' on.taken piece on.consumed consumed;
+  written = on.written ++ (string_bytes new.text);
+  appended = appends_then held held' held'' on.written (string_bytes new.text) on.appended wrote;
+  goes_on = λ ended more.
+      ap (λ (xs : List ℕ). outcome_of task ended xs) (append_assoc on.taken piece more)
+      ∙ (on.goes_on ended (piece ++ more)
+      ∙ (ap (λ (o : Outcome). after on.written o) (taken ended more ∙ flushed ended more)
+      ∙ after_after on.written (string_bytes new.text) (with_more task ended next more)));
+}
+
+-- nothing was read
+pub reads_nothing : (task : Task) (left held : Option (List ℕ)) (now : reader.Reader) → now.state ≡ start → now.lines ≡ 0 → now.held.items ≡ [] → (string_bytes now.text) ≡ [] → ReadsOn task left left held held now
+reads_nothing task left held now state lines none text = record {
+  taken = [];
+  consumed = same_consumes left;
+  written = [];
+  appended = same_appends held;
+  goes_on = λ ended more. rw (state, lines, none, text) refl;
+}
+
+pub no_memory : (task : Task) (left held : Option (List ℕ)) (reads writes : ℕ) → IsRun task left left held held reads reads writes writes status.NoMemory
+no_memory task left held reads writes = record {
+  taken = [];
+  consumed = same_consumes left;
+  no_further = record { before = []; last = []; parts = refl; piece = omega arith; wanted = refl };
+  ended = false;
+  at_end = λ e. absurd (cc);
+  says = tt;
+  written = [];
+  appended = same_appends held;
+  writes_text = refl;
+  caused = (refl, refl);
+}
+
+-- what was written is let go
+pub flushed : (task : Task) (new next : reader.Reader) → next.state ≡ new.state → next.lines ≡ new.lines → next.held.items ≡ new.held.items → string_bytes next.text ≡ []
+    → (ended : Bool) (more : List ℕ) → with_more task ended new more ≡ after (string_bytes new.text) (with_more task ended next more)
+flushed task new next state lines held none ended more = rw (state, lines, held, none) refl
+
+pub short_take : (count most : ℕ) (xs : List ℕ) → length xs ≡ most → length (take count xs) ≤ most
+short_take count most xs is = omega (arith, length-take count xs)
+
+-- nothing was given
+pub none_taken : (left left' : Option (List ℕ)) (count : ℕ) (buffer : List ℕ) → count ≡ 0 → Consumes left left' (take count buffer) → Consumes left left' []
+none_taken left left' count buffer none consumed = subst (λ n. Consumes left left' (take n buffer)) none consumed

@@ -1,6 +1,5 @@
 -- What closing a run comes to.
-use Rattle.std.specs.Prelude.{◌≡◌, ◌⊎◌, ℕ, ◌≤◌, List, [], Option}
-use Rattle.std.specs.Io.{StartsWith}
+use Rattle.std.specs.Prelude.{◌≡◌, ℕ, List, Option}
 use Rattle.std.specs.Io.KnownBytes.{Appends}
 use Rattle.cl_io.specs.Causes.{Rose}
 use Rattle.replay.specs.declared.status.Status.{Status}
@@ -8,30 +7,27 @@ use Rattle.replay.specs.declared.status.Status.TheVariants as status
 use Rattle.replay.specs.declared.stop.Stop.{Stop}
 use Rattle.replay.specs.declared.stop.Stop.TheVariants as stop
 use Rattle.replay.specs.declared.task.Task.{Task}
-use Rattle.replay.specs.Stops.{closing_of}
+use Rattle.replay.specs.Outcomes.{Outcome, whole_text}
+use Rattle.replay.specs.Readers.{Stops}
+use Rattle.replay.specs.Runs.{Says, Writes}
 
--- the closing line was written and the status is the one wanted; or the sink failed at it; or there was
--- no memory for it
-abbrev pub ClosesWith : Status → Status → List ℕ → List ℕ → Type 0 → Type 0
-ClosesWith wanted result line written sink_rose =
-    ((result ≡ wanted) × (written ≡ line)) ⊎ (((result ≡ status.WriteFault) × StartsWith line written × sink_rose) ⊎ ((result ≡ status.NoMemory) × (written ≡ [])))
+-- the status of a run that stops so
+abbrev pub status_of : Stop → Status
+status_of stop.Ended = status.Done
+status_of (stop.Refused kind) = status.Refused
+status_of stop.TooLarge = status.TooLarge
+status_of stop.NoMemory = status.NoMemory
 
-abbrev pub Closes : Stop → Status → List ℕ → List ℕ → Type 0 → Type 0
-Closes (stop.Ended read) result line written sink_rose = ClosesWith status.Done result line written sink_rose
-Closes (stop.Refused number kind) result line written sink_rose = ClosesWith status.Refused result line written sink_rose
-Closes (stop.TooLarge number) result line written sink_rose = ClosesWith status.TooLarge result line written sink_rose
-Closes stop.ReadFault result line written sink_rose = (result ≡ status.ReadFault) × (written ≡ [])
-Closes stop.WriteFault result line written sink_rose = (result ≡ status.WriteFault) × (written ≡ [])
-Closes stop.NoMemory result line written sink_rose = (result ≡ status.NoMemory) × (written ≡ [])
+-- the sink failed where the status says so, and else its count stays
+abbrev pub SinkCaused : Status → ℕ → ℕ → Type 0
+SinkCaused status.WriteFault writes writes' = Rose writes writes'
+SinkCaused status.ReadFault writes writes' = ⊥
+SinkCaused _ writes writes' = writes' ≡ writes
 
-pub record Closed (task : Task) (why : Stop) (result : Status) (held held' : Option (List ℕ)) (writes writes' : ℕ) : Type 0 where
+-- the status and the text that was written tell the outcome that the stop tells
+pub record Closed (task : Task) (why : Stop) (lines : ℕ) (text : List ℕ) (result : Status) (held held' : Option (List ℕ)) (writes writes' : ℕ) : Type 0 where
   pub written : List ℕ
   pub appended : Appends held held' written
-  pub closes : Closes why result (closing_of task why) written (Rose writes writes')
-  pub later : writes ≤ writes'
-
-pub record ClosingWritten (task : Task) (why : Stop) (wanted result : Status) (held held' : Option (List ℕ)) (writes writes' : ℕ) : Type 0 where
-  pub written : List ℕ
-  pub appended : Appends held held' written
-  pub closes : ClosesWith wanted result (closing_of task why) written (Rose writes writes')
-  pub later : writes ≤ writes'
+  pub says : (o : Outcome) → Stops why o lines text → Says result o.ending
+  pub writes_text : (o : Outcome) → Stops why o lines text → Writes result (whole_text task o) written
+  pub caused : SinkCaused result writes writes'

@@ -1,10 +1,9 @@
 pub mod Closings
 pub mod Loops
 pub mod Outcomes
+pub mod Readers
+pub mod Replays
 pub mod Runs
 pub mod Sessions
 pub mod Statuses
-pub mod Stops
-pub mod Streams
-pub mod Takings
 pub mod Tasks

@@ -1,17 +1,17 @@
 -- What the bytes that were taken from the source come to: the text that their lines write, and how
 -- the reading of them ends.
-use Rattle.std.specs.Prelude.{ℕ, ◌+◌, ◌==◌, nat_lt, nat_le, Bool, ◌||◌, if◌then◌else◌, List, [], ◌∷◌, ◌++◌, length, Option, Some, None, codes}
+use Rattle.std.specs.Prelude.{ℕ, ◌+◌, ◌==◌, nat_lt, nat_le, Bool, ◌||◌, if◌then◌else◌, List, [], ◌∷◌, ◌++◌, length, Result, Ok, Err, codes}
 use Rattle.std.specs.List.{slice_split}
 use Rattle.std.specs.Fmt.{decimal}
-use Rattle.schedule_text.specs.declared.header.Head.{Head}
 use Rattle.schedule_text.specs.declared.kind.Kind.{Kind}
 use Rattle.schedule_text.specs.declared.kind.Kind.TheVariants as kind
 use Rattle.schedule_text.specs.Headers.{head_of}
 use Rattle.replay.specs.declared.session.State.{State}
-use Rattle.replay.specs.declared.session.State.TheVariants.{Heading, Checking, Replaying}
+use Rattle.replay.specs.declared.session.State.TheVariants.{Heading, Reading}
+use Rattle.replay.specs.declared.session.Body.{Body}
 use Rattle.replay.specs.declared.task.Task.{Task}
 use Rattle.replay.specs.declared.task.Task.TheVariants.{Run, Check}
-use Rattle.replay.specs.Sessions.{Step, Goes, Finishes, Refuses, step, start}
+use Rattle.replay.specs.Sessions.{Step, Goes, Finishes, Refuses, step, start, body_of}
 
 -- a newline (10) ends a line; the last piece is what no newline ends
 abbrev pub pieces : List ℕ → List (List ℕ)
@@ -40,15 +40,14 @@ after text rest = record { text = text ++ rest.text; ending = rest.ending }
 abbrev pub is_too_large : ℕ → List ℕ → Bool
 is_too_large read line = nat_le 200000 read || nat_lt 4096 (length line)
 
--- the input ends here: within the header that is refused, as the line that is missing
-abbrev pub at_end : State → ℕ → Outcome
-at_end (Heading state) read = if_whole (head_of state) read
-  where
-    if_whole : Option Head → ℕ → Outcome
-    if_whole None read = silent (Refused (read + 1) kind.Header)
-    if_whole (Some head) read = silent (Ended read)
-at_end (Checking head so_far) read = silent (Ended read)
-at_end (Replaying device) read = silent (Ended read)
+-- the input ends here: a header that the task can go on from was read, or the line that is missing is refused
+abbrev pub at_end : Task → State → Result Body Kind
+at_end task (Heading state) = body_of task (head_of state)
+at_end task (Reading body) = Ok body
+
+abbrev pub end_of : Result Body Kind → ℕ → Outcome
+end_of (Ok body) read = silent (Ended read)
+end_of (Err kind) read = silent (Refused (read + 1) kind)
 
 -- a line is answered and what follows goes on from there; or it is the last
 abbrev pub onward : Step → ℕ → (State → Outcome) → Outcome
@@ -59,9 +58,9 @@ onward (Refuses kind) read rest = silent (Refused (read + 1) kind)
 -- what is left when no newline comes: nothing, a line where the input ended, or too much for a line
 abbrev pub left_over : Task → Bool → State → ℕ → List ℕ → Outcome
 left_over task ended state read rest =
-    if length rest == 0 then (if ended then at_end state read else silent Open)
+    if length rest == 0 then (if ended then end_of (at_end task state) read else silent Open)
     else if is_too_large read rest then silent (TooLarge (read + 1))
-    else if ended then onward (step task state rest) read (λ next. at_end next (read + 1))
+    else if ended then onward (step task state rest) read (λ next. end_of (at_end task next) (read + 1))
     else silent Open
 
 -- the outcome of these pieces, after so many lines that led to this state; `ended` tells whether the

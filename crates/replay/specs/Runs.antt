@@ -1,5 +1,5 @@
 -- What a call of `run_words` tells of the source and the sink, by its status.
-use Rattle.std.specs.Prelude.{◌≡◌, ℕ, Bool, true, List, Option}
+use Rattle.std.specs.Prelude.{◌≡◌, ℕ, ◌≤◌, Bool, true, false, List, ◌++◌, length, Option}
 use Rattle.std.specs.Io.{StartsWith}
 use Rattle.std.specs.Io.KnownBytes.{Appends, Consumes, IsAtEnd}
 use Rattle.cl_io.specs.Causes.{Rose}
@@ -25,21 +25,31 @@ Writes status.WriteFault whole written = StartsWith whole written
 Writes status.NoMemory whole written = StartsWith whole written
 Writes _ whole written = written ≡ whole
 
--- a status of a fault comes only where the count of the source, or of the sink, rose
-abbrev pub IsCaused : Status → Type 0 → Type 0 → Type 0
-IsCaused status.ReadFault source_rose sink_rose = source_rose
-IsCaused status.WriteFault source_rose sink_rose = sink_rose
-IsCaused _ source_rose sink_rose = Unit {0}
+-- a status of a fault comes only where the count of the source, or of the sink, rose; no other count changes
+abbrev pub IsCaused : Status → ℕ → ℕ → ℕ → ℕ → Type 0
+IsCaused status.ReadFault reads reads' writes writes' = Rose reads reads' × (writes' ≡ writes)
+IsCaused status.WriteFault reads reads' writes writes' = (reads' ≡ reads) × Rose writes writes'
+IsCaused _ reads reads' writes writes' = (reads' ≡ reads) × (writes' ≡ writes)
+
+-- Nothing is read behind a line that ends the reading, but what came with it in a piece of at most 4,096 bytes: without
+-- the last piece more was wanted.
+pub record ReadsNoFurther (task : Task) (taken : List ℕ) : Type 0 where
+  pub before : List ℕ
+  pub last : List ℕ
+  pub parts : taken ≡ before ++ last
+  pub piece : length last ≤ 4096
+  pub wanted : (outcome_of task false before).ending ≡ Open
 
 -- The bytes taken from the source have an outcome, which the status and the bytes written tell.
 -- `left` is what the source has, where that is known, and `held` what the sink has.
 pub record IsRun (task : Task) (left left' held held' : Option (List ℕ)) (reads reads' writes writes' : ℕ) (result : Status) : Type 0 where
   pub taken : List ℕ
   pub consumed : Consumes left left' taken
+  pub no_further : ReadsNoFurther task taken
   pub ended : Bool  -- the source gave its end
   pub at_end : ended ≡ true → IsAtEnd left'
   pub says : Says result (outcome_of task ended taken).ending
   pub written : List ℕ
   pub appended : Appends held held' written
   pub writes_text : Writes result (whole_text task (outcome_of task ended taken)) written
-  pub caused : IsCaused result (Rose reads reads') (Rose writes writes')
+  pub caused : IsCaused result reads reads' writes writes'

@@ -1,9 +1,9 @@
 -- What a line makes of the state, and what it writes.
-use Rattle.std.specs.Prelude.{◌≡◌, ℕ, Bool, false, if◌then◌else◌, List, [], Option, Some, None, Result, Ok, Err, codes}
+use Rattle.std.specs.Prelude.{◌≡◌, ℕ, Bool, true, false, ◌||◌, if◌then◌else◌, List, [], ◌++◌, Option, Some, None, Result, Ok, Err, codes}
 use Rattle.std.specs.Str.{bytes_eq}
+use Rattle.cl_base.specs.declared.header.Header.{Header}
 use Rattle.pgr_device.specs.Device.{Device, fresh}
 use Rattle.pgr_device.specs.Spc as spc
-use Rattle.pgr_device.specs.declared.command.PrCommand.{PrCommand}
 use Rattle.schedule_text.specs.declared.header.Head.{Head}
 use Rattle.schedule_text.specs.declared.header.Head.TheVariants.{Pr, Cluster}
 use Rattle.schedule_text.specs.declared.header.HeaderState.{HeaderState}
@@ -12,18 +12,21 @@ use Rattle.schedule_text.specs.declared.kind.Kind.{Kind}
 use Rattle.schedule_text.specs.declared.kind.Kind.TheVariants as kind
 use Rattle.schedule_text.specs.declared.kind.ReadError.{ReadError}
 use Rattle.schedule_text.specs.declared.kind.ReadError.TheVariants as error
-use Rattle.schedule_text.specs.declared.line.Line.{Line}
-use Rattle.schedule_text.specs.declared.line.Line.TheVariants as line
-use Rattle.schedule_text.specs.Headers.{HeaderStep, More, Over, Bad, header_step, head_of}
+use Rattle.schedule_text.specs.declared.line.ClusterLine.{ClusterLine}
+use Rattle.schedule_text.specs.declared.line.ClusterLine.TheVariants as cluster
+use Rattle.schedule_text.specs.declared.line.PrLine.{PrLine}
+use Rattle.schedule_text.specs.declared.line.PrLine.TheVariants as pr
 use Rattle.schedule_text.specs.declared.line.SoFar.{SoFar}
-use Rattle.schedule_text.specs.Lines.{line_of, so_far_after}
+use Rattle.schedule_text.specs.Headers.{HeaderStep, More, Over, Bad, header_step, head_of}
+use Rattle.schedule_text.specs.Lines.{pr_line_of, cluster_line_of, so_far_after_event}
 use Rattle.status_report.specs.declared.entry.Entry.TheVariants.{Answered, Powered}
 use Rattle.status_report.specs.Lines.{printed}
 use Rattle.replay.specs.declared.session.State.{State}
-use Rattle.replay.specs.declared.session.State.TheVariants.{Heading, Checking, Replaying}
-use Rattle.replay.specs.declared.session.Answered as answered
-use Rattle.replay.specs.declared.session.NoAnswer.{NoAnswer}
-use Rattle.replay.specs.declared.session.NoAnswer.TheVariants.{Ends, Refused, NoMemory}
+use Rattle.replay.specs.declared.session.State.TheVariants.{Heading, Reading}
+use Rattle.replay.specs.declared.session.Body.{Body}
+use Rattle.replay.specs.declared.session.Body.TheVariants.{CheckingPr, CheckingCluster, Replaying}
+use Rattle.replay.specs.declared.stop.Stop.{Stop}
+use Rattle.replay.specs.declared.stop.Stop.TheVariants as stop
 use Rattle.replay.specs.declared.task.Task.{Task}
 use Rattle.replay.specs.declared.task.Task.TheVariants.{Run, Check}
 
@@ -37,74 +40,86 @@ pub data Step : Type 0 where
 abbrev pub start : State
 start = Heading Opening
 
--- nothing was read behind the header yet: the clock stands at 0, and there were no rounds
-abbrev pub start_of_lines : SoFar
-start_of_lines = record { clock = 0; rounds = 0 }
+-- what is done with the lines after a header that ends: `run` replays a reservation schedule with a fresh device,
+-- which the senders have a path to; `check` reads the lines alone, those of a cluster schedule from the clock 0 and
+-- no rounds. The replay of cluster schedules is not built.
+abbrev pub body_of : Task → Option Head → Result Body Kind
+body_of task None = Err kind.Header
+body_of Run (Some (Pr senders)) = Ok (Replaying (fresh senders))
+body_of Run (Some (Cluster header)) = Err kind.NotBuilt
+body_of Check (Some (Pr senders)) = Ok CheckingPr
+body_of Check (Some (Cluster header)) = Ok (CheckingCluster header (record { clock = 0; rounds = 0 }))
 
--- a line that was read alone: the schedule ends, or goes on
-abbrev pub read_on : Head → SoFar → Result Line Kind → Step
-read_on head so_far (Err kind) = Refuses kind
-read_on head so_far (Ok line.End) = Finishes
-read_on head so_far (Ok line.Blank) = Goes (Checking head (so_far_after so_far line.Blank)) []
-read_on head so_far (Ok line.Power) = Goes (Checking head (so_far_after so_far line.Power)) []
-read_on head so_far (Ok (line.Command sender command)) = Goes (Checking head (so_far_after so_far (line.Command sender command))) []
-read_on head so_far (Ok (line.Event event)) = Goes (Checking head (so_far_after so_far (line.Event event))) []
+-- a line of a reservation schedule, read alone
+abbrev pub checked_pr : Result PrLine Kind → Step
+checked_pr (Err kind) = Refuses kind
+checked_pr (Ok pr.End) = Finishes
+checked_pr (Ok pr.Blank) = Goes (Reading CheckingPr) []
+checked_pr (Ok pr.Power) = Goes (Reading CheckingPr) []
+checked_pr (Ok (pr.Command sender command)) = Goes (Reading CheckingPr) []
 
--- a line after the header, read alone
-abbrev pub checked : Head → SoFar → List ℕ → Step
-checked head so_far bytes = read_on head so_far (line_of head so_far bytes)
+-- a line of a cluster schedule, read alone
+abbrev pub checked_cluster : Header → SoFar → Result ClusterLine Kind → Step
+checked_cluster header so_far (Err kind) = Refuses kind
+checked_cluster header so_far (Ok cluster.End) = Finishes
+checked_cluster header so_far (Ok cluster.Blank) = Goes (Reading (CheckingCluster header so_far)) []
+checked_cluster header so_far (Ok (cluster.Event event)) = Goes (Reading (CheckingCluster header (so_far_after_event so_far event))) []
 
--- the device obeys, and its answer is written
-abbrev pub obeyed : Device → ℕ → PrCommand → Step
-obeyed device sender command =
-    Goes (Replaying (spc.step device sender command).after) (printed (Answered (spc.step device sender command).answer))
-
-abbrev pub powered : Device → Step
-powered device = Goes (Replaying device) (printed Powered)
-
--- a line of a reservation schedule, replayed
-abbrev pub replayed : Device → Result Line Kind → Step
+-- a line of a reservation schedule, replayed: the device obeys, and its answer is written
+abbrev pub replayed : Device → Result PrLine Kind → Step
 replayed device (Err kind) = Refuses kind
-replayed device (Ok line.End) = Finishes
-replayed device (Ok line.Blank) = Goes (Replaying device) []
-replayed device (Ok line.Power) = powered device
-replayed device (Ok (line.Command sender command)) = obeyed device sender command
-replayed device (Ok (line.Event event)) = Goes (Replaying device) []
+replayed device (Ok pr.End) = Finishes
+replayed device (Ok pr.Blank) = Goes (Reading (Replaying device)) []
+replayed device (Ok pr.Power) = Goes (Reading (Replaying device)) (printed Powered)
+replayed device (Ok (pr.Command sender command)) =
+    Goes (Reading (Replaying (spc.step device sender command).after)) (printed (Answered (spc.step device sender command).answer))
 
-abbrev pub body : Device → List ℕ → Step
-body device bytes = replayed device (line_of (Pr device.paths) start_of_lines bytes)
+-- a line after the header
+abbrev pub body_step : Body → List ℕ → Step
+body_step CheckingPr bytes = checked_pr (pr_line_of bytes)
+body_step (CheckingCluster header so_far) bytes = checked_cluster header so_far (cluster_line_of header so_far bytes)
+body_step (Replaying device) bytes = replayed device (pr_line_of bytes)
 
--- The first line after the header: `run` of a reservation schedule replays it with a fresh device, which the senders
--- have a path to. Else it is read alone.
-abbrev pub opened : Task → Option Head → List ℕ → Step
-opened task None bytes = Refuses kind.Header
-opened Check (Some head) bytes = checked head start_of_lines bytes
-opened Run (Some (Pr senders)) bytes = body (fresh senders) bytes
-opened Run (Some (Cluster header)) bytes = checked (Cluster header) start_of_lines bytes
+-- the first line after the header
+abbrev pub entered : Result Body Kind → List ℕ → Step
+entered (Err kind) bytes = Refuses kind
+entered (Ok body) bytes = body_step body bytes
 
--- `run` of a cluster schedule is not built: its opening line is refused
+-- the line opens a cluster schedule that is to be replayed
 abbrev pub is_not_built : Task → List ℕ → Bool
-is_not_built Run bytes = bytes_eq bytes (codes "schedule cluster 1")
+is_not_built Run bytes = bytes_eq bytes (codes "schedule cluster 1") || bytes_eq bytes (codes "schedule cluster 2")
 is_not_built Check bytes = false
 
 abbrev pub heading : Task → HeaderState → List ℕ → HeaderStep → Step
 heading task state bytes (More next) = if is_not_built task bytes then Refuses kind.NotBuilt else Goes (Heading next) []
-heading task state bytes Over = opened task (head_of state) bytes
+heading task state bytes Over = entered (body_of task (head_of state)) bytes
 heading task state bytes (Bad kind) = Refuses kind
 
 abbrev pub step : Task → State → List ℕ → Step
 step task (Heading state) bytes = heading task state bytes (header_step state bytes)
-step task (Checking head so_far) bytes = checked head so_far bytes
-step task (Replaying device) bytes = body device bytes
+step task (Reading body) bytes = body_step body bytes
 
--- why a line that is not read is not answered
-abbrev pub unread : ReadError → NoAnswer
-unread (error.Refused kind) = Refused kind
-unread error.NoMemory = NoMemory
+-- why a line that is not read stops the reading
+abbrev pub unread : ReadError → Stop
+unread (error.Refused kind) = stop.Refused kind
+unread error.NoMemory = stop.NoMemory
 
--- the answer is this step, or there is no memory
-abbrev pub Answers : Result answered.Answered NoAnswer → Step → Type 0
-Answers (Ok a) is = is ≡ Goes a.state a.text.items
-Answers (Err Ends) is = is ≡ Finishes
-Answers (Err (Refused kind)) is = is ≡ Refuses kind
-Answers (Err NoMemory) is = Unit {0}
+-- The answer to a line is this step: the state, and what is appended to the text. Else the text stays, or there is no
+-- memory.
+abbrev pub Answers : {A : Type 0} → Result A Stop → Step → State → List ℕ → List ℕ → Type 0
+Answers (Ok done) (Goes next text) now old new = (now ≡ next) × (new ≡ old ++ text)
+Answers (Ok done) Finishes now old new = ⊥
+Answers (Ok done) (Refuses kind) now old new = ⊥
+Answers (Err stop.Ended) is now old new = (is ≡ Finishes) × (new ≡ old)
+Answers (Err (stop.Refused kind)) is now old new = (is ≡ Refuses kind) × (new ≡ old)
+Answers (Err stop.TooLarge) is now old new = ⊥
+Answers (Err stop.NoMemory) is now old new = Unit {0}
+
+-- a line of the header: it belongs to it, the header ends before it and stays as it was, or the line is refused
+abbrev pub TakesHeader : Result Bool Stop → Task → HeaderStep → List ℕ → HeaderState → HeaderState → Type 0
+TakesHeader (Ok true) task is bytes old new = (is ≡ More new) × (is_not_built task bytes ≡ false)
+TakesHeader (Ok false) task is bytes old new = (is ≡ Over) × (new ≡ old)
+TakesHeader (Err (stop.Refused kind)) task is bytes old new = heading task old bytes is ≡ Refuses kind
+TakesHeader (Err stop.NoMemory) task is bytes old new = Unit {0}
+TakesHeader (Err stop.Ended) task is bytes old new = ⊥
+TakesHeader (Err stop.TooLarge) task is bytes old new = ⊥

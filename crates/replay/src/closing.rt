@@ -1,25 +1,38 @@
-ghost use Rattle.std.specs.Prelude.{◌≡◌, IfOk};
+ghost use Rattle.std.specs.Prelude.{◌≡◌, ◌++◌, IfOk, OnOk};
 ghost use Rattle.std.specs.String.{string_bytes};
 ghost use Rattle.replay.specs.Outcomes.{closing, kind_text, Refused};
-ghost use Rattle.replay.specs.Stops.{closing_of};
+ghost use Rattle.replay.specs.Readers.{ending_of};
 
 use crate::stop::Stop;
 use crate::task::Task;
 use schedule_text::Kind;
 use std::alloc::{AllocError, Global};
 
-/// The closing line, where the stop has one.
-pub fn closing_line(alloc: Global, task: Task, stop: Stop) -> Result<String, AllocError>
-    ensures { IfOk result (λ text. string_bytes text ≡ closing_of task stop) }
+/// Appends the closing line, where the stop has one; `lines` is how many were read.
+pub fn push_closing(
+    alloc: Global,
+    task: Task,
+    stop: Stop,
+    lines: u64,
+    text: &mut String,
+) -> Result<(), AllocError>
+    ensures { OnOk result (string_bytes text.new ≡ string_bytes text.old ++ closing task (ending_of stop lines)) }
+{
+    let line = closing_line(alloc, task, stop, lines)?;
+    text.push_str(&line)
+}
+
+fn closing_line(alloc: Global, task: Task, stop: Stop, lines: u64) -> Result<String, AllocError>
+    ensures { IfOk result (λ text. string_bytes text ≡ closing task (ending_of stop lines)) }
 {
     match stop {
-        Stop::Ended(read) => match task {
-            Task::Check => format!(in alloc; "checked {read}\n"),
+        Stop::Ended => match task {
+            Task::Check => format!(in alloc; "checked {lines}\n"),
             Task::Run => Ok(String::new(alloc)),
         },
-        Stop::Refused(line, kind) => refused_line(alloc, line, kind),
-        Stop::TooLarge(line) => format!(in alloc; "too-large {line}\n"),
-        Stop::ReadFault | Stop::WriteFault | Stop::NoMemory => Ok(String::new(alloc)),
+        Stop::Refused(kind) => refused_line(alloc, lines, kind),
+        Stop::TooLarge => format!(in alloc; "too-large {lines}\n"),
+        Stop::NoMemory => Ok(String::new(alloc)),
     }
 }
 

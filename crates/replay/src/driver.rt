@@ -3,36 +3,45 @@ ghost use Rattle.std.specs.Io.KnownBytes.{Keeps};
 ghost use Rattle.std.specs.String.{string_bytes};
 ghost use Rattle.replay.specs.declared.task.Task.{Task};
 ghost use Rattle.replay.specs.Runs.{IsRun};
-ghost use Rattle.replay.specs.Closings.{Closed, ClosingWritten};
+ghost use Rattle.replay.specs.Closings.{Closed, status_of};
 ghost use Rattle.replay.specs.Tasks.{task_of};
 
-use crate::closing::closing_line;
+use crate::closing::push_closing;
+use crate::reader::Reader;
 use crate::status::Status;
 use crate::stop::Stop;
-use crate::stream::replay_source;
 use crate::task::{Task, read_task};
 use cl_base::Agent;
 use cl_io::{Sink, Source, write_all};
 use std::alloc::Global;
 
+/// How many bytes are asked of the source at once.
+const PIECE: usize = 4_096;
+
 /// Does what the words ask for: replays the schedule that the source gives and writes the trace to
-/// the sink, or checks it. The agents are not asked for anything yet.
+/// the sink, or checks it. What the lines that end in a piece of the input are answered is written
+/// before more is read. The agents are not asked for anything yet.
 pub fn run_words<S: Source, K: Sink>(
     alloc: Global,
     words: &[String],
     source: &mut S,
     sink: &mut K,
-    _agents: &mut Vec<Box<dyn Agent>>,
+    agents: &mut Vec<Box<dyn Agent>>,
 ) -> Status
     // The words are no command: nothing is read, and nothing is written.
     ensures usage { result ≡ Status.Usage ↔ (task_of (map string_bytes words.now) ≡ None) }
     ensures idle { result ≡ Status.Usage → Keeps (S.left source.old) (S.left source.new) × Keeps (K.held sink.old) (K.held sink.new) }
+    ensures idle_counts { result ≡ Status.Usage → (S.faults source.new ≡ S.faults source.old) × (K.faults sink.new ≡ K.faults sink.old) }
 
     // They are: the status and the bytes written tell the outcome of the bytes taken.
     ensures run { (task : Task) → task_of (map string_bytes words.now) ≡ Some task
         → IsRun task (S.left source.old) (S.left source.new) (K.held sink.old) (K.held sink.new)
         (S.faults source.old) (S.faults source.new) (K.faults sink.old) (K.faults sink.new) result }
+
+    // No cluster schedule is replayed yet.
+    ensures agents { agents.new ≡ agents.old }
 {
+    let _ = agents;
     match read_task(words) {
         None => Status::Usage,
         Some(task) => run(alloc, task, source, sink),
@@ -43,38 +52,61 @@ fn run<S: Source, K: Sink>(alloc: Global, task: Task, source: &mut S, sink: &mut
     ensures run { IsRun task (S.left source.old) (S.left source.new) (K.held sink.old) (K.held sink.new)
         (S.faults source.old) (S.faults source.new) (K.faults sink.old) (K.faults sink.new) result }
 {
-    let stop = replay_source(alloc, task, source, sink);
-    close(alloc, task, stop, sink)
-}
-
-/// Writes the closing line, where the stop has one, and tells the status.
-fn close<K: Sink>(alloc: Global, task: Task, stop: Stop, sink: &mut K) -> Status
-    ensures closed { Closed task stop result (K.held sink.old) (K.held sink.new) (K.faults sink.old) (K.faults sink.new) }
-{
-    match stop {
-        Stop::ReadFault => Status::ReadFault,
-        Stop::WriteFault => Status::WriteFault,
-        Stop::NoMemory => Status::NoMemory,
-        Stop::Ended(_) => write_closing(alloc, task, stop, Status::Done, sink),
-        Stop::Refused(_, _) => write_closing(alloc, task, stop, Status::Refused, sink),
-        Stop::TooLarge(_) => write_closing(alloc, task, stop, Status::TooLarge, sink),
+    let Ok(reader) = Reader::new(alloc) else {
+        return Status::NoMemory;
+    };
+    let mut reader = reader;
+    let mut buffer = [0; PIECE];
+    'pieces: loop {
+        let count = match source.read_piece(&mut buffer) {
+            Ok(count) => count,
+            Err(_) => return Status::ReadFault,
+        };
+        if count == 0 {
+            let stop = reader.finish(alloc, task);
+            return close(alloc, task, stop, reader.lines, &mut reader.text, sink);
+        }
+        if let Err(stop) = reader.take_piece(alloc, task, &buffer[..count]) {
+            return close(alloc, task, stop, reader.lines, &mut reader.text, sink);
+        }
+        match write_all(sink, reader.text.as_bytes()) {
+            Ok(()) => reader.text.clear(),
+            Err(_) => return Status::WriteFault,
+        }
     }
 }
 
-fn write_closing<K: Sink>(
+/// Writes the text that is left, with the closing line, where the stop has one, and tells the status.
+fn close<K: Sink>(
     alloc: Global,
     task: Task,
     stop: Stop,
-    status: Status,
+    lines: u64,
+    text: &mut String,
     sink: &mut K,
 ) -> Status
-    ensures closed { ClosingWritten task stop status result (K.held sink.old) (K.held sink.new) (K.faults sink.old) (K.faults sink.new) }
+    ensures closed { Closed task stop lines (string_bytes text.old) result (K.held sink.old) (K.held sink.new) (K.faults sink.old) (K.faults sink.new) }
 {
-    let Ok(text) = closing_line(alloc, task, stop) else {
+    if let Stop::NoMemory = stop {
         return Status::NoMemory;
-    };
+    }
+    if push_closing(alloc, task, stop, lines, text).is_err() {
+        return Status::NoMemory;
+    }
     match write_all(sink, text.as_bytes()) {
-        Ok(()) => status,
+        Ok(()) => status_of(stop),
         Err(_) => Status::WriteFault,
+    }
+}
+
+/// The status of a run that stops so.
+fn status_of(stop: Stop) -> Status
+    ensures { result ≡ status_of stop }
+{
+    match stop {
+        Stop::Ended => Status::Done,
+        Stop::Refused(_) => Status::Refused,
+        Stop::TooLarge => Status::TooLarge,
+        Stop::NoMemory => Status::NoMemory,
     }
 }

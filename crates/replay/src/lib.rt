@@ -4,15 +4,14 @@
 
 mod closing;
 mod driver;
-mod piece;
+mod law;
+mod reader;
 mod session;
 mod status;
 mod stop;
-mod stream;
-mod taking;
 mod task;
 
 pub use driver::run_words;
-pub use session::State;
+pub use law::{completed_run_is_the_devices, entries_have_the_answers};
 pub use status::Status;
 pub use task::Task;

@@ -1,106 +1,106 @@
-ghost use Rattle.std.specs.Prelude.{◌≡◌, Some};
-ghost use Rattle.pgr_device.specs.Allowed.{IsAllowed};
-ghost use Rattle.schedule_text.specs.declared.header.Head.TheVariants.{Pr};
-ghost use Rattle.replay.specs.Sessions.{step, opened, checked, body, obeyed, powered, is_not_built, Answers};
+ghost use Rattle.std.specs.Prelude.{◌≡◌, List, ℕ};
+ghost use Rattle.std.specs.String.{string_bytes};
+ghost use Rattle.schedule_text.specs.Allowed.{IsAllowedEvent};
+ghost use Rattle.schedule_text.specs.Headers.{head_of, header_step};
+ghost use Rattle.schedule_text.specs.Lines.{pr_line_of, cluster_line_of, so_far_after_event};
+ghost use Rattle.replay.specs.declared.session.Body.TheVariants.{CheckingPr, CheckingCluster, Replaying};
+ghost use Rattle.replay.specs.declared.session.State.TheVariants.{Reading};
+ghost use Rattle.replay.specs.Sessions.{Answers, TakesHeader, step, body_step, body_of, checked_pr, checked_cluster, replayed, is_not_built};
 
+use crate::stop::Stop;
 use crate::task::Task;
-use cl_base::{NodeId, NodeSet};
-use pgr_device::{Pgr, PrCommand};
-use schedule_text::{Head, HeaderReader, Kind, Line, ReadError, SoFar, read_line};
-use status_report::{Entry, print};
-use std::alloc::{AllocError, Global};
+use cl_base::Header;
+use pgr_device::Pgr;
+use schedule_text::{
+    ClusterLine, Event, Head, HeaderReader, Kind, PrLine, SoFar, read_cluster_line, read_pr_line,
+};
+use status_report::{print_answer, print_powered};
+use std::alloc::Global;
+use std::mem;
 
-/// How far a schedule was read, and what its lines have made of the device.
+/// How far a schedule was read.
 #[derive(Drop)]
 pub enum State {
     /// The header is being read.
     Heading(HeaderReader),
-    /// The header was read; the lines after it are read alone.
-    Checking {
+    /// The header was read.
+    Reading(Body),
+}
+
+/// What is done with the lines after the header, and what they have led to.
+#[derive(Drop)]
+pub enum Body {
+    /// Those of a reservation schedule are read alone.
+    CheckingPr,
+    /// Those of a cluster schedule are read alone.
+    CheckingCluster {
         /// The header.
-        head: Head,
-        /// What the lines after it have set.
+        header: Header,
+        /// What the lines have set.
         so_far: SoFar,
     },
-    /// The header of a reservation schedule was read; this is the device.
+    /// Those of a reservation schedule are replayed; this is the device.
     Replaying(Pgr),
 }
 
-/// Why a line is not answered.
-#[derive(Clone, Copy, Debug, PartialEq, Eq)]
-pub enum NoAnswer {
-    /// It ends the schedule.
-    Ends,
-    /// It is refused.
-    Refused(Kind),
-    /// There is no memory.
-    NoMemory,
-}
-
-impl From<AllocError> for NoAnswer {
-    ghost use Rattle.replay.specs.declared.session.NoAnswer.TheVariants.{NoMemory};
-
-    ghost from_gives = { λ _ e. e ≡ NoMemory };
-
-    fn from(_: AllocError) -> NoAnswer {
-        NoAnswer::NoMemory
-    }
-}
-
-impl From<ReadError> for NoAnswer {
-    ghost use Rattle.replay.specs.Sessions.{unread};
-
-    ghost from_gives = { λ error e. e ≡ unread error };
-
-    fn from(error: ReadError) -> NoAnswer {
-        match error {
-            ReadError::Refused(kind) => NoAnswer::Refused(kind),
-            ReadError::NoMemory => NoAnswer::NoMemory,
-        }
-    }
-}
-
-/// A line was answered: the state that it leads to, and the text to write.
-#[derive(Drop)]
-pub struct Answered {
-    pub state: State,
-    pub text: Vec<u8>,
-}
-
-/// Answers a line, without its newline.
-pub fn answer(alloc: Global, task: Task, state: State, line: &[u8]) -> Result<Answered, NoAnswer>
-    ensures { Answers result (step task state line.now) }
-{
-    match state {
-        State::Heading(reader) => answer_header(alloc, task, reader, line),
-        State::Checking { head, so_far } => check(alloc, head, so_far, line),
-        State::Replaying(device) => replay(alloc, device, line),
-    }
-}
-
-fn answer_header(
+/// Answers a line, without its newline, and appends what is written of it to the text.
+pub fn answer(
     alloc: Global,
     task: Task,
-    reader: HeaderReader,
+    state: &mut State,
     line: &[u8],
-) -> Result<Answered, NoAnswer>
-    ensures { Answers result (step task (State.Heading reader) line.now) }
+    text: &mut String,
+) -> Result<(), Stop>
+    ensures { Answers result (step task state.old line.now) state.new (string_bytes text.old) (string_bytes text.new) }
 {
-    let mut reader = reader;
-    let taken = reader.take(alloc, line)?;
-    if !taken {
-        return match reader.finish() {
-            Ok(head) => answer_first(alloc, task, head, line),
-            Err(kind) => Err(NoAnswer::Refused(kind)),
-        };
+    // The state of a header is large; the lines behind it do not pay for room for it.
+    if let State::Reading(body) = state {
+        return body.answer(alloc, line, text);
+    }
+    answer_in_any(alloc, task, state, line, text)
+}
+
+/// The same, in any state.
+#[inline(never)]
+fn answer_in_any(
+    alloc: Global,
+    task: Task,
+    state: &mut State,
+    line: &[u8],
+    text: &mut String,
+) -> Result<(), Stop>
+    ensures { Answers result (step task state.old line.now) state.new (string_bytes text.old) (string_bytes text.new) }
+{
+    match state {
+        State::Heading(reader) => {
+            if take_header(alloc, task, reader, line)? {
+                return Ok(());
+            }
+            let mut body = enter(task, mem::replace(reader, HeaderReader::new()))?;
+            body.answer(alloc, line, text)?;
+            *state = State::Reading(body);
+            Ok(())
+        }
+        State::Reading(body) => body.answer(alloc, line, text),
+    }
+}
+
+/// Takes a line of the header; `false` where the header ends before the line.
+fn take_header(
+    alloc: Global,
+    task: Task,
+    reader: &mut HeaderReader,
+    line: &[u8],
+) -> Result<bool, Stop>
+    ensures { TakesHeader result task (header_step reader.old line.now) line.now reader.old reader.new }
+{
+    if !reader.take(alloc, line)? {
+        return Ok(false);
     }
     if is_not_built(task, line) {
-        return Err(NoAnswer::Refused(Kind::NotBuilt));
+        return Err(Stop::Refused(Kind::NotBuilt));
     }
-    Ok(Answered {
-        state: State::Heading(reader),
-        text: Vec::new(alloc),
-    })
+    Ok(true)
 }
 
 /// Whether the line opens a cluster schedule that is to be replayed.
@@ -108,91 +108,97 @@ fn is_not_built(task: Task, line: &[u8]) -> bool
     ensures { result ≡ is_not_built task line.now }
 {
     match task {
-        Task::Run => line == b"schedule cluster 1".as_slice(),
+        Task::Run => {
+            line == b"schedule cluster 1".as_slice() || line == b"schedule cluster 2".as_slice()
+        }
         Task::Check => false,
     }
 }
 
-/// Answers the first line after the header.
-fn answer_first(alloc: Global, task: Task, head: Head, line: &[u8]) -> Result<Answered, NoAnswer>
-    ensures { Answers result (opened task (Some head) line.now) }
+/// What is done with the lines after this header, which ends here.
+pub fn enter(task: Task, reader: HeaderReader) -> Result<Body, Kind>
+    ensures { result ≡ body_of task (head_of reader) }
 {
-    match task {
-        Task::Check => check(alloc, head, SoFar::new(), line),
-        Task::Run => run_first(alloc, head, line),
-    }
-}
-
-fn run_first(alloc: Global, head: Head, line: &[u8]) -> Result<Answered, NoAnswer>
-    ensures { Answers result (opened Task.Run (Some head) line.now) }
-{
-    match head {
-        Head::Pr(senders) => replay(alloc, Pgr::new(senders), line),
-        // The first line of a cluster schedule is refused, so none comes here.
-        Head::Cluster(header) => check(alloc, Head::Cluster(header), SoFar::new(), line),
-    }
-}
-
-/// Reads a line after the header, and does nothing.
-fn check(alloc: Global, head: Head, so_far: SoFar, line: &[u8]) -> Result<Answered, NoAnswer>
-    ensures { Answers result (checked head so_far line.now) }
-{
-    let read = read_line(alloc, &head, so_far, line)?;
-    if let Line::End = read {
-        return Err(NoAnswer::Ends);
-    }
-    let so_far = so_far.after(&read);
-    Ok(Answered {
-        state: State::Checking { head, so_far },
-        text: Vec::new(alloc),
-    })
-}
-
-/// Reads a line after the header of a reservation schedule, and replays it.
-fn replay(alloc: Global, device: Pgr, line: &[u8]) -> Result<Answered, NoAnswer>
-    ensures { Answers result (body device line.now) }
-{
-    // Nothing of the head or of earlier lines matters to a line of a reservation schedule.
-    let head = Head::Pr(NodeSet::empty());
-    match read_line(alloc, &head, SoFar::new(), line)? {
-        Line::End => Err(NoAnswer::Ends),
-        Line::Command { sender, command } => obey(alloc, device, sender, command),
-        Line::Power => lose_power(alloc, device),
-        Line::Blank | Line::Event(_) => Ok(Answered {
-            state: State::Replaying(device),
-            text: Vec::new(alloc),
+    match (task, reader.finish()?) {
+        (Task::Run, Head::Pr(senders)) => Ok(Body::Replaying(Pgr::new(senders))),
+        (Task::Run, Head::Cluster(_)) => Err(Kind::NotBuilt),
+        (Task::Check, Head::Pr(_)) => Ok(Body::CheckingPr),
+        (Task::Check, Head::Cluster(header)) => Ok(Body::CheckingCluster {
+            header,
+            so_far: SoFar::new(),
         }),
     }
 }
 
-/// The device obeys the command.
-fn obey(
-    alloc: Global,
-    device: Pgr,
-    sender: NodeId,
-    command: PrCommand,
-) -> Result<Answered, NoAnswer>
-    requires { IsAllowed command }
-    ensures { Answers result (obeyed device sender command) }
-{
-    let mut device = device;
-    let answer = device.execute(sender, command);
-    let text = print(alloc, &Entry::Answered(answer))?;
-    Ok(Answered {
-        state: State::Replaying(device),
-        text,
-    })
+impl Body {
+    /// Answers a line after the header.
+    fn answer(&mut self, alloc: Global, line: &[u8], text: &mut String) -> Result<(), Stop>
+        ensures { Answers result (body_step self.old line.now) (Reading self.new) (string_bytes text.old) (string_bytes text.new) }
+    {
+        match self {
+            Body::CheckingPr => check_pr(line),
+            Body::CheckingCluster { header, so_far } => check_cluster(alloc, header, so_far, line),
+            Body::Replaying(device) => replay(device, line, text),
+        }
+    }
 }
 
-/// The device loses power and comes back.
-fn lose_power(alloc: Global, device: Pgr) -> Result<Answered, NoAnswer>
-    ensures { Answers result (powered device) }
+/// Reads a line of a reservation schedule.
+fn check_pr(line: &[u8]) -> Result<(), Stop>
+    ensures { (text : List ℕ) → Answers result (checked_pr (pr_line_of line.now)) (Reading CheckingPr) text text }
 {
-    let mut device = device;
-    device.power_loss();
-    let text = print(alloc, &Entry::Powered)?;
-    Ok(Answered {
-        state: State::Replaying(device),
-        text,
-    })
+    match read_pr_line(line)? {
+        PrLine::End => Err(Stop::Ended),
+        PrLine::Blank | PrLine::Power | PrLine::Command { .. } => Ok(()),
+    }
+}
+
+/// Reads a line of a cluster schedule.
+#[inline(never)]
+fn check_cluster(
+    alloc: Global,
+    header: &Header,
+    so_far: &mut SoFar,
+    line: &[u8],
+) -> Result<(), Stop>
+    ensures { (text : List ℕ) → Answers result (checked_cluster header.now so_far.old (cluster_line_of header.now so_far.old line.now))
+        (Reading (CheckingCluster header.now so_far.new)) text text }
+{
+    match read_cluster_line(alloc, header, *so_far, line)? {
+        ClusterLine::End => Err(Stop::Ended),
+        ClusterLine::Blank => Ok(()),
+        ClusterLine::Event(event) => {
+            *so_far = moved_on(header, *so_far, &event);
+            Ok(())
+        }
+    }
+}
+
+/// What is set after an event of the schedule.
+fn moved_on(header: &Header, so_far: SoFar, event: &Event) -> SoFar
+    requires { IsAllowedEvent header.now so_far event.now }
+    ensures { result ≡ so_far_after_event so_far event.now }
+{
+    so_far.after_event(event)
+}
+
+/// Reads a line of a reservation schedule, and replays it. It takes memory only where the text has no
+/// room for the answer.
+fn replay(device: &mut Pgr, line: &[u8], text: &mut String) -> Result<(), Stop>
+    ensures { Answers result (replayed device.old (pr_line_of line.now)) (Reading (Replaying device.new)) (string_bytes text.old) (string_bytes text.new) }
+{
+    match read_pr_line(line)? {
+        PrLine::End => Err(Stop::Ended),
+        PrLine::Blank => Ok(()),
+        PrLine::Power => {
+            device.power_loss();
+            print_powered(text)?;
+            Ok(())
+        }
+        PrLine::Command { sender, command } => {
+            let answer = device.execute(sender, command);
+            print_answer(text, answer)?;
+            Ok(())
+        }
+    }
 }

@@ -1,22 +1,18 @@
 ghost use Rattle.std.specs.Prelude.{◌≡◌};
-ghost use Rattle.replay.specs.declared.stop.Stop.TheVariants.{NoMemory};
+ghost use Rattle.replay.specs.declared.stop.Stop.TheVariants.{NoMemory, Refused};
 
-use schedule_text::Kind;
+use schedule_text::{Kind, ReadError};
 use std::alloc::AllocError;
 
-/// Why reading stops. Lines are numbered from 1.
-#[derive(Clone, Copy, Debug, PartialEq, Eq)]
+/// Why reading stops. It does so at the line that was read last.
+#[derive(Clone, Copy)]
 pub enum Stop {
-    /// The schedule ended; so many lines were read.
-    Ended(u64),
-    /// This line is refused.
-    Refused(u64, Kind),
-    /// This line is too long, or one too many.
-    TooLarge(u64),
-    /// The source failed.
-    ReadFault,
-    /// The sink failed.
-    WriteFault,
+    /// The schedule ended.
+    Ended,
+    /// The line is refused.
+    Refused(Kind),
+    /// The line is too long, or one too many.
+    TooLarge,
     /// There is no memory.
     NoMemory,
 }
@@ -26,5 +22,26 @@ impl From<AllocError> for Stop {
 
     fn from(_: AllocError) -> Stop {
         Stop::NoMemory
+    }
+}
+
+impl From<Kind> for Stop {
+    ghost from_gives = { λ kind e. e ≡ Refused kind };
+
+    fn from(kind: Kind) -> Stop {
+        Stop::Refused(kind)
+    }
+}
+
+impl From<ReadError> for Stop {
+    ghost use Rattle.replay.specs.Sessions.{unread};
+
+    ghost from_gives = { λ error e. e ≡ unread error };
+
+    fn from(error: ReadError) -> Stop {
+        match error {
+            ReadError::Refused(kind) => Stop::Refused(kind),
+            ReadError::NoMemory => Stop::NoMemory,
+        }
     }
 }

@@ -44,8 +44,9 @@ impl Model for ResourceType {
 }
 
 impl ResourceType {
-    /// A type whose methods the agent carries out. `single` says that a resource of it is online on
-    /// one node at most, and `failover` that it may move. The error names the first that fits:
+    /// A type whose methods the agent carries out. `single` says that the cluster allows one resource
+    /// of it alone, and `failover` that a group with one may be online on one node at most; here both
+    /// are kept, and nothing more: the commands keep to them. The error names the first that fits:
     /// START missing, STOP missing, one of MONITOR_START and MONITOR_STOP without the other.
     pub fn new(
         agent: Name,
@@ -87,14 +88,14 @@ impl ResourceType {
         self.methods.has(m)
     }
 
-    /// Whether a resource of it is online on one node at most.
+    /// Whether the cluster allows one resource of it alone.
     pub fn single(&self) -> bool
         ensures value { result ≡ self.now.single }
     {
         self.single
     }
 
-    /// Whether a resource of it may move to another node.
+    /// Whether a group with a resource of it may be online on one node at most.
     pub fn failover(&self) -> bool
         ensures value { result ≡ self.now.failover }
     {

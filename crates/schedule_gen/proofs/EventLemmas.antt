@@ -5,6 +5,7 @@ use Rattle.std.specs.Fmt.{decimal}
 use Rattle.std.specs.List.{list_all, list_any}
 use Rattle.std.specs.Str.{bytes_eq}
 use Rattle.std.proofs.lemmas.Bool.Decides.{nat_tests}
+use Rattle.cl_base.specs.Numbers.{first_numbers}
 use Rattle.cl_base.specs.Sets.{set_with}
 use Rattle.schedule_text.specs.declared.event.Event.{Event}
 use Rattle.schedule_text.specs.declared.event.Event.TheVariants as event
@@ -19,7 +20,8 @@ use Rattle.schedule_text.specs.Lines.{line_of, is_blank}
 use Rattle.schedule_text.specs.Words.{is_word}
 use Rattle.schedule_gen.specs.Grammar.{four_nodes}
 use Rattle.schedule_gen.specs.Lines.{spaced, create_words}
-use Rattle.schedule_gen.proofs.WordLemmas.{AreWords, has_no_space, words_of_spaced, decimal_is_word, decimal_in_decimal, decimal_digits, first, second}
+use Rattle.schedule_text.proofs.PrintedLemmas.{has_no_space, decimal_is_word, decimal_in_decimal, decimal_digits, first, second}
+use Rattle.schedule_gen.proofs.WordLemmas.{AreWords, words_of_spaced}
 
 -- the first words
 tick_named : event_in (codes "tick") ≡ Some name.Tick
@@ -165,10 +167,10 @@ unfolding rounds_in
 one_round s room = rw (le-leb (s.rounds + 1) 100000 room) refl
 
 pub round_of_all_read : (s : SoFar) → s.rounds + 1 ≤ 100000
-    → line_of (Cluster four_nodes) s (spaced (codes "rounds" ∷ codes "1" ∷ codes "1" ∷ codes "2" ∷ codes "3" ∷ codes "4" ∷ [])) ≡ Ok (line.Event (event.Rounds 1 15))
+    → line_of (Cluster four_nodes) s (spaced (codes "rounds" ∷ codes "1" ∷ codes "1" ∷ codes "2" ∷ codes "3" ∷ codes "4" ∷ [])) ≡ Ok (line.Event (event.Rounds 1 (first_numbers 4)))
 unfolding set_with node_in
 round_of_all_read s room =
-    event_read s 114 (drop 1 (codes "rounds")) (codes "1" ∷ codes "1" ∷ codes "2" ∷ codes "3" ∷ codes "4" ∷ []) (event.Rounds 1 15) refl refl
+    event_read s 114 (drop 1 (codes "rounds")) (codes "1" ∷ codes "1" ∷ codes "2" ∷ codes "3" ∷ codes "4" ∷ []) (event.Rounds 1 (first_numbers 4)) refl refl
     (refl, (refl, (refl, (refl, (refl, (refl, tt))))))
     (rw (rounds_named, one_round s room) refl)
 

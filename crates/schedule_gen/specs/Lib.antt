@@ -1,4 +1,5 @@
 pub mod Draws
+pub mod Events
 pub mod Grammar
 pub mod Lines
 pub mod Progress

@@ -1,7 +1,7 @@
 -- Which event a word names.
 use Rattle.std.proofs.Common.{◌≡◌, ◌≢◌, ℕ, List, Option, Some, None, refl, sym, ap, ◌∙◌, MatchOption}
 use Rattle.schedule_text.specs.declared.event_name.EventName.{EventName}
-use Rattle.schedule_text.specs.declared.event_name.EventName.TheVariants.{Boot, Crash, CrashAt, Tick, Deliver, Lose, Repeat, Next, Drop, Again, Disk, Fault, Write, Command, Outcome, Probe, Clock, Rounds}
+use Rattle.schedule_text.specs.declared.event_name.EventName.TheVariants.{Boot, Crash, CrashAt, Tick, Deliver, Lose, Repeat, Next, Drop, Again, Disk, Fault, Write, Command, Outcome, Probe, Clock, Rounds, Client, Server, ServerStop}
 use Rattle.schedule_text.specs.EventNames.{event_text, event_in, all_events}
 use Rattle.schedule_text.proofs.Find.{find_unknown}
 
@@ -25,6 +25,9 @@ text_event_in Outcome = refl
 text_event_in Probe = refl
 text_event_in Clock = refl
 text_event_in Rounds = refl
+text_event_in Client = refl
+text_event_in Server = refl
+text_event_in ServerStop = refl
 
 unknown : (w : List ℕ) → ((k : EventName) → w ≢ event_text k) → event_in w ≡ None
 unfolding event_in

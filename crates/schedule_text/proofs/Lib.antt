@@ -5,4 +5,5 @@ pub mod MethodNameLemmas
 pub mod NameLemmas
 pub mod NodeLemmas
 pub mod NumberLemmas
+pub mod PrintedLemmas
 pub mod WordLemmas

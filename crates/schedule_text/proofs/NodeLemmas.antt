@@ -37,14 +37,14 @@ abbrev right_of : Result (ℕ × ℕ) Kind → ℕ
 right_of (Ok p) = p.1
 right_of (Err kind) = 0
 
-pub more_nodes : (x y : Result ℕ Kind) (set n new most : ℕ) → both x y ≡ Ok (set, n) → IfOk x (AreWithin most)
-    → IfOk y (λ (n : ℕ). (1 ≤ n) × (n ≤ 16) × (n ≤ most)) → ((m : ℕ) → has new m ≡ ((m == n) || has set m)) → AreNodes most new
-more_nodes (Ok a) (Ok b) set n new most is within node members =
+pub more_nodes : (x y : Result ℕ Kind) (set n new high most : ℕ) → both x y ≡ Ok (set, n) → IfOk x (AreWithin most)
+    → IfOk y (λ (n : ℕ). (1 ≤ n) × (n ≤ high) × (n ≤ most)) → ((m : ℕ) → has new m ≡ ((m == n) || has set m)) → AreNodes most new
+more_nodes (Ok a) (Ok b) set n new high most is within node members =
     let left : a ≡ set = ap (λ (r : Result (ℕ × ℕ) Kind). left_of r) is in
     let right : b ≡ n = ap (λ (r : Result (ℕ × ℕ) Kind). right_of r) is in (
       not_empty n new (has_new set n new members),
       more_within set n new most members (subst (AreWithin most) left within) (omega (arith, right, node.0)) (omega (arith, right, node.2)),
     )
-more_nodes (Ok a) (Err kind) set n new most is within node members = absurd (cc)
-more_nodes (Err kind) (Ok b) set n new most is within node members = absurd (cc)
-more_nodes (Err kind) (Err other) set n new most is within node members = absurd (cc)
+more_nodes (Ok a) (Err kind) set n new high most is within node members = absurd (cc)
+more_nodes (Err kind) (Ok b) set n new high most is within node members = absurd (cc)
+more_nodes (Err kind) (Err other) set n new high most is within node members = absurd (cc)

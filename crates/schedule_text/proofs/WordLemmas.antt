@@ -10,7 +10,7 @@ use Rattle.std.proofs.lemmas.List.Sums.{AllPass-from_list_all, list_all-from_All
 use Rattle.std.proofs.lemmas.Bool.{le-leb, leb-true}
 use Rattle.cl_base.specs.Names.{IsName, is_letter, is_name_byte}
 use Rattle.schedule_text.specs.declared.kind.Kind.TheVariants as kind
-use Rattle.schedule_text.specs.Fields.{is_name, resource_in}
+use Rattle.schedule_text.specs.Fields.{is_name, named_in}
 
 -- a test of each word, whether of the words or of what lends them
 pub all_map : (test : List ℕ → Bool) (ws : List (Bor (List ℕ))) → list_all test (map (λ w. w.now) ws) ≡ list_all (λ w. test w.now) ws
@@ -53,13 +53,13 @@ no_name : (w : List ℕ) (t : Bool) → is_name w ≡ t → (IsName w → ⊥) �
 no_name w true is never = absurd (never (holds_name w is))
 no_name w false is never = refl
 
-pub resource_is : (w name : List ℕ) → name ≡ w → IsName w → resource_in w ≡ Ok name
-unfolding resource_in
-resource_is w name same h = rw (name_holds w h) (ap Ok (sym same))
+pub named_is : (w name : List ℕ) → name ≡ w → IsName w → named_in w ≡ Ok name
+unfolding named_in
+named_is w name same h = rw (name_holds w h) (ap Ok (sym same))
 
-pub resource_is_none : (w : List ℕ) → (IsName w → ⊥) → resource_in w ≡ Err kind.Line
-unfolding resource_in
-resource_is_none w never = rw (no_name w (is_name w) refl never) refl
+pub named_is_none : (w : List ℕ) → (IsName w → ⊥) → named_in w ≡ Err kind.Line
+unfolding named_in
+named_is_none w never = rw (no_name w (is_name w) refl never) refl
 
 -- one more word
 pub join_more : (x : List ℕ) (xs : List (List ℕ)) (w : List ℕ) → join_with_byte 32 (x ∷ (xs ++ (w ∷ []))) ≡ join_with_byte 32 (x ∷ xs) ++ (32 ∷ w)

@@ -2,7 +2,7 @@
 use Rattle.std.specs.Prelude.{ℕ, List, [], ◌∷◌, Option, find, codes}
 use Rattle.std.specs.Str.{bytes_eq}
 use Rattle.schedule_text.specs.declared.event_name.EventName.{EventName}
-use Rattle.schedule_text.specs.declared.event_name.EventName.TheVariants.{Boot, Crash, CrashAt, Tick, Deliver, Lose, Repeat, Next, Drop, Again, Disk, Fault, Write, Command, Outcome, Probe, Clock, Rounds}
+use Rattle.schedule_text.specs.declared.event_name.EventName.TheVariants.{Boot, Crash, CrashAt, Tick, Deliver, Lose, Repeat, Next, Drop, Again, Disk, Fault, Write, Command, Outcome, Probe, Clock, Rounds, Client, Server, ServerStop}
 
 abbrev pub event_text : EventName → List ℕ
 event_text Boot = codes "boot"
@@ -23,10 +23,13 @@ event_text Outcome = codes "outcome"
 event_text Probe = codes "probe"
 event_text Clock = codes "clock"
 event_text Rounds = codes "rounds"
+event_text Client = codes "client"
+event_text Server = codes "server"
+event_text ServerStop = codes "serverstop"
 
 abbrev pub all_events : List EventName
 all_events = Boot ∷ Crash ∷ CrashAt ∷ Tick ∷ Deliver ∷ Lose ∷ Repeat ∷ Next ∷ Drop ∷ Again ∷ Disk ∷ Fault ∷ Write ∷ Command ∷ Outcome ∷ Probe
-    ∷ Clock ∷ Rounds ∷ []
+    ∷ Clock ∷ Rounds ∷ Client ∷ Server ∷ ServerStop ∷ []
 
 -- the event that a word names
 unfoldable pub event_in : List ℕ → Option EventName

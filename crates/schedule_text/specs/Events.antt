@@ -1,7 +1,10 @@
 -- The events of a cluster schedule, as a line spells them: a name, and the fields that the event of this name has.
-use Rattle.std.specs.Prelude.{ℕ, ◌==◌, ◌&&◌, if◌then◌else◌, List, [], ◌∷◌, length, Option, Some, None, Result, Ok, Err}
+use Rattle.std.specs.Prelude.{ℕ, ◌==◌, nat_le, Bool, ◌&&◌, if◌then◌else◌, List, [], ◌∷◌, length, Option, Some, None, Result, Ok, Err}
 use Rattle.std.specs.List.{list_all, join_with_byte}
+use Rattle.std.specs.Option.{is_some}
 use Rattle.cl_base.specs.declared.header.Header.{Header}
+use Rattle.cl_base.specs.declared.header.Version.{Version}
+use Rattle.cl_base.specs.declared.header.Version.TheVariants.{One, Two}
 use Rattle.cl_base.specs.declared.method.Method.{Method}
 use Rattle.cl_base.specs.declared.method.Outcome.{Outcome}
 use Rattle.schedule_text.specs.declared.event.Event.{Event}
@@ -9,14 +12,15 @@ use Rattle.schedule_text.specs.declared.event.Event.TheVariants as event
 use Rattle.schedule_text.specs.declared.event_name.EventName.{EventName}
 use Rattle.schedule_text.specs.declared.event_name.EventName.TheVariants as name
 use Rattle.schedule_text.specs.declared.event_words.CallEnd.{CallEnd}
+use Rattle.schedule_text.specs.declared.event_words.ClientPort.{ClientPort}
 use Rattle.schedule_text.specs.declared.kind.Kind.{Kind}
-use Rattle.schedule_text.specs.declared.kind.Kind.TheVariants.{Line}
+use Rattle.schedule_text.specs.declared.kind.Kind.TheVariants.{Line, NotBuilt}
 use Rattle.schedule_text.specs.declared.line.SoFar.{SoFar}
-use Rattle.schedule_text.specs.Words.{is_word}
-use Rattle.schedule_text.specs.Choices.{choice_in, done_in, good_in, outcome_in}
+use Rattle.schedule_text.specs.Words.{is_word, is_decimal}
+use Rattle.schedule_text.specs.Choices.{choice_in, done_in, good_in, outcome_in, is_ask}
 use Rattle.schedule_text.specs.EventNames.{event_in}
 use Rattle.schedule_text.specs.MethodNames.{method_in}
-use Rattle.schedule_text.specs.Fields.{both, one_of, node_in, device_in, number_in, calls_in, rounds_in, second_in, resource_in, nodes_from}
+use Rattle.schedule_text.specs.Fields.{both, one_of, node_in, device_in, number_in, calls_in, rounds_in, second_in, client_in, port_in, named_in, nodes_from}
 
 -- the event that the fields make, if they are what they should be
 abbrev pub made : {A : Type 0} → (A → Event) → Result A Kind → Result Event Kind
@@ -73,13 +77,13 @@ call_in method ending = ended (both (one_of (method_in method)) (one_of (outcome
 -- N R and a call
 abbrev pub outcome : Header → List (List ℕ) → Result Event Kind
 outcome h (node ∷ resource ∷ method ∷ ending ∷ []) =
-    made (λ f. event.Outcome f.0 f.1.0 f.1.1.method f.1.1.outcome) (both (node_in h node) (both (resource_in resource) (call_in method ending)))
+    made (λ f. event.Outcome f.0 f.1.0 f.1.1.method f.1.1.outcome) (both (node_in h node) (both (named_in resource) (call_in method ending)))
 outcome h _ = Err Line
 
 -- N R `ok` or `fail`
 abbrev pub probe : Header → List (List ℕ) → Result Event Kind
 probe h (node ∷ resource ∷ good ∷ []) =
-    made (λ f. event.Probe f.0 f.1.0 f.1.1) (both (node_in h node) (both (resource_in resource) (one_of (good_in good))))
+    made (λ f. event.Probe f.0 f.1.0 f.1.1) (both (node_in h node) (both (named_in resource) (one_of (good_in good))))
 probe h _ = Err Line
 
 -- S
@@ -93,6 +97,40 @@ rounds h s [] = Err Line
 rounds h s (count ∷ nodes) =
     if length nodes == 0 then Err Line
     else made (λ f. event.Rounds f.0 f.1) (both (rounds_in s count) (nodes_from h (Ok 0) nodes))
+
+-- CLIENT PORT
+abbrev pub asked : Result (ℕ × ℕ) Kind → Result ClientPort Kind
+asked (Ok request) = Ok (record { client = request.0; port = request.1 })
+asked (Err kind) = Err kind
+
+unfoldable pub asked_in : List ℕ → List ℕ → Result ClientPort Kind
+asked_in client port = asked (both (client_in client) (port_in port))
+
+-- N A CLIENT PORT
+abbrev pub client : Header → List (List ℕ) → Result Event Kind
+client h (node ∷ address ∷ number ∷ port ∷ []) =
+    made (λ f. event.Client f.0 f.1.0 f.1.1.client f.1.1.port) (both (node_in h node) (both (named_in address) (asked_in number port)))
+client h _ = Err Line
+
+-- a form that is not built; what is in its fields is not looked at then
+abbrev pub unbuilt : Bool → Result Event Kind
+unbuilt is_formed = if is_formed then Err NotBuilt else Err Line
+
+-- N D WORDS: 1 to 4 words, one for each ask
+abbrev pub server : List (List ℕ) → Result Event Kind
+server (node ∷ device ∷ first ∷ words) =
+    unbuilt (is_decimal node && is_decimal device && is_ask first && nat_le (length words) 3 && list_all is_ask words)
+server _ = Err Line
+
+-- D K CHOICE
+abbrev pub server_stop : List (List ℕ) → Result Event Kind
+server_stop (device ∷ calls ∷ choice ∷ []) = unbuilt (is_decimal device && is_decimal calls && is_some (choice_in choice))
+server_stop _ = Err Line
+
+-- a form that is there from version 2 on
+abbrev pub since_two : Version → Result Event Kind → Result Event Kind
+since_two One read = Err Line
+since_two Two read = read
 
 -- the event of this name and these fields
 abbrev pub event_of : Header → SoFar → EventName → List (List ℕ) → Result Event Kind
@@ -114,6 +152,9 @@ event_of h s name.Outcome fields = outcome h fields
 event_of h s name.Probe fields = probe h fields
 event_of h s name.Clock fields = clock s fields
 event_of h s name.Rounds fields = rounds h s fields
+event_of h s name.Client fields = since_two h.version (client h fields)
+event_of h s name.Server fields = since_two h.version (server fields)
+event_of h s name.ServerStop fields = since_two h.version (server_stop fields)
 
 abbrev pub named_event : Header → SoFar → Option EventName → List (List ℕ) → Result Event Kind
 named_event h s None fields = Err Line

@@ -1,8 +1,9 @@
 -- The fields of an event: what each word is, or the first kind of refusal that fits it. The kinds come in one order: a line that has no
 -- form, a number out of its range, a node or device that the header lacks.
-use Rattle.std.specs.Prelude.{ℕ, ◌+◌, nat_le, Bool, ◌&&◌, if◌then◌else◌, List, [], ◌∷◌, length, slice_index, Option, Some, None, Result, Ok, Err}
+use Rattle.std.specs.Prelude.{ℕ, ◌+◌, ◌^◌, nat_le, nat_lt, Bool, ◌&&◌, if◌then◌else◌, List, [], ◌∷◌, length, slice_index, Option, Some, None, Result, Ok, Err}
 use Rattle.std.specs.List.{list_all}
 use Rattle.cl_base.specs.Names.{is_letter, is_name_byte}
+use Rattle.cl_base.specs.Limits.{most_devices}
 use Rattle.cl_base.specs.Sets.{set_with}
 use Rattle.cl_base.specs.declared.header.Header.{Header}
 use Rattle.schedule_text.specs.declared.kind.Kind.{Kind}
@@ -10,6 +11,7 @@ use Rattle.schedule_text.specs.declared.kind.Kind.TheVariants as kind
 use Rattle.schedule_text.specs.declared.line.SoFar.{SoFar}
 use Rattle.schedule_text.specs.declared.number.Numeral.{Numeral}
 use Rattle.schedule_text.specs.declared.number.Numeral.TheVariants.{Within, Beyond}
+use Rattle.schedule_text.specs.Versions.{most_nodes_of}
 use Rattle.schedule_text.specs.Words.{decimal_in}
 
 -- the place of a kind in the order
@@ -35,20 +37,20 @@ abbrev pub one_of : {A : Type 0} → Option A → Result A Kind
 one_of (Some a) = Ok a
 one_of None = Err kind.Line
 
--- numbered from 1 to at most 16; the header has the first `most` of them
-abbrev pub listed : ℕ → Option Numeral → Result ℕ Kind
-listed most None = Err kind.Line
-listed most (Some Beyond) = Err kind.Number
-listed most (Some (Within n)) =
-    if nat_le 1 n && nat_le n 16 then (if nat_le n most then Ok n else Err kind.Unknown) else Err kind.Number
+-- numbered from 1 to `most`; the header has the first `there` of them
+abbrev pub listed : ℕ → ℕ → Option Numeral → Result ℕ Kind
+listed most there None = Err kind.Line
+listed most there (Some Beyond) = Err kind.Number
+listed most there (Some (Within n)) =
+    if nat_le 1 n && nat_le n most then (if nat_le n there then Ok n else Err kind.Unknown) else Err kind.Number
 
 -- N
 unfoldable pub node_in : Header → List ℕ → Result ℕ Kind
-node_in h word = listed h.nodes (decimal_in word)
+node_in h word = listed (most_nodes_of h.version) h.nodes (decimal_in word)
 
 -- D
 unfoldable pub device_in : Header → List ℕ → Result ℕ Kind
-device_in h word = listed (length h.devices) (decimal_in word)
+device_in h word = listed most_devices (length h.devices) (decimal_in word)
 
 -- any number
 abbrev pub number_of : Option Numeral → Result ℕ Kind
@@ -87,12 +89,25 @@ is_second s n = nat_le s.clock n
 unfoldable pub second_in : SoFar → List ℕ → Result ℕ Kind
 second_in s word = tested (is_second s) (decimal_in word)
 
--- R
+-- the CLIENT and the PORT of `client`: they have 32 bits and 16
+abbrev pub is_client : ℕ → Bool
+is_client n = nat_lt n (2 ^ 32)
+
+unfoldable pub client_in : List ℕ → Result ℕ Kind
+client_in word = tested is_client (decimal_in word)
+
+abbrev pub is_port : ℕ → Bool
+is_port n = nat_lt n (2 ^ 16)
+
+unfoldable pub port_in : List ℕ → Result ℕ Kind
+port_in word = tested is_port (decimal_in word)
+
+-- R, and the A of `client`
 abbrev pub is_name : List ℕ → Bool
 is_name word = nat_le 1 (length word) && nat_le (length word) 32 && is_letter (slice_index word 0) && list_all is_name_byte word
 
-unfoldable pub resource_in : List ℕ → Result (List ℕ) Kind
-resource_in word = if is_name word then Ok word else Err kind.Line
+unfoldable pub named_in : List ℕ → Result (List ℕ) Kind
+named_in word = if is_name word then Ok word else Err kind.Line
 
 -- one more node of a set
 abbrev pub with_node : Result ℕ Kind → Result ℕ Kind → Result ℕ Kind

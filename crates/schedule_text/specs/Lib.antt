@@ -10,4 +10,5 @@ pub mod Headers
 pub mod Lines
 pub mod MethodNames
 pub mod Names
+pub mod Versions
 pub mod Words

@@ -1,8 +1,8 @@
 ghost use Rattle.std.specs.Prelude.{◌≡◌};
-ghost use Rattle.schedule_text.specs.Choices.{choice_in, done_in, good_in, quorum_in, outcome_in};
+ghost use Rattle.schedule_text.specs.Choices.{choice_in, done_in, good_in, device_kind_in, server_under, is_ask, outcome_in};
 
 use crate::event::StopChoice;
-use cl_base::Outcome;
+use cl_base::{DeviceKind, Outcome, Version};
 
 /// What the word says of what is not synced.
 #[tactic(auto, unfolding(crate::specs::Choices::choice_in))]
@@ -48,18 +48,41 @@ pub fn is_good(word: &[u8]) -> Option<bool>
     }
 }
 
-/// Whether the word says that a device is a quorum device.
-#[tactic(auto, unfolding(crate::specs::Choices::quorum_in))]
-pub fn is_quorum(word: &[u8]) -> Option<bool>
-    ensures { result ≡ quorum_in word.now }
+/// What the word says that a device of the header is.
+#[tactic(auto, unfolding(crate::specs::Choices::device_kind_in))]
+pub fn device_kind(version: Version, word: &[u8]) -> Option<DeviceKind>
+    ensures { result ≡ device_kind_in version word.now }
 {
     if word == b"quorum".as_slice() {
-        Some(true)
+        Some(DeviceKind::Quorum)
     } else if word == b"data".as_slice() {
-        Some(false)
+        Some(DeviceKind::Data)
+    } else if word == b"server".as_slice() {
+        server_under(version)
     } else {
         None
     }
+}
+
+/// Servers are there from version 2 on.
+fn server_under(version: Version) -> Option<DeviceKind>
+    ensures { result ≡ server_under version }
+{
+    match version {
+        Version::One => None,
+        Version::Two => Some(DeviceKind::Server),
+    }
+}
+
+/// Whether the word says what becomes of an ask.
+#[tactic(auto, unfolding(crate::specs::Choices::is_ask))]
+pub fn is_ask(word: &[u8]) -> bool
+    ensures { result ≡ is_ask word.now }
+{
+    word == b"ok".as_slice()
+        || word == b"ask-lost".as_slice()
+        || word == b"reply-lost".as_slice()
+        || word == b"ask-twice".as_slice()
 }
 
 /// How the word says that a call ends.

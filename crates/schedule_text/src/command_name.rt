@@ -3,7 +3,7 @@ ghost use Rattle.schedule_text.specs.Names.{name_text};
 ghost use Rattle.schedule_text.specs.declared.command_name.CommandName.{CommandName};
 
 /// The word that names a command to a device.
-#[derive(Clone, Copy, Debug, PartialEq, Eq)]
+#[derive(Clone, Copy)]
 pub enum CommandName {
     Register,
     Ignore,

@@ -1,7 +1,7 @@
 use cl_base::{Bytes, DevId, Method, Name, NodeId, NodeSet, Outcome};
 
 /// What the ranges of a local disk that are not synced come to hold at a stop.
-#[derive(Clone, Copy, Debug, PartialEq, Eq)]
+#[derive(Clone, Copy)]
 pub enum StopChoice {
     /// What they held at the last sync.
     Old,
@@ -12,7 +12,7 @@ pub enum StopChoice {
 }
 
 /// A line of a cluster schedule after its header: what happens next.
-#[derive(Debug, Drop)]
+#[derive(Drop)]
 pub enum Event {
     /// The node starts from its record.
     Boot(NodeId),
@@ -111,5 +111,16 @@ pub enum Event {
         count: u64,
         /// The nodes.
         nodes: NodeSet,
+    },
+    /// A request of a client of a shared address comes to the node.
+    Client {
+        /// The node.
+        node: NodeId,
+        /// The shared address.
+        address: Name,
+        /// The client.
+        client: u32,
+        /// The port that it asks for.
+        port: u16,
     },
 }

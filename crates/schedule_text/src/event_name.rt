@@ -3,7 +3,7 @@ ghost use Rattle.schedule_text.specs.EventNames.{event_in, event_text};
 ghost use Rattle.schedule_text.specs.declared.event_name.EventName.{EventName};
 
 /// The word that names an event.
-#[derive(Clone, Copy, Debug, PartialEq, Eq)]
+#[derive(Clone, Copy)]
 pub enum EventName {
     Boot,
     Crash,
@@ -23,6 +23,9 @@ pub enum EventName {
     Probe,
     Clock,
     Rounds,
+    Client,
+    Server,
+    ServerStop,
 }
 
 /// The event that the word names, if it names one.
@@ -54,6 +57,9 @@ fn spelled(word: &[u8]) -> Option<EventName>
         b"probe" => Some(EventName::Probe),
         b"clock" => Some(EventName::Clock),
         b"rounds" => Some(EventName::Rounds),
+        b"client" => Some(EventName::Client),
+        b"server" => Some(EventName::Server),
+        b"serverstop" => Some(EventName::ServerStop),
         _ => None,
     }
 }

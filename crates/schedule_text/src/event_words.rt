@@ -1,28 +1,39 @@
-ghost use Rattle.std.specs.Prelude.{◌≡◌, ◌==◌, [], ◌∷◌, map, IfOk};
+ghost use Rattle.std.specs.Prelude.{◌≡◌, ◌<◌, ◌^◌, ◌==◌, [], ◌∷◌, map, IfOk};
 ghost use Rattle.std.specs.List.{list_all, list_any, join_with_byte};
 ghost use Rattle.schedule_text.specs.Allowed.{IsAllowedEvent, IsNode};
 ghost use Rattle.schedule_text.specs.Answers.{Tells};
-ghost use Rattle.schedule_text.specs.Events.{event_line, named_event, event_of, made, one_node, two_nodes, one_packet, crash_at, fault, write, command, outcome, call_in, probe, clock, rounds};
+ghost use Rattle.schedule_text.specs.Events.{event_line, named_event, event_of, made, one_node, two_nodes, one_packet, crash_at, fault, write, command, outcome, call_in, probe, clock, rounds, client, asked_in, unbuilt, server, server_stop, since_two};
+ghost use Rattle.schedule_text.specs.Choices.{is_ask};
 ghost use Rattle.schedule_text.specs.Words.{is_word};
 ghost use Rattle.schedule_text.specs.declared.event.Event.TheVariants as event;
 ghost use Rattle.schedule_text.specs.declared.line.SoFar.{SoFar};
 ghost use Rattle.cl_base.specs.declared.header.Header.{Header};
 
-use crate::choice::{is_done, is_good, outcome, stop_choice};
+use crate::choice::{is_ask, is_done, is_good, outcome, stop_choice};
 use crate::event::Event;
 use crate::event_name::{EventName, event_name};
-use crate::field::{both, calls, device, node, nodes, number, one_of, resource, rounds, second};
+use crate::field::{
+    both, calls, client, device, named, node, nodes, number, one_of, port, rounds, second,
+};
 use crate::kind::{Kind, ReadError};
 use crate::line::SoFar;
 use crate::method_name::method;
-use cl_base::{Bytes, Header, Method, NodeId, Outcome};
+use crate::number::is_decimal;
+use cl_base::{Bytes, Header, Method, NodeId, Outcome, Version};
 use std::alloc::{AllocError, Global};
 
 /// How a call of a method ends.
-#[derive(Clone, Copy, Debug, PartialEq, Eq)]
+#[derive(Clone, Copy)]
 pub struct CallEnd {
     method: Method,
     outcome: Outcome,
+}
+
+/// A client, and the port that it asks for.
+#[derive(Clone, Copy)]
+pub struct ClientPort {
+    client: u32,
+    port: u16,
 }
 
 /// The event that the words of a line spell, or why there is none.
@@ -87,6 +98,9 @@ fn named_event(
         EventName::Probe => Ok(probe(header, fields)?),
         EventName::Clock => Ok(clock(so_far, fields)?),
         EventName::Rounds => Ok(some_rounds(header, so_far, fields)?),
+        EventName::Client => Ok(client_since_two(header, fields)?),
+        EventName::Server => Ok(server(header.version, fields)?),
+        EventName::ServerStop => Ok(server_stop(header.version, fields)?),
     }
 }
 
@@ -204,7 +218,7 @@ fn call_outcome(header: &Header, fields: &[&[u8]]) -> Result<Event, Kind>
     let [number, name, called, ending] = fields else {
         return Err(Kind::Line);
     };
-    let rest = both(resource(name), call(called, ending));
+    let rest = both(named(name), call(called, ending));
     let (node, (resource, end)) = both(node(header, number), rest)?;
     Ok(Event::Outcome {
         node,
@@ -231,7 +245,7 @@ fn probe(header: &Header, fields: &[&[u8]]) -> Result<Event, Kind>
     let [number, name, good] = fields else {
         return Err(Kind::Line);
     };
-    let rest = both(resource(name), one_of(is_good(good)));
+    let rest = both(named(name), one_of(is_good(good)));
     let (node, (resource, good)) = both(node(header, number), rest)?;
     Ok(Event::Probe {
         node,
@@ -276,6 +290,115 @@ fn counted_rounds(
     }
     let (count, nodes) = both(rounds(so_far, count), nodes(header, words))?;
     Ok(Event::Rounds { count, nodes })
+}
+
+fn client_since_two(header: &Header, fields: &[&[u8]]) -> Result<Event, Kind>
+    ensures reading { result ≡ since_two header.now.version (client header.now (map (λ w. w.now) fields.now)) }
+    ensures allowed { (s : SoFar) → IfOk result (IsAllowedEvent header.now s) }
+{
+    match header.version {
+        Version::One => Err(Kind::Line),
+        Version::Two => client_request(header, fields),
+    }
+}
+
+/// N A CLIENT PORT
+fn client_request(header: &Header, fields: &[&[u8]]) -> Result<Event, Kind>
+    requires { header.now.version ≡ Version.Two }
+    ensures reading { result ≡ client header.now (map (λ w. w.now) fields.now) }
+    ensures allowed { (s : SoFar) → IfOk result (IsAllowedEvent header.now s) }
+{
+    let [number, name, sender, wanted] = fields else {
+        return Err(Kind::Line);
+    };
+    let rest = both(named(name), client_port(sender, wanted));
+    let (node, (address, asked)) = both(node(header, number), rest)?;
+    Ok(Event::Client {
+        node,
+        address,
+        client: asked.client,
+        port: asked.port,
+    })
+}
+
+/// CLIENT PORT
+#[tactic(auto, unfolding(crate::specs::Events::asked_in))]
+fn client_port(sender: &[u8], wanted: &[u8]) -> Result<ClientPort, Kind>
+    ensures value { result ≡ asked_in sender.now wanted.now }
+    ensures ranges { IfOk result (λ asked. (asked.client < 2 ^ 32) × (asked.port < 2 ^ 16)) }
+{
+    let (client, port) = both(client(sender), port(wanted))?;
+    Ok(ClientPort { client, port })
+}
+
+/// N D WORDS
+fn server(version: Version, fields: &[&[u8]]) -> Result<Event, Kind>
+    ensures { result ≡ since_two version (server (map (λ w. w.now) fields.now)) }
+{
+    match version {
+        Version::One => Err(Kind::Line),
+        Version::Two => server_asks(fields),
+    }
+}
+
+fn server_asks(fields: &[&[u8]]) -> Result<Event, Kind>
+    ensures { result ≡ server (map (λ w. w.now) fields.now) }
+{
+    match fields {
+        [node, device, first, words @ ..] => unbuilt(
+            is_decimal(node)
+                && is_decimal(device)
+                && is_ask(first)
+                && words.len() <= 3
+                && all_asks(words),
+        ),
+        _ => Err(Kind::Line),
+    }
+}
+
+/// Whether each word says what becomes of an ask.
+fn all_asks(words: &[&[u8]]) -> bool
+    ensures { result ≡ list_all is_ask (map (λ w. w.now) words.now) }
+{
+    are_asks(words)
+}
+
+fn are_asks(words: &[&[u8]]) -> bool
+    ensures { result ≡ list_all (λ w. is_ask w.now) words.now }
+{
+    words.iter().all(|word| is_ask(word))
+}
+
+/// D K CHOICE
+fn server_stop(version: Version, fields: &[&[u8]]) -> Result<Event, Kind>
+    ensures { result ≡ since_two version (server_stop (map (λ w. w.now) fields.now)) }
+{
+    match version {
+        Version::One => Err(Kind::Line),
+        Version::Two => server_stop_armed(fields),
+    }
+}
+
+fn server_stop_armed(fields: &[&[u8]]) -> Result<Event, Kind>
+    ensures { result ≡ server_stop (map (λ w. w.now) fields.now) }
+{
+    match fields {
+        [device, calls, choice] => unbuilt(
+            is_decimal(device) && is_decimal(calls) && stop_choice(choice).is_some(),
+        ),
+        _ => Err(Kind::Line),
+    }
+}
+
+/// A line that has a form which is not built, or has none.
+fn unbuilt(is_formed: bool) -> Result<Event, Kind>
+    ensures { result ≡ unbuilt is_formed }
+{
+    if is_formed {
+        Err(Kind::NotBuilt)
+    } else {
+        Err(Kind::Line)
+    }
 }
 
 /// N WORDS

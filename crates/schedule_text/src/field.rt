@@ -1,11 +1,12 @@
 ghost use Rattle.std.specs.Prelude.{◌≡◌, ◌≤◌, ◌<◌, ◌==◌, ◌+◌, length, map, Ok, Err, IfOk};
 ghost use Rattle.cl_base.specs.Names.{IsName};
 ghost use Rattle.schedule_text.specs.Allowed.{IsNode, IsDevice, AreNodes, AreWithin};
-ghost use Rattle.schedule_text.specs.Fields.{rank, first_kind, both, one_of, listed, node_in, device_in, number_of, number_in, calls_in, rounds_in, second_in, resource_in, with_node, nodes_from};
+ghost use Rattle.schedule_text.specs.Fields.{rank, first_kind, both, one_of, listed, node_in, device_in, number_of, number_in, calls_in, rounds_in, second_in, client_in, port_in, named_in, with_node, nodes_from};
 
 use crate::kind::Kind;
 use crate::line::SoFar;
 use crate::number::{Numeral, decimal};
+use crate::version::most_nodes;
 use cl_base::{DevId, Header, Name, NodeId, NodeSet};
 
 /// The most local disk calls to the one that stops.
@@ -62,10 +63,10 @@ pub fn one_of<A: Copy>(found: Option<A>) -> Result<A, Kind>
     }
 }
 
-/// The number, numbered from 1, where there are so many of them.
-fn listed(most: u64, numeral: Option<Numeral>) -> Result<u64, Kind>
-    ensures value { result ≡ listed most numeral }
-    ensures range { IfOk result (λ n. (1 ≤ n) × (n ≤ 16) × (n ≤ most)) }
+/// The number, from 1 to the most, where there are so many of them.
+fn listed(most: u64, there: u64, numeral: Option<Numeral>) -> Result<u64, Kind>
+    ensures value { result ≡ listed most there numeral }
+    ensures range { IfOk result (λ n. (1 ≤ n) × (n ≤ most) × (n ≤ there)) }
 {
     let Some(numeral) = numeral else {
         return Err(Kind::Line);
@@ -73,10 +74,10 @@ fn listed(most: u64, numeral: Option<Numeral>) -> Result<u64, Kind>
     let Numeral::Within(number) = numeral else {
         return Err(Kind::Number);
     };
-    if number == 0 || number > 16 {
+    if number == 0 || number > most {
         return Err(Kind::Number);
     }
-    if number > most {
+    if number > there {
         return Err(Kind::Unknown);
     }
     Ok(number)
@@ -88,7 +89,7 @@ pub fn node(header: &Header, word: &[u8]) -> Result<NodeId, Kind>
     ensures value { result ≡ node_in header.now word.now }
     ensures allowed { IfOk result (IsNode header.now) }
 {
-    let number = listed(header.nodes, decimal(word))?;
+    let number = listed(most_nodes(header.version), header.nodes, decimal(word))?;
     match NodeId::new(number) {
         Ok(node) => Ok(node),
         Err(_) => Err(Kind::Number),
@@ -101,7 +102,11 @@ pub fn device(header: &Header, word: &[u8]) -> Result<DevId, Kind>
     ensures value { result ≡ device_in header.now word.now }
     ensures allowed { IfOk result (IsDevice header.now) }
 {
-    let number = listed(header.devices.items().len() as u64, decimal(word))?;
+    let number = listed(
+        DevId::MOST,
+        header.devices.items().len() as u64,
+        decimal(word),
+    )?;
     match DevId::new(number) {
         Ok(device) => Ok(device),
         Err(_) => Err(Kind::Number),
@@ -165,9 +170,31 @@ pub fn second(so_far: SoFar, word: &[u8]) -> Result<u64, Kind>
     Ok(number)
 }
 
-/// The name of a resource.
-pub fn resource(word: &[u8]) -> Result<Name, Kind>
-    ensures value { result ≡ resource_in word.now }
+/// A client's number, of 32 bits.
+#[tactic(auto, unfolding(crate::specs::Fields::client_in))]
+pub fn client(word: &[u8]) -> Result<u32, Kind>
+    ensures { result ≡ client_in word.now }
+{
+    match u32::try_from(within(decimal(word))?) {
+        Ok(number) => Ok(number),
+        Err(_) => Err(Kind::Number),
+    }
+}
+
+/// A port, of 16 bits.
+#[tactic(auto, unfolding(crate::specs::Fields::port_in))]
+pub fn port(word: &[u8]) -> Result<u16, Kind>
+    ensures { result ≡ port_in word.now }
+{
+    match u16::try_from(within(decimal(word))?) {
+        Ok(number) => Ok(number),
+        Err(_) => Err(Kind::Number),
+    }
+}
+
+/// The name of a resource or of a shared address.
+pub fn named(word: &[u8]) -> Result<Name, Kind>
+    ensures value { result ≡ named_in word.now }
     ensures allowed { IfOk result IsName }
 {
     match Name::new(word) {

@@ -1,21 +1,20 @@
-ghost use Rattle.std.specs.Prelude.{◌≡◌, ◌==◌, ◌∷◌, ◌&&◌, not, if◌then◌else◌, length, map, None, Some, MatchResult, IfOk, IfSome, false};
-ghost use Rattle.std.specs.List.{list_all};
+ghost use Rattle.std.specs.Prelude.{◌≡◌, ◌&&◌, map, None, Some, MatchResult, IfOk, IfSome, false};
 ghost use Rattle.schedule_text.specs.Allowed.{IsAllowedHead, IsAllowedState, IsHeader};
-ghost use Rattle.schedule_text.specs.Headers.{header_step, head_of, can_hold_blank, opening_line, senders_line, senders_step, ascending, device_step, device_line, Bad};
+ghost use Rattle.schedule_text.specs.Headers.{header_step, head_of, can_hold_blank, opening_line, senders_line, device_step, device_line};
 ghost use Rattle.schedule_text.specs.HeaderAnswers.{TakesLine, Steps, Leads};
 ghost use Rattle.schedule_text.specs.Lines.{is_blank};
-ghost use Rattle.schedule_text.specs.Words.{is_decimal, decimal_in, words_of};
+ghost use Rattle.schedule_text.specs.Words.{words_of};
 
-use crate::cluster_header::{cluster_line, device_line, nodes_line, with_device};
+use crate::cluster_header::{cluster_line, configured_line, device_line, nodes_line, with_device};
 use crate::kind::{Kind, ReadError};
-use crate::numbers::{all_decimal, ascending};
+use crate::numbers::listed_nodes;
 use crate::reading::{is_blank, words};
-use cl_base::{Header, NodeSet};
+use cl_base::{Header, NodeId, NodeSet, Version};
 use std::alloc::Global;
 use std::marker::Model;
 
 /// A whole header.
-#[derive(Debug, Drop)]
+#[derive(Drop)]
 pub enum Head {
     /// That of a reservation schedule, with the nodes that have a path to the device.
     Pr(NodeSet),
@@ -24,7 +23,7 @@ pub enum Head {
 }
 
 /// How much of a header was read.
-#[derive(Debug, Drop)]
+#[derive(Drop)]
 pub enum HeaderState {
     /// Nothing.
     Opening,
@@ -32,10 +31,22 @@ pub enum HeaderState {
     Senders,
     /// All of a reservation schedule's header.
     Complete(NodeSet),
-    /// The first line of a cluster schedule.
-    Cluster,
+    /// The first line of a cluster schedule, of this version.
+    Cluster(Version),
     /// The id of the cluster too.
-    Nodes(u32),
+    Nodes {
+        /// The version.
+        version: Version,
+        /// The cluster's id.
+        cluster: u32,
+    },
+    /// How many nodes there are too, under version 2.
+    Configured {
+        /// The cluster's id.
+        cluster: u32,
+        /// How many nodes there are.
+        nodes: u64,
+    },
     /// All that a cluster schedule's header must have; more devices may follow.
     Devices(Header),
 }
@@ -126,9 +137,12 @@ fn next_state(
         HeaderState::Complete(_) => Ok(None),
         HeaderState::Opening => Ok(Some(opening(line)?)),
         HeaderState::Senders => Ok(Some(senders(&words(alloc, line)?)?)),
-        HeaderState::Cluster => Ok(Some(cluster_line(&words(alloc, line)?)?)),
-        HeaderState::Nodes(cluster) => {
-            Ok(Some(nodes_line(alloc, *cluster, &words(alloc, line)?)?))
+        HeaderState::Cluster(version) => Ok(Some(cluster_line(*version, &words(alloc, line)?)?)),
+        HeaderState::Nodes { version, cluster } => {
+            Ok(Some(nodes_line(alloc, *version, *cluster, &words(alloc, line)?)?))
+        }
+        HeaderState::Configured { cluster, nodes } => {
+            Ok(Some(configured_line(alloc, *cluster, *nodes, &words(alloc, line)?)?))
         }
         HeaderState::Devices(header) => next_device(alloc, header, line),
     }
@@ -158,7 +172,9 @@ fn opening(line: &[u8]) -> Result<HeaderState, Kind>
     if line == b"schedule pr 1".as_slice() {
         Ok(HeaderState::Senders)
     } else if line == b"schedule cluster 1".as_slice() {
-        Ok(HeaderState::Cluster)
+        Ok(HeaderState::Cluster(Version::One))
+    } else if line == b"schedule cluster 2".as_slice() {
+        Ok(HeaderState::Cluster(Version::Two))
     } else {
         Err(Kind::Header)
     }
@@ -169,34 +185,6 @@ fn senders(words: &[&[u8]]) -> Result<HeaderState, Kind>
     ensures step { Steps result (senders_line (map (λ w. w.now) words.now)) }
     ensures allowed { IfOk result IsAllowedState }
 {
-    match words {
-        [name, numbers @ ..] => named_senders(name, numbers),
-        [] => Err(Kind::Header),
-    }
-}
-
-fn named_senders(name: &[u8], numbers: &[&[u8]]) -> Result<HeaderState, Kind>
-    ensures step { Steps result (senders_line (name.now ∷ map (λ w. w.now) numbers.now)) }
-    ensures allowed { IfOk result IsAllowedState }
-{
-    if name == b"senders".as_slice() {
-        sender_numbers(numbers)
-    } else {
-        Err(Kind::Header)
-    }
-}
-
-/// What the numbers of the senders come to.
-fn sender_numbers(numbers: &[&[u8]]) -> Result<HeaderState, Kind>
-    ensures step { Steps result (if not (length numbers.now == 0) && list_all (λ w. is_decimal w.now) numbers.now
-        then senders_step (ascending 0 0 (map (λ w. decimal_in w.now) numbers.now)) else Bad Kind.Header) }
-    ensures allowed { IfOk result IsAllowedState }
-{
-    if numbers.is_empty() || !all_decimal(numbers) {
-        return Err(Kind::Header);
-    }
-    match ascending(numbers) {
-        Some(senders) => Ok(HeaderState::Complete(senders.nodes)),
-        None => Err(Kind::Number),
-    }
+    let senders = listed_nodes(b"senders", NodeId::MOST_AT_FIRST, words)?;
+    Ok(HeaderState::Complete(senders.nodes))
 }

@@ -16,12 +16,15 @@ mod line;
 mod method_name;
 mod number;
 mod numbers;
+mod pr_reading;
 mod reading;
 #[cfg(test)]
 mod tests;
+mod version;
 
 pub use event::{Event, StopChoice};
 pub use header::{Head, HeaderReader, HeaderState};
 pub use kind::{Kind, ReadError};
-pub use line::{Line, SoFar};
-pub use reading::read_line;
+pub use line::{ClusterLine, Line, PrLine, SoFar};
+pub use pr_reading::read_pr_line;
+pub use reading::{read_cluster_line, read_line};

@@ -5,8 +5,37 @@ use crate::event::Event;
 use cl_base::NodeId;
 use pgr_device::PrCommand;
 
-/// A line after the header.
-#[derive(Debug, Drop)]
+/// A line of a reservation schedule after its header.
+#[derive(Clone, Copy)]
+pub enum PrLine {
+    /// An empty line, or a comment.
+    Blank,
+    /// The line that ends the schedule.
+    End,
+    /// The device loses power and comes back.
+    Power,
+    /// A node sends a command to the device.
+    Command {
+        /// The node.
+        sender: NodeId,
+        /// Its command.
+        command: PrCommand,
+    },
+}
+
+/// A line of a cluster schedule after its header.
+#[derive(Drop)]
+pub enum ClusterLine {
+    /// An empty line, or a comment.
+    Blank,
+    /// The line that ends the schedule.
+    End,
+    /// What happens next.
+    Event(Event),
+}
+
+/// A line of either kind of schedule after its header.
+#[derive(Drop)]
 pub enum Line {
     /// An empty line, or a comment.
     Blank,
@@ -26,7 +55,7 @@ pub enum Line {
 }
 
 /// What the lines before a line have set.
-#[derive(Clone, Copy, Debug, PartialEq, Eq)]
+#[derive(Clone, Copy)]
 pub struct SoFar {
     /// The second at which the clock stands.
     pub clock: u64,
@@ -56,7 +85,8 @@ impl SoFar {
         }
     }
 
-    fn after_event(self, event: &Event) -> SoFar
+    /// What is set after this event, which was read after the lines before.
+    pub fn after_event(self, event: &Event) -> SoFar
         requires { (so_far_after_event self event.now).rounds < 2 ^ 64 }
         ensures value { result ≡ so_far_after_event self event.now }
     {

@@ -4,7 +4,7 @@ ghost use Rattle.std.specs.Char.{is_ascii_digit};
 ghost use Rattle.schedule_text.specs.Words.{decimal_in, cluster_in, is_decimal, is_key, is_key_digit, has_no_leading_zero, key_in};
 
 /// A decimal number of a schedule.
-#[derive(Clone, Copy, Debug, PartialEq, Eq)]
+#[derive(Clone, Copy)]
 pub enum Numeral {
     /// A number below 2^64.
     Within(u64),

@@ -8,7 +8,7 @@ use Rattle.pgr_device.specs.declared.command.PrCommand.{PrCommand}
 use Rattle.pgr_device.specs.declared.command.PrCommand.TheVariants as command
 use Rattle.pgr_device.specs.declared.command.PrAnswer.TheVariants as answer
 use Rattle.pgr_device.specs.Device.{Device}
-use Rattle.pgr_device.specs.Registered.{key_of, has_key}
+use Rattle.pgr_device.specs.Registered.{registered_key, has_key}
 use Rattle.pgr_device.specs.Spc.{Outcome, answers, good, conflict, shows_key, reserving, preempted, preempting, swapping, may_read, may_write, carried_out, step}
 use Rattle.seize.specs.Answers.{is_answer}
 use Rattle.seize.specs.Endings.{IsOwn}
@@ -30,11 +30,11 @@ carried_gives d node epoch own command.Word reads is =
     (cond-true (may_read d.registrations node d.reservation) (answers d (answer.Word d.word)) (conflict d) reads)
 carried_gives d node epoch own (command.Ignore new) reads is = refl
 carried_gives d node epoch own (command.Reserve kind key) reads is =
-    cond_both (shows_key (key_of d.registrations node) key) (reserving d node kind d.reservation) (conflict d) (Gives (command.Reserve kind key))
+    cond_both (shows_key (registered_key d.registrations node) key) (reserving d node kind d.reservation) (conflict d) (Gives (command.Reserve kind key))
     (λ _. reserve_gives d node key kind d.reservation) (λ _. refl)
 carried_gives d node epoch own (command.Preempt kind key victim) reads is =
     let P : Outcome → Type 0 = Gives (command.Preempt kind key victim) in
-    cond_both (shows_key (key_of d.registrations node) key) (preempting d node kind victim) (conflict d) P
+    cond_both (shows_key (registered_key d.registrations node) key) (preempting d node kind victim) (conflict d) P
     (λ _. cond_both (has_key d.registrations victim) (good (preempted d node kind victim)) (conflict d) P (λ _. refl) (λ _. refl)) (λ _. refl)
 carried_gives d node epoch own (command.Swap expect new) reads is =
     let P : Outcome → Type 0 = Gives (command.Swap expect new) in

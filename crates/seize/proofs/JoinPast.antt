@@ -12,7 +12,7 @@ use Rattle.seize.specs.Answers.{Answer, word_told, is_good}
 use Rattle.seize.specs.Endings.{HasFailed}
 use Rattle.seize.specs.Exchanges.{Exchange, exchanged, join_fed, join_exchanges, word_read}
 use Rattle.seize.specs.Joining.{JoinState, begun, command_at, result_at, result_of, compared, next_step, taken}
-use Rattle.seize.specs.Keys.{key_of}
+use Rattle.cl_base.specs.Keys.{key_of}
 use Rattle.seize.proofs.Failures.{from_good, from_word, word_failed, ignore_failed}
 
 abbrev registered : JoinState → Answer → Exchange

@@ -10,8 +10,8 @@ use Rattle.pgr_device.specs.declared.command.PrCommand.TheVariants as command
 use Rattle.pgr_device.specs.declared.command.PrAnswer.TheVariants as answer
 use Rattle.seize.specs.declared.kind.SeizeKind.TheVariants.{Vote, Plain}
 use Rattle.seize.specs.declared.kind.SeizeKind.{SeizeKind}
-use Rattle.seize.specs.declared.kind.SeizeResult.{SeizeResult}
-use Rattle.seize.specs.declared.kind.SeizeResult.TheVariants.{Held, NotRegistered, Greater, Expelled, Contended, Fault}
+use Rattle.cl_base.specs.Seizings.{SeizeResult}
+use Rattle.cl_base.specs.declared.seizing.SeizeEnd.TheVariants.{Held, NotRegistered, Greater, Expelled, Contended, Fault}
 use Rattle.seize.specs.declared.step.SeizeStep.{SeizeStep}
 use Rattle.seize.specs.declared.step.SeizeStep.TheVariants.{Check, Register, ReadWord, Swap, Reserve, ReadKeys, Preempt, Confirm, Ended}
 use Rattle.seize.specs.Answers.{Answer, keys_told, word_told, word_found, is_good, is_conflict, IsFailure}

@@ -7,7 +7,7 @@ use Rattle.seize.specs.declared.kind.JoinResult.TheVariants.{Joined, Late, Fault
 use Rattle.seize.specs.declared.step.JoinStep.{JoinStep}
 use Rattle.seize.specs.declared.step.JoinStep.TheVariants.{Register, ReadWord, Ended}
 use Rattle.seize.specs.Answers.{Answer, word_told, is_good}
-use Rattle.seize.specs.Keys.{key_of}
+use Rattle.cl_base.specs.Keys.{key_of}
 
 pub record JoinState : Type 0 where
   -- the epoch that was installed

@@ -1,11 +1,7 @@
 -- The keys of a cluster's nodes, and what a reading of a device's keys shows.
-use Rattle.std.specs.Prelude.{ℕ, ◌+◌, ◌-◌, ◌*◌, ◌^◌, ◌==◌, Bool, not, List, find, Option}
+use Rattle.std.specs.Prelude.{ℕ, ◌-◌, ◌*◌, ◌^◌, ◌==◌, Bool, not, List, find, Option}
 use Rattle.std.specs.List.{list_any}
 use Rattle.cl_base.specs.Sets.{has}
-
--- a node's key: the cluster's number times 2^32, and the node's number
-abbrev pub key_of : ℕ → ℕ → ℕ
-key_of cluster node = cluster * 2 ^ 32 + node
 
 -- The number of the node whose key this is. For a key of no node it is the number of none: 0, or one of 2^32 and more.
 abbrev pub node_of : ℕ → ℕ → ℕ

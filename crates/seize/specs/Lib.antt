@@ -3,6 +3,8 @@ pub mod Endings
 pub mod Exchanges
 pub mod Joining
 pub mod Keys
+pub mod Known
 pub mod SeizeKept
 pub mod Seizing
 pub mod Shows
+pub mod Told

@@ -5,7 +5,7 @@ use Rattle.device_machine.specs.Phase.{Phase}
 use Rattle.device_machine.specs.Initiator.{Initiator, to_phase, unvalidated, expecting, marking, marking_lost, aiming, holding, rejecting, ending, admitted}
 use Rattle.seize.specs.declared.kind.SeizeKind.{SeizeKind}
 use Rattle.seize.specs.declared.kind.SeizeKind.TheVariants.{Vote, Plain}
-use Rattle.seize.specs.declared.kind.SeizeResult.TheVariants.{Held, NotRegistered}
+use Rattle.cl_base.specs.declared.seizing.SeizeEnd.TheVariants.{Held, NotRegistered}
 use Rattle.seize.specs.declared.kind.JoinResult.TheVariants.{Joined}
 use Rattle.seize.specs.declared.step.SeizeStep.{SeizeStep}
 use Rattle.seize.specs.declared.step.SeizeStep.TheVariants.{Check, Register, ReadWord, Swap, Reserve, ReadKeys, Preempt, Confirm, Ended}

@@ -1,7 +1,8 @@
 //! The keys of a cluster's nodes.
 ghost use Rattle.std.specs.Prelude.{◌≡◌};
 ghost use Rattle.cl_base.specs.Sets.{has};
-ghost use Rattle.seize.specs.Keys.{key_of, is_key_of, has_key, first_stranger};
+ghost use Rattle.cl_base.specs.Keys.{key_of};
+ghost use Rattle.seize.specs.Keys.{is_key_of, has_key, first_stranger};
 
 use cl_base::{NodeId, NodeSet};
 

@@ -1,3 +1,4 @@
+use cl_base::SeizeEnd;
 use pgr_device::KeyList;
 
 /// For what a device is seized.
@@ -9,23 +10,8 @@ pub enum SeizeKind {
     Plain,
 }
 
-/// How the seizing of a device ended.
-#[derive(Clone, Copy, Debug, PartialEq, Eq)]
-pub enum SeizeResult {
-    /// The device is held; the keys that were read last.
-    Held(KeyList),
-    /// The own key is not registered, or the device is not valid to the node; the keys that were
-    /// read.
-    NotRegistered(KeyList),
-    /// The device's word is not the attempt's epoch, and not to be raised to it; the word.
-    Greater(u64),
-    /// The own key was removed.
-    Expelled,
-    /// A key of a node that is no member came again and again; the key.
-    Contended(u64),
-    /// A command failed.
-    Fault,
-}
+/// How a seizing ended, with the keys that were read last.
+pub type SeizeResult = SeizeEnd<KeyList>;
 
 /// How joining a device ended.
 #[derive(Clone, Copy, Debug, PartialEq, Eq)]

@@ -14,7 +14,8 @@ use Rattle.std.proofs.lemmas.Bool.Decides.{nat_tests}
 use Rattle.cl_base.specs.Names.{IsName}
 use Rattle.cl_base.specs.Sets.{has}
 use Rattle.cl_base.proofs.SetLemmas.{has_at}
-use Rattle.status_report.specs.Words.{hex, list_text, numbers_to, set_text}
+use Rattle.cl_base.specs.Numbers.{by_commas, numbers_to, set_text}
+use Rattle.status_report.specs.Words.{hex}
 use Rattle.status_report.specs.Entries.{IsNumber, IsSet}
 use Rattle.status_report.proofs.Reading.{IsWord, below_16, number_is_word}
 
@@ -135,7 +136,7 @@ decimal_item n h = (word_lacks_comma (decimal n) (number_is_word n h), (decimal_
 abbrev pub list_of : List ℕ → List ℕ
 list_of text = if starts_digit text then items_of 44 (digits_value 10) text else []
 
-pub list_again : (ns : List ℕ) → AllByRecursion IsNumber ns → list_of (list_text ns) ≡ ns
+pub list_again : (ns : List ℕ) → AllByRecursion IsNumber ns → list_of (by_commas ns) ≡ ns
 list_again [] h = rw (letter_starts 110 (111 ∷ 110 ∷ 101 ∷ []) refl) refl
 list_again (n ∷ ns) h = rw (decimal_starts n (flat_map (λ y. 44 ∷ decimal y) ns) h.0, items_again 44 decimal (digits_value 10) n ns (all_items IsNumber (Item 44 decimal (digits_value 10)) decimal_item (n ∷ ns) h)) refl
 
@@ -143,7 +144,7 @@ tails_lack : (ns : List ℕ) → AllByRecursion IsNumber ns → Lacks 32 (flat_m
 tails_lack [] h = tt
 tails_lack (n ∷ ns) h = (refl, lacks_append 32 (decimal n) (flat_map (λ y. 44 ∷ decimal y) ns) (word_lacks_space (decimal n) (number_is_word n h.0)) (tails_lack ns h.1))
 
-pub list_lacks_space : (ns : List ℕ) → AllByRecursion IsNumber ns → Lacks 32 (list_text ns)
+pub list_lacks_space : (ns : List ℕ) → AllByRecursion IsNumber ns → Lacks 32 (by_commas ns)
 list_lacks_space [] h = (refl, (refl, (refl, (refl, tt))))
 list_lacks_space (n ∷ ns) h = lacks_append 32 (decimal n) (flat_map (λ y. 44 ∷ decimal y) ns) (word_lacks_space (decimal n) (number_is_word n h.0)) (tails_lack ns h.1)
 

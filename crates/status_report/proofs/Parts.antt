@@ -21,9 +21,11 @@ use Rattle.pgr_device.specs.declared.command.PrAnswer.{PrAnswer}
 use Rattle.pgr_device.specs.declared.command.PrAnswer.TheVariants as given
 use Rattle.pgr_device.specs.declared.command.PrCommand.{PrCommand}
 use Rattle.pgr_device.specs.declared.command.PrCommand.TheVariants as command
-use Rattle.status_report.specs.declared.attempt_entry.LackCause.{LackCause}
-use Rattle.status_report.specs.declared.attempt_entry.LackCause.TheVariants as lack
-use Rattle.status_report.specs.declared.attempt_entry.Lack.{Lack}
+use Rattle.cl_base.specs.declared.seizing.Lack.{Lack}
+use Rattle.cl_base.specs.declared.seizing.Obstacle.{Obstacle}
+use Rattle.cl_base.specs.declared.seizing.Obstacle.TheVariants.{NoPath, Seizing}
+use Rattle.cl_base.specs.declared.seizing.SeizeEnd.{SeizeEnd}
+use Rattle.cl_base.specs.declared.seizing.SeizeEnd.TheVariants as seized
 use Rattle.status_report.specs.declared.call_entry.ProbeResult.{ProbeResult}
 use Rattle.status_report.specs.declared.call_entry.ProbeResult.TheVariants as probe
 use Rattle.status_report.specs.declared.device_entry.DeviceAnswer.{DeviceAnswer}
@@ -32,10 +34,10 @@ use Rattle.status_report.specs.declared.device_entry.WriteRefusal.{WriteRefusal}
 use Rattle.status_report.specs.declared.device_entry.WriteRefusal.TheVariants as refused
 use Rattle.status_report.specs.declared.node_entry.DownCause.{DownCause}
 use Rattle.status_report.specs.declared.node_entry.DownCause.TheVariants as down
-use Rattle.status_report.specs.declared.packet_entry.MessageName.{MessageName}
-use Rattle.status_report.specs.declared.packet_entry.MessageName.TheVariants as message
-use Rattle.status_report.specs.declared.packet_entry.DropCause.{DropCause}
-use Rattle.status_report.specs.declared.packet_entry.DropCause.TheVariants as dropped
+use Rattle.cl_base.specs.declared.packet.MessageKind.{MessageKind}
+use Rattle.cl_base.specs.declared.packet.MessageKind.TheVariants as message
+use Rattle.cl_base.specs.declared.packet.DropCause.{DropCause}
+use Rattle.cl_base.specs.declared.packet.DropCause.TheVariants as dropped
 use Rattle.status_report.specs.declared.schedule_entry.SkipCause.{SkipCause}
 use Rattle.status_report.specs.declared.schedule_entry.SkipCause.TheVariants as skip
 use Rattle.status_report.specs.declared.start_entry.AdoptedFlags.{AdoptedFlags}
@@ -44,14 +46,14 @@ use Rattle.status_report.specs.declared.status_entry.QuorumState.TheVariants.{He
 use Rattle.status_report.specs.Words.{hex}
 use Rattle.status_report.specs.PrAnswers.{kind_text, answer_text, command_text}
 use Rattle.status_report.specs.NodeLines.{down_text}
-use Rattle.status_report.specs.PacketLines.{message_text, drop_text}
+use Rattle.status_report.specs.PacketLines.{kind_text as message_kind_text, drop_text}
 use Rattle.status_report.specs.DeviceLines.{given_text, write_refusal_text}
-use Rattle.status_report.specs.AttemptLines.{cause_text, lack_text, lacking_text}
+use Rattle.status_report.specs.AttemptLines.{obstacle_text, lack_text, lacking_text}
 use Rattle.status_report.specs.StartLines.{flags_text}
 use Rattle.status_report.specs.CallLines.{method_text, outcome_text, probe_text}
 use Rattle.status_report.specs.StatusLines.{group_state_text, resource_state_text, reason_text, member_text, quorum_state_text}
 use Rattle.status_report.specs.ScheduleLines.{skip_text}
-use Rattle.status_report.specs.Entries.{IsNumber, IsPrAnswer, IsPrCommand, IsDown, IsMessage, IsDeviceAnswer, IsCause, IsLack}
+use Rattle.status_report.specs.Entries.{IsNumber, IsPrAnswer, IsPrCommand, IsDown, IsDeviceAnswer, IsObstacle, IsLack}
 use Rattle.status_report.proofs.Reading.{after, number_at, key_at, last, more, number, key, number_is_word, key_is_word, below_16}
 use Rattle.status_report.proofs.Lists.{Lacks, Item, items_of, items_again, all_items, lacks_append, word_lacks_space, starts_n, starts_digit, hex_starts, decimal_starts, letter_starts, n_starts}
 
@@ -198,34 +200,47 @@ down_again (down.Panic (panic.Excluded epoch)) h = rw (last (number epoch h)) re
 down_again (down.Panic panic.Disk) h = refl
 down_again (down.Panic (panic.Stop resource)) h = refl
 
-abbrev pub message_at : List ℕ → MessageName × List ℕ
-message_at = choose (message.Heartbeat, [])
-    ((codes "Heartbeat ", λ t. (message.Heartbeat, 32 ∷ t)) ∷ (codes "Collect ", λ t. (message.Collect, 32 ∷ t)) ∷ (codes "Promise ", λ t. (message.Promise, 32 ∷ t)) ∷ (codes "Nack ", λ t. (message.Nack, 32 ∷ t))
-    ∷ (codes "SeizeQuorum ", with_number (λ n. message.SeizeQuorum n)) ∷ (codes "SeizeData ", with_number (λ n. message.SeizeData n)) ∷ (codes "Seized ", with_number (λ n. message.Seized n))
-    ∷ (codes "Install ", λ t. (message.Install, 32 ∷ t)) ∷ (codes "Ready ", λ t. (message.Ready, 32 ∷ t)) ∷ (codes "Start ", λ t. (message.Start, 32 ∷ t))
-    ∷ (codes "Prepare ", with_number (λ n. message.Prepare n)) ∷ (codes "Prepared ", with_number (λ n. message.Prepared n)) ∷ (codes "Commit ", with_number (λ n. message.Commit n))
-    ∷ (codes "Order ", with_number (λ n. message.Order n)) ∷ (codes "Done ", with_number (λ n. message.Done n)) ∷ (codes "Request ", with_number (λ n. message.Request n))
-    ∷ (codes "Answer ", with_number (λ n. message.Answer n)) ∷ (codes "Excluded ", λ t. (message.Excluded, 32 ∷ t)) ∷ [])
+-- a kind, and what stands behind the space after it
+abbrev pub message_kind_at : List ℕ → MessageKind × List ℕ
+message_kind_at = choose (message.Heartbeat, [])
+    ((codes "Heartbeat ", λ t. (message.Heartbeat, t))
+    ∷ (codes "Collect ", λ t. (message.Collect, t))
+    ∷ (codes "Promise ", λ t. (message.Promise, t))
+    ∷ (codes "Nack ", λ t. (message.Nack, t))
+    ∷ (codes "SeizeQuorum ", λ t. (message.SeizeQuorum, t))
+    ∷ (codes "SeizeData ", λ t. (message.SeizeData, t))
+    ∷ (codes "Seized ", λ t. (message.Seized, t))
+    ∷ (codes "Install ", λ t. (message.Install, t))
+    ∷ (codes "Ready ", λ t. (message.Ready, t))
+    ∷ (codes "Start ", λ t. (message.Start, t))
+    ∷ (codes "Prepare ", λ t. (message.Prepare, t))
+    ∷ (codes "Prepared ", λ t. (message.Prepared, t))
+    ∷ (codes "Commit ", λ t. (message.Commit, t))
+    ∷ (codes "Order ", λ t. (message.Order, t))
+    ∷ (codes "Done ", λ t. (message.Done, t))
+    ∷ (codes "Request ", λ t. (message.Request, t))
+    ∷ (codes "Answer ", λ t. (message.Answer, t))
+    ∷ (codes "Excluded ", λ t. (message.Excluded, t)) ∷ [])
 
-pub message_again : (m : MessageName) (rest : List ℕ) → IsMessage m → message_at (message_text m ++ 32 ∷ rest) ≡ (m, 32 ∷ rest)
-message_again message.Heartbeat rest h = refl
-message_again message.Collect rest h = refl
-message_again message.Promise rest h = refl
-message_again message.Nack rest h = refl
-message_again (message.SeizeQuorum device) rest h = rw (more (number device h) rest) refl
-message_again (message.SeizeData device) rest h = rw (more (number device h) rest) refl
-message_again (message.Seized device) rest h = rw (more (number device h) rest) refl
-message_again message.Install rest h = refl
-message_again message.Ready rest h = refl
-message_again message.Start rest h = refl
-message_again (message.Prepare place) rest h = rw (more (number place h) rest) refl
-message_again (message.Prepared place) rest h = rw (more (number place h) rest) refl
-message_again (message.Commit place) rest h = rw (more (number place h) rest) refl
-message_again (message.Order order) rest h = rw (more (number order h) rest) refl
-message_again (message.Done order) rest h = rw (more (number order h) rest) refl
-message_again (message.Request request) rest h = rw (more (number request h) rest) refl
-message_again (message.Answer request) rest h = rw (more (number request h) rest) refl
-message_again message.Excluded rest h = refl
+pub kind_then : (k : MessageKind) (rest : List ℕ) → message_kind_at (message_kind_text k ++ 32 ∷ rest) ≡ (k, rest)
+kind_then message.Heartbeat rest = refl
+kind_then message.Collect rest = refl
+kind_then message.Promise rest = refl
+kind_then message.Nack rest = refl
+kind_then message.SeizeQuorum rest = refl
+kind_then message.SeizeData rest = refl
+kind_then message.Seized rest = refl
+kind_then message.Install rest = refl
+kind_then message.Ready rest = refl
+kind_then message.Start rest = refl
+kind_then message.Prepare rest = refl
+kind_then message.Prepared rest = refl
+kind_then message.Commit rest = refl
+kind_then message.Order rest = refl
+kind_then message.Done rest = refl
+kind_then message.Request rest = refl
+kind_then message.Answer rest = refl
+kind_then message.Excluded rest = refl
 
 abbrev pub drop_of : List ℕ → DropCause
 drop_of = choose dropped.Link ((codes "pool", λ t. dropped.Pool) ∷ (codes "down", λ t. dropped.Down) ∷ [])
@@ -237,41 +252,46 @@ drop_again dropped.Down = refl
 
 -- ---- attempts
 
-abbrev cause_of : List ℕ → LackCause
-cause_of = choose lack.Fault
-    ((codes "no-path", λ t. lack.NoPath) ∷ (codes "not-registered", λ t. lack.NotRegistered) ∷ (codes "greater-", λ t. lack.Greater (number_at t).0) ∷ (codes "expelled", λ t. lack.Expelled)
-    ∷ (codes "contended-", λ t. lack.Contended (key_at t).0) ∷ [])
+abbrev end_of : List ℕ → SeizeEnd Unit
+end_of = choose seized.Fault
+    ((codes "held", λ t. seized.Held tt) ∷ (codes "not-registered", λ t. seized.NotRegistered tt) ∷ (codes "greater-", λ t. seized.Greater (number_at t).0) ∷ (codes "expelled", λ t. seized.Expelled)
+    ∷ (codes "contended-", λ t. seized.Contended (key_at t).0) ∷ [])
 
-cause_again : (cause : LackCause) → IsCause cause → cause_of (cause_text cause) ≡ cause
-cause_again lack.NoPath h = refl
-cause_again lack.NotRegistered h = refl
-cause_again (lack.Greater word) h = rw (last (number word h)) refl
-cause_again lack.Expelled h = refl
-cause_again (lack.Contended k) h = rw (last (key k h)) refl
-cause_again lack.Fault h = refl
+abbrev obstacle_of : List ℕ → Obstacle
+obstacle_of text = choose (Seizing (end_of text)) ((codes "no-path", λ t. NoPath) ∷ []) text
 
-cause_lacks : (cause : LackCause) → IsCause cause → Lacks 32 (cause_text cause)
-cause_lacks lack.NoPath h = (refl, (refl, (refl, (refl, (refl, (refl, (refl, tt)))))))
-cause_lacks lack.NotRegistered h = (refl, (refl, (refl, (refl, (refl, (refl, (refl, (refl, (refl, (refl, (refl, (refl, (refl, (refl, tt))))))))))))))
-cause_lacks (lack.Greater word) h = (refl, (refl, (refl, (refl, (refl, (refl, (refl, (refl, word_lacks_space (decimal word) (number_is_word word h)))))))))
-cause_lacks lack.Expelled h = (refl, (refl, (refl, (refl, (refl, (refl, (refl, (refl, tt))))))))
-cause_lacks (lack.Contended k) h = (refl, (refl, (refl, (refl, (refl, (refl, (refl, (refl, (refl, (refl, word_lacks_space (hex k) (key_is_word k h)))))))))))
-cause_lacks lack.Fault h = (refl, (refl, (refl, (refl, (refl, tt)))))
+obstacle_again : (o : Obstacle) → IsObstacle o → obstacle_of (obstacle_text o) ≡ o
+obstacle_again NoPath h = refl
+obstacle_again (Seizing (seized.Held u)) h = refl
+obstacle_again (Seizing (seized.NotRegistered u)) h = refl
+obstacle_again (Seizing (seized.Greater word)) h = rw (last (number word h)) refl
+obstacle_again (Seizing seized.Expelled) h = refl
+obstacle_again (Seizing (seized.Contended k)) h = rw (last (key k h)) refl
+obstacle_again (Seizing seized.Fault) h = refl
+
+obstacle_lacks : (o : Obstacle) → IsObstacle o → Lacks 32 (obstacle_text o)
+obstacle_lacks NoPath h = (refl, (refl, (refl, (refl, (refl, (refl, (refl, tt)))))))
+obstacle_lacks (Seizing (seized.Held u)) h = (refl, (refl, (refl, (refl, tt))))
+obstacle_lacks (Seizing (seized.NotRegistered u)) h = (refl, (refl, (refl, (refl, (refl, (refl, (refl, (refl, (refl, (refl, (refl, (refl, (refl, (refl, tt))))))))))))))
+obstacle_lacks (Seizing (seized.Greater word)) h = (refl, (refl, (refl, (refl, (refl, (refl, (refl, (refl, word_lacks_space (decimal word) (number_is_word word h)))))))))
+obstacle_lacks (Seizing seized.Expelled) h = (refl, (refl, (refl, (refl, (refl, (refl, (refl, (refl, tt))))))))
+obstacle_lacks (Seizing (seized.Contended k)) h = (refl, (refl, (refl, (refl, (refl, (refl, (refl, (refl, (refl, (refl, word_lacks_space (hex k) (key_is_word k h)))))))))))
+obstacle_lacks (Seizing seized.Fault) h = (refl, (refl, (refl, (refl, (refl, tt)))))
 
 abbrev lack_of : List ℕ → Lack
-lack_of = part number_at (λ d t. record { device = d; cause = cause_of t })
+lack_of = part number_at (λ d t. record { device = d; obstacle = obstacle_of t })
 
 lack_item : (l : Lack) → IsLack l → Item 32 lack_text lack_of l
 lack_item l h = (
-  lacks_append 32 (decimal l.device) (58 ∷ cause_text l.cause) (word_lacks_space (decimal l.device) (number_is_word l.device h.0)) (refl, cause_lacks l.cause h.1),
-  rw ((number l.device h.0).again (58 ∷ cause_text l.cause) refl, cause_again l.cause h.1) refl,
+  lacks_append 32 (decimal l.device) (58 ∷ obstacle_text l.obstacle) (word_lacks_space (decimal l.device) (number_is_word l.device h.0)) (refl, obstacle_lacks l.obstacle h.1),
+  rw ((number l.device h.0).again (58 ∷ obstacle_text l.obstacle) refl, obstacle_again l.obstacle h.1) refl,
 )
 
 abbrev pub lacking_of : List ℕ → List Lack
 lacking_of text = if starts_digit text then items_of 32 lack_of text else []
 
 lack_starts : (l : Lack) (rest : List ℕ) → IsLack l → starts_digit (lack_text l ++ rest) ≡ true
-lack_starts l rest h = rw (append_assoc (decimal l.device) (58 ∷ cause_text l.cause) rest) (decimal_starts l.device (58 ∷ (cause_text l.cause ++ rest)) h.0)
+lack_starts l rest h = rw (append_assoc (decimal l.device) (58 ∷ obstacle_text l.obstacle) rest) (decimal_starts l.device (58 ∷ (obstacle_text l.obstacle ++ rest)) h.0)
 
 pub lacking_again : (ls : List Lack) → AllByRecursion IsLack ls → lacking_of (lacking_text ls) ≡ ls
 lacking_again [] h = rw (letter_starts 110 (111 ∷ 110 ∷ 101 ∷ []) refl) refl
@@ -403,7 +423,7 @@ abbrev pub reason_of : List ℕ → Reason
 reason_of = choose reason.Unmanaged
     ((codes "offline", λ t. reason.Offline) ∷ (codes "suspended", λ t. reason.Suspended) ∷ (codes "empty", λ t. reason.Empty) ∷ (codes "not-member", λ t. reason.NotMember) ∷ (codes "stop-failed", λ t. reason.StopFailed)
     ∷ (codes "evacuated", λ t. reason.Evacuated) ∷ (codes "start-failed", λ t. reason.StartFailed) ∷ (codes "moved", λ t. reason.Moved) ∷ (codes "leaving", λ t. reason.Leaving)
-    ∷ (codes "affinity ", λ t. reason.Affinity t) ∷ (codes "dependency ", λ t. reason.Dependency t) ∷ (codes "faulted ", λ t. reason.Faulted t) ∷ (codes "blocked ", λ t. reason.Blocked t) ∷ [])
+    ∷ (codes "affinity ", λ t. reason.Affinity t) ∷ (codes "dependency ", λ t. reason.Dependency t) ∷ (codes "load ", λ t. reason.Load t) ∷ (codes "faulted ", λ t. reason.Faulted t) ∷ (codes "blocked ", λ t. reason.Blocked t) ∷ [])
 
 pub reason_again : (r : Reason) → reason_of (reason_text r) ≡ r
 reason_again reason.Unmanaged = refl
@@ -418,6 +438,7 @@ reason_again reason.Moved = refl
 reason_again reason.Leaving = refl
 reason_again (reason.Affinity name) = refl
 reason_again (reason.Dependency name) = refl
+reason_again (reason.Load name) = refl
 reason_again (reason.Faulted name) = refl
 reason_again (reason.Blocked name) = refl
 
@@ -437,7 +458,8 @@ quorum_state_again Lost = refl
 quorum_state_again Off = refl
 
 abbrev pub skip_of : List ℕ → SkipCause
-skip_of = choose skip.Up ((codes "down", λ t. skip.Down) ∷ (codes "no-packet", λ t. skip.NoPacket) ∷ (codes "no-work", λ t. skip.NoWork) ∷ (codes "no-monitor", λ t. skip.NoMonitor) ∷ [])
+skip_of = choose skip.Up ((codes "down", λ t. skip.Down) ∷ (codes "no-packet", λ t. skip.NoPacket) ∷ (codes "no-work", λ t. skip.NoWork) ∷ (codes "no-monitor", λ t. skip.NoMonitor)
+    ∷ (codes "no-president", λ t. skip.NoPresident) ∷ (codes "no-address", λ t. skip.NoAddress) ∷ [])
 
 pub skip_again : (cause : SkipCause) → skip_of (skip_text cause) ≡ cause
 skip_again skip.Up = refl
@@ -445,3 +467,5 @@ skip_again skip.Down = refl
 skip_again skip.NoPacket = refl
 skip_again skip.NoWork = refl
 skip_again skip.NoMonitor = refl
+skip_again skip.NoPresident = refl
+skip_again skip.NoAddress = refl

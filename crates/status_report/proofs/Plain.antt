@@ -1,5 +1,5 @@
 -- No text of an entry has a newline.
-use Rattle.std.proofs.Common.{◌≡◌, ◌≢◌, ℕ, suc, ◌/◌, ◌%◌, ◌<◌, ◌≤◌, Bool, true, false, ◌==◌, if◌then◌else◌, Some, None, List, [], ◌∷◌, ◌++◌, slice_index, refl, ap, subst, codes, arith}
+use Rattle.std.proofs.Common.{◌≡◌, ◌≢◌, ℕ, suc, ◌/◌, ◌%◌, ◌<◌, ◌≤◌, Bool, true, false, ◌==◌, if◌then◌else◌, Option, Some, None, List, [], ◌∷◌, ◌++◌, slice_index, refl, ap, subst, codes, arith}
 use Rattle.std.specs.List.{AllByRecursion, flat_map}
 use Rattle.std.specs.Fmt.{decimal}
 use Rattle.std.specs.Char.{digit_value}
@@ -30,9 +30,12 @@ use Rattle.pgr_device.specs.declared.command.PrAnswer.{PrAnswer}
 use Rattle.pgr_device.specs.declared.command.PrAnswer.TheVariants as given
 use Rattle.pgr_device.specs.declared.command.PrCommand.{PrCommand}
 use Rattle.pgr_device.specs.declared.command.PrCommand.TheVariants as command
-use Rattle.status_report.specs.declared.attempt_entry.LackCause.{LackCause}
-use Rattle.status_report.specs.declared.attempt_entry.LackCause.TheVariants as lack
-use Rattle.status_report.specs.declared.attempt_entry.Lack.{Lack}
+use Rattle.cl_base.specs.declared.seizing.Lack.{Lack}
+use Rattle.cl_base.specs.declared.seizing.Obstacle.{Obstacle}
+use Rattle.cl_base.specs.declared.seizing.Obstacle.TheVariants.{NoPath, Seizing}
+use Rattle.cl_base.specs.declared.seizing.SeizeEnd.{SeizeEnd}
+use Rattle.cl_base.specs.declared.seizing.SeizeEnd.TheVariants as seized
+use Rattle.status_report.specs.declared.address_entry.AddressEntry.TheVariants as address
 use Rattle.status_report.specs.declared.attempt_entry.AttemptEntry.TheVariants as attempt
 use Rattle.status_report.specs.declared.call_entry.ProbeResult.{ProbeResult}
 use Rattle.status_report.specs.declared.call_entry.ProbeResult.TheVariants as probe
@@ -48,10 +51,10 @@ use Rattle.status_report.specs.declared.device_entry.DeviceEntry.TheVariants as 
 use Rattle.status_report.specs.declared.node_entry.DownCause.{DownCause}
 use Rattle.status_report.specs.declared.node_entry.DownCause.TheVariants as down
 use Rattle.status_report.specs.declared.node_entry.NodeEntry.TheVariants as node
-use Rattle.status_report.specs.declared.packet_entry.MessageName.{MessageName}
-use Rattle.status_report.specs.declared.packet_entry.MessageName.TheVariants as message
-use Rattle.status_report.specs.declared.packet_entry.DropCause.{DropCause}
-use Rattle.status_report.specs.declared.packet_entry.DropCause.TheVariants as dropped
+use Rattle.cl_base.specs.declared.packet.MessageKind.{MessageKind}
+use Rattle.cl_base.specs.declared.packet.MessageKind.TheVariants as message
+use Rattle.cl_base.specs.declared.packet.DropCause.{DropCause}
+use Rattle.cl_base.specs.declared.packet.DropCause.TheVariants as dropped
 use Rattle.status_report.specs.declared.packet_entry.PacketEntry.TheVariants as packet
 use Rattle.status_report.specs.declared.schedule_entry.SkipCause.{SkipCause}
 use Rattle.status_report.specs.declared.schedule_entry.SkipCause.TheVariants as skip
@@ -65,19 +68,21 @@ use Rattle.status_report.specs.declared.status_entry.StatusEntry.TheVariants as 
 use Rattle.status_report.specs.declared.update_entry.UpdateEntry.TheVariants as update
 use Rattle.status_report.specs.declared.entry.Entry.{Entry}
 use Rattle.status_report.specs.declared.entry.Entry.TheVariants as entry
-use Rattle.status_report.specs.Words.{hex, joined, list_text, numbers_to, set_text}
+use Rattle.cl_base.specs.Numbers.{by_commas, numbers_to, set_text}
+use Rattle.status_report.specs.Words.{hex, joined}
 use Rattle.status_report.specs.PrAnswers.{kind_text, answer_text, command_text}
 use Rattle.status_report.specs.NodeLines.{down_text}
-use Rattle.status_report.specs.PacketLines.{message_text, drop_text}
+use Rattle.status_report.specs.PacketLines.{kind_text as message_kind_text, numbered_text, drop_text}
 use Rattle.status_report.specs.DeviceLines.{given_text, write_refusal_text}
-use Rattle.status_report.specs.AttemptLines.{cause_text, lack_text, lacking_text}
+use Rattle.status_report.specs.AddressLines.{target_text}
+use Rattle.status_report.specs.AttemptLines.{end_text, obstacle_text, lack_text, lacking_text}
 use Rattle.status_report.specs.StartLines.{letter_if, flags_text}
 use Rattle.status_report.specs.CallLines.{method_text, outcome_text, probe_text}
 use Rattle.status_report.specs.CommandLines.{thing_text, reply_text}
 use Rattle.status_report.specs.StatusLines.{group_state_text, resource_state_text, reason_text, member_text, quorum_state_text}
 use Rattle.status_report.specs.ScheduleLines.{skip_text}
 use Rattle.status_report.specs.Lines.{entry_text}
-use Rattle.status_report.specs.Entries.{IsNumber, IsLine, IsPrAnswer, IsPrCommand, IsDown, IsMessage, IsDeviceAnswer, IsCause, IsLack, IsThing, IsAnswer, IsReason, IsEntry}
+use Rattle.status_report.specs.Entries.{IsNumber, IsLine, IsPrAnswer, IsPrCommand, IsDown, IsNumbered, IsDeviceAnswer, IsSeizeEnd, IsObstacle, IsLack, IsThing, IsAnswer, IsReason, IsEntry}
 use Rattle.status_report.proofs.Reading.{below_16}
 use Rattle.status_report.proofs.Lists.{set_numbers}
 
@@ -154,7 +159,7 @@ unfolding no_newline
 tails c spell P e each [] h = refl
 tails c spell P e each (x ∷ xs) h = rw (e, over (spell x) (each x h.0), tails c spell P e each xs h.1) refl
 
-list : (ns : List ℕ) → AllByRecursion IsNumber ns → no_newline (list_text ns) ≡ true
+list : (ns : List ℕ) → AllByRecursion IsNumber ns → no_newline (by_commas ns) ≡ true
 unfolding no_newline
 list [] h = refl
 list (n ∷ ns) h = rw (over (decimal n) (num n h.0), tails 44 decimal IsNumber refl num ns h.1) refl
@@ -228,26 +233,31 @@ down_line (down.Panic (panic.Excluded e)) h = rw (num e h) refl
 down_line (down.Panic panic.Disk) h = refl
 down_line (down.Panic (panic.Stop r)) h = rw (name r h) refl
 
-message_line : (m : MessageName) → IsMessage m → no_newline (message_text m) ≡ true
+message_kind : (k : MessageKind) → no_newline (message_kind_text k) ≡ true
 unfolding no_newline
-message_line message.Heartbeat h = refl
-message_line message.Collect h = refl
-message_line message.Promise h = refl
-message_line message.Nack h = refl
-message_line (message.SeizeQuorum n) h = rw (num n h) refl
-message_line (message.SeizeData n) h = rw (num n h) refl
-message_line (message.Seized n) h = rw (num n h) refl
-message_line message.Install h = refl
-message_line message.Ready h = refl
-message_line message.Start h = refl
-message_line (message.Prepare n) h = rw (num n h) refl
-message_line (message.Prepared n) h = rw (num n h) refl
-message_line (message.Commit n) h = rw (num n h) refl
-message_line (message.Order n) h = rw (num n h) refl
-message_line (message.Done n) h = rw (num n h) refl
-message_line (message.Request n) h = rw (num n h) refl
-message_line (message.Answer n) h = rw (num n h) refl
-message_line message.Excluded h = refl
+message_kind message.Heartbeat = refl
+message_kind message.Collect = refl
+message_kind message.Promise = refl
+message_kind message.Nack = refl
+message_kind message.SeizeQuorum = refl
+message_kind message.SeizeData = refl
+message_kind message.Seized = refl
+message_kind message.Install = refl
+message_kind message.Ready = refl
+message_kind message.Start = refl
+message_kind message.Prepare = refl
+message_kind message.Prepared = refl
+message_kind message.Commit = refl
+message_kind message.Order = refl
+message_kind message.Done = refl
+message_kind message.Request = refl
+message_kind message.Answer = refl
+message_kind message.Excluded = refl
+
+message_line : (k : MessageKind) (number : Option ℕ) → IsNumbered number → no_newline (numbered_text (message_kind_text k) number) ≡ true
+unfolding no_newline
+message_line k None h = message_kind k
+message_line k (Some n) h = rw (over (message_kind_text k) (message_kind k), num n h) refl
 
 drop_line : (x : DropCause) → no_newline (drop_text x) ≡ true
 unfolding no_newline
@@ -255,18 +265,23 @@ drop_line dropped.Link = refl
 drop_line dropped.Pool = refl
 drop_line dropped.Down = refl
 
-cause_line : (cause : LackCause) → IsCause cause → no_newline (cause_text cause) ≡ true
+end_line : (end : SeizeEnd Unit) → IsSeizeEnd end → no_newline (end_text end) ≡ true
 unfolding no_newline
-cause_line lack.NoPath h = refl
-cause_line lack.NotRegistered h = refl
-cause_line (lack.Greater word) h = rw (num word h) refl
-cause_line lack.Expelled h = refl
-cause_line (lack.Contended k) h = rw (key k h) refl
-cause_line lack.Fault h = refl
+end_line (seized.Held u) h = refl
+end_line (seized.NotRegistered u) h = refl
+end_line (seized.Greater word) h = rw (num word h) refl
+end_line seized.Expelled h = refl
+end_line (seized.Contended k) h = rw (key k h) refl
+end_line seized.Fault h = refl
+
+obstacle_line : (o : Obstacle) → IsObstacle o → no_newline (obstacle_text o) ≡ true
+unfolding no_newline
+obstacle_line NoPath h = refl
+obstacle_line (Seizing end) h = end_line end h
 
 lack_line : (l : Lack) → IsLack l → no_newline (lack_text l) ≡ true
 unfolding no_newline
-lack_line l h = rw (over (decimal l.device) (num l.device h.0), cause_line l.cause h.1) refl
+lack_line l h = rw (over (decimal l.device) (num l.device h.0), obstacle_line l.obstacle h.1) refl
 
 lacking_line : (ls : List Lack) → AllByRecursion IsLack ls → no_newline (lacking_text ls) ≡ true
 unfolding no_newline
@@ -349,6 +364,7 @@ reply_line (answer.Refused refusal.Single) h = refl
 reply_line (answer.Refused refusal.NoMark) h = refl
 reply_line (answer.Refused refusal.NodeIsMember) h = refl
 reply_line (answer.Refused refusal.DeviceNotHeld) h = refl
+reply_line (answer.Refused refusal.NodeHasVote) h = refl
 
 group_line : (x : GroupState) → no_newline (group_state_text x) ≡ true
 unfolding no_newline
@@ -383,6 +399,7 @@ reason_line reason.Moved h = refl
 reason_line reason.Leaving h = refl
 reason_line (reason.Affinity n) h = rw (name n h) refl
 reason_line (reason.Dependency n) h = rw (name n h) refl
+reason_line (reason.Load n) h = rw (name n h) refl
 reason_line (reason.Faulted n) h = rw (name n h) refl
 reason_line (reason.Blocked n) h = rw (name n h) refl
 
@@ -404,6 +421,13 @@ skip_line skip.Down = refl
 skip_line skip.NoPacket = refl
 skip_line skip.NoWork = refl
 skip_line skip.NoMonitor = refl
+skip_line skip.NoPresident = refl
+skip_line skip.NoAddress = refl
+
+target_line : (node : Option ℕ) → IsNumbered node → no_newline (target_text node) ≡ true
+unfolding no_newline
+target_line None h = refl
+target_line (Some n) h = num n h
 
 -- ---- entries
 
@@ -418,7 +442,7 @@ entry_line (entry.Node n node.Saved) h = rw (num n h.0) refl
 entry_line (entry.Node n (node.Installed e)) h = rw (over (decimal n) (num n h.0), num e h.1) refl
 entry_line (entry.Node n (node.Member e)) h = rw (over (decimal n) (num n h.0), num e h.1) refl
 entry_line (entry.Packet (packet.Sent p a b m bytes)) h =
-    rw (over (decimal p) (num p h.0), over (decimal a) (num a h.1), over (decimal b) (num b h.2), over (message_text m) (message_line m h.3), hex_bytes bytes h.4) refl
+    rw (over (decimal p) (num p h.0), over (decimal a) (num a h.1), over (decimal b) (num b h.2), over (numbered_text (message_kind_text m.kind) m.number) (message_line m.kind m.number h.3), hex_bytes bytes h.4) refl
 entry_line (entry.Packet (packet.Delivered p a b)) h = rw (over (decimal p) (num p h.0), over (decimal a) (num a h.1), num b h.2) refl
 entry_line (entry.Packet (packet.Lost p)) h = rw (num p h) refl
 entry_line (entry.Packet (packet.Repeated p q)) h = rw (over (decimal p) (num p h.0), num q h.1) refl
@@ -432,6 +456,7 @@ entry_line (entry.Attempt (attempt.Votes e have need lacking)) h = rw (over (dec
 entry_line (entry.Attempt (attempt.Superseded e by)) h = rw (over (decimal e) (num e h.0), num by h.1) refl
 entry_line (entry.Attempt (attempt.Silent e n)) h = rw (over (decimal e) (num e h.0), num n h.1) refl
 entry_line (entry.Attempt (attempt.Excluded e n)) h = rw (over (decimal e) (num e h.0), num n h.1) refl
+entry_line (entry.Attempt (attempt.Foreign e n)) h = rw (over (decimal e) (num e h.0), num n h.1) refl
 entry_line (entry.Start (start.Started e ns ds base)) h = rw (over (decimal e) (num e h.0), over (set_text ns) (set ns), over (set_text ds) (set ds), num base h.3) refl
 entry_line (entry.Start (start.Base e v words)) h = rw (over (decimal e) (num e h.0), over (decimal v) (num v h.1), line words h.2) refl
 entry_line (entry.Start (start.Adopted e n r flags)) h = rw (over (decimal e) (num e h.0), over (decimal n) (num n h.1), over r (name r h.2), flags_line flags) refl
@@ -452,6 +477,8 @@ entry_line (entry.Status (status.QuorumDevice d v state)) h = rw (over (decimal 
 entry_line (entry.Status (status.Table (table.Generation n))) h = rw (num n h) refl
 entry_line (entry.Status (status.Table (table.Checksum digest))) h = rw (hex_bytes digest h) refl
 entry_line (entry.Status (status.Table (table.Row k value))) h = rw (over k (line k h.1), line value h.2) refl
+entry_line (entry.Address (address.Served a c p n)) h = rw (over a (name a h.0), over (decimal c) (num c h.1), over (decimal p) (num p h.2), target_line n h.3) refl
+entry_line (entry.Address (address.Forgot a c p)) h = rw (over a (name a h.0), over (decimal c) (num c h.1), num p h.2) refl
 entry_line (entry.Schedule (schedule.Clock s)) h = rw (num s h) refl
 entry_line (entry.Schedule schedule.Queued) h = refl
 entry_line (entry.Schedule schedule.Armed) h = refl

@@ -1,7 +1,7 @@
 -- Reading entries back from the text of their lines.
 use Rattle.std.proofs.Common.{◌≡◌, ℕ, if◌then◌else◌, Some, None, List, [], ◌∷◌, refl, ap, codes}
-use Rattle.hex.specs.Hex.{encode_lower}
 use Rattle.pgr_device.specs.declared.command.PrAnswer.TheVariants as given
+use Rattle.status_report.specs.declared.address_entry.AddressEntry.TheVariants as address
 use Rattle.status_report.specs.declared.attempt_entry.AttemptEntry.TheVariants as attempt
 use Rattle.status_report.specs.declared.call_entry.CallEntry.TheVariants as call
 use Rattle.status_report.specs.declared.command_entry.CommandEntry.TheVariants as asking
@@ -21,7 +21,7 @@ use Rattle.status_report.proofs.Reading.{after, word_at, number_at, last, more, 
 use Rattle.status_report.proofs.Lists.{starts_digit, decimal_starts, letter_starts, set_at, set_of, set_more, set_last}
 use Rattle.status_report.proofs.Parts as parts
 use Rattle.status_report.proofs.Parts.{choose, part}
-use Rattle.status_report.proofs.Replies.{reply_of, reply_again, bytes_of, bytes_again, table_of, table_again}
+use Rattle.status_report.proofs.Replies.{reply_of, reply_again, bytes_of, bytes_again, table_of, table_again, message_at, message_again, target_of, target_again}
 
 -- goes on behind the words
 abbrev behind : List ℕ → (List ℕ → Entry) → List ℕ → Entry
@@ -41,7 +41,7 @@ entry_of = choose entry.Powered
     ∷ (codes "up ", λ t. entry.Node (number_at t).0 node.Up) ∷ (codes "down ", part number_at (λ n t. entry.Node n (node.Down (parts.down_of t))))
     ∷ (codes "ticked ", λ t. entry.Node (number_at t).0 node.Ticked) ∷ (codes "saved ", λ t. entry.Node (number_at t).0 node.Saved)
     ∷ (codes "installed ", part number_at (λ n t. entry.Node n (node.Installed (number_at t).0))) ∷ (codes "member ", part number_at (λ n t. entry.Node n (node.Member (number_at t).0)))
-    ∷ (codes "sent ", part number_at (λ p. part number_at (λ a. part number_at (λ b. part parts.message_at (λ m t. entry.Packet (packet.Sent p a b m (bytes_of t)))))))
+    ∷ (codes "sent ", part number_at (λ p. part number_at (λ a. part number_at (λ b t. entry.Packet (packet.Sent p a b (message_at t).0 (bytes_of (message_at t).1))))))
     ∷ (codes "delivered ", part number_at (λ p. part number_at (λ a t. entry.Packet (packet.Delivered p a (number_at t).0)))) ∷ (codes "lost ", λ t. entry.Packet (packet.Lost (number_at t).0))
     ∷ (codes "repeated ", part number_at (λ p t. entry.Packet (packet.Repeated p (number_at t).0))) ∷ (codes "dropped ", part number_at (λ p t. entry.Packet (packet.Dropped p (parts.drop_of t))))
     ∷ (codes "device ", part number_at (λ n. part number_at (λ d. part parts.command_at (λ c t. entry.Device (device.Command n d c (parts.given_of (after (after t))))))))
@@ -51,7 +51,8 @@ entry_of = choose entry.Powered
       codes "ended ",
       part number_at (λ e. choose entry.Powered
           ((codes "votes ", part number_at (λ have. part number_at (λ need t. entry.Attempt (attempt.Votes e have need (parts.lacking_of t))))) ∷ (codes "superseded ", λ t. entry.Attempt (attempt.Superseded e (number_at t).0))
-          ∷ (codes "silent ", λ t. entry.Attempt (attempt.Silent e (number_at t).0)) ∷ (codes "excluded ", λ t. entry.Attempt (attempt.Excluded e (number_at t).0)) ∷ [])),
+          ∷ (codes "silent ", λ t. entry.Attempt (attempt.Silent e (number_at t).0)) ∷ (codes "excluded ", λ t. entry.Attempt (attempt.Excluded e (number_at t).0))
+          ∷ (codes "foreign ", λ t. entry.Attempt (attempt.Foreign e (number_at t).0)) ∷ [])),
     )
     ∷ (codes "start ", part number_at (λ e. part set_at (λ ns. behind (codes "held ") (part set_at (λ ds. behind (codes "base ") (λ t. entry.Start (start.Started e ns ds (number_at t).0)))))))
     ∷ (codes "base ", part number_at (λ e. part number_at (λ v t. entry.Start (start.Base e v t))))
@@ -67,6 +68,8 @@ entry_of = choose entry.Powered
     ∷ (codes "quorum node ", part number_at (λ n. part number_at (λ v t. entry.Status (status.QuorumNode n v (parts.member_of t)))))
     ∷ (codes "quorum device ", part number_at (λ d. part number_at (λ v t. entry.Status (status.QuorumDevice d v (parts.quorum_state_of t)))))
     ∷ (codes "table ", λ t. entry.Status (status.Table (table_of t)))
+    ∷ (codes "served ", part word_at (λ a. part number_at (λ c. part number_at (λ p t. entry.Address (address.Served a c p (target_of t))))))
+    ∷ (codes "forgot ", part word_at (λ a. part number_at (λ c t. entry.Address (address.Forgot a c (number_at t).0))))
     ∷ (codes "clock ", λ t. entry.Schedule (schedule.Clock (number_at t).0)) ∷ (codes "queued", λ t. entry.Schedule schedule.Queued) ∷ (codes "armed", λ t. entry.Schedule schedule.Armed)
     ∷ (codes "rounds done", λ t. entry.Schedule schedule.RoundsDone) ∷ (codes "skipped ", λ t. entry.Schedule (schedule.Skipped (parts.skip_of t))) ∷ [])
 
@@ -89,7 +92,7 @@ entry_again (entry.Node n node.Ticked) h = rw (last (number n h.0)) refl
 entry_again (entry.Node n node.Saved) h = rw (last (number n h.0)) refl
 entry_again (entry.Node n (node.Installed e)) h = rw (more (number n h.0), last (number e h.1)) refl
 entry_again (entry.Node n (node.Member e)) h = rw (more (number n h.0), last (number e h.1)) refl
-entry_again (entry.Packet (packet.Sent p a b m bytes)) h = rw (more (number p h.0), more (number a h.1), more (number b h.2), parts.message_again m (encode_lower bytes) h.3, bytes_again bytes h.4) refl
+entry_again (entry.Packet (packet.Sent p a b m bytes)) h = rw (more (number p h.0), more (number a h.1), more (number b h.2), message_again m bytes h.3 h.4, bytes_again bytes h.4) refl
 entry_again (entry.Packet (packet.Delivered p a b)) h = rw (more (number p h.0), more (number a h.1), last (number b h.2)) refl
 entry_again (entry.Packet (packet.Lost p)) h = rw (last (number p h)) refl
 entry_again (entry.Packet (packet.Repeated p q)) h = rw (more (number p h.0), last (number q h.1)) refl
@@ -102,6 +105,7 @@ entry_again (entry.Attempt (attempt.Votes e have need lacking)) h = rw (more (nu
 entry_again (entry.Attempt (attempt.Superseded e by)) h = rw (more (number e h.0), last (number by h.1)) refl
 entry_again (entry.Attempt (attempt.Silent e n)) h = rw (more (number e h.0), last (number n h.1)) refl
 entry_again (entry.Attempt (attempt.Excluded e n)) h = rw (more (number e h.0), last (number n h.1)) refl
+entry_again (entry.Attempt (attempt.Foreign e n)) h = rw (more (number e h.0), last (number n h.1)) refl
 entry_again (entry.Start (start.Started e ns ds base)) h = rw (more (number e h.0), set_more ns _ h.1, set_more ds _ h.2, last (number base h.3)) refl
 entry_again (entry.Start (start.Base e v words)) h = rw (more (number e h.0), more (number v h.1)) refl
 entry_again (entry.Start (start.Adopted e n r flags)) h = rw (more (number e h.0), more (number n h.1), more (name r h.2), parts.flags_again flags) refl
@@ -121,6 +125,8 @@ entry_again (entry.Status (status.QuorumDevice d v state)) h = rw (more (number 
 entry_again (entry.Status (status.Table (table.Generation n))) h = rw (table_again (table.Generation n) h) refl
 entry_again (entry.Status (status.Table (table.Checksum digest))) h = rw (table_again (table.Checksum digest) h) refl
 entry_again (entry.Status (status.Table (table.Row key value))) h = rw (table_again (table.Row key value) h) refl
+entry_again (entry.Address (address.Served a c p n)) h = rw (more (name a h.0), more (number c h.1), more (number p h.2), target_again n h.3) refl
+entry_again (entry.Address (address.Forgot a c p)) h = rw (more (name a h.0), more (number c h.1), last (number p h.2)) refl
 entry_again (entry.Schedule (schedule.Clock s)) h = rw (last (number s h)) refl
 entry_again (entry.Schedule schedule.Queued) h = refl
 entry_again (entry.Schedule schedule.Armed) h = refl

@@ -1,5 +1,5 @@
 -- Reading answers to commands and lines of tables back.
-use Rattle.std.proofs.Common.{◌≡◌, ◌≢◌, ℕ, ◌/◌, ◌%◌, ◌<◌, suc, Bool, true, false, ◌==◌, if◌then◌else◌, List, [], ◌∷◌, ◌++◌, length, slice_index, Result, Ok, Err, refl, ap, subst, append-nil, codes, arith}
+use Rattle.std.proofs.Common.{◌≡◌, ◌≢◌, ℕ, ◌/◌, ◌%◌, ◌<◌, suc, Bool, true, false, ◌==◌, if◌then◌else◌, List, [], ◌∷◌, ◌++◌, length, slice_index, Option, Some, None, Result, Ok, Err, refl, ap, subst, append-nil, append_assoc, codes, arith}
 use Rattle.std.specs.List.{AllByRecursion, flat_map}
 use Rattle.std.specs.Fmt.{decimal}
 use Rattle.std.specs.Char.{digit_value}
@@ -17,12 +17,16 @@ use Rattle.status_report.specs.declared.command_entry.Answer.{Answer}
 use Rattle.status_report.specs.declared.command_entry.Answer.TheVariants as answer
 use Rattle.status_report.specs.declared.status_entry.TableLine.{TableLine}
 use Rattle.status_report.specs.declared.status_entry.TableLine.TheVariants.{Generation, Checksum, Row}
+use Rattle.cl_base.specs.declared.packet.MessageKind.{MessageKind}
+use Rattle.cl_base.specs.declared.packet.MessageName.{MessageName}
 use Rattle.status_report.specs.Words.{joined}
+use Rattle.status_report.specs.AddressLines.{target_text}
+use Rattle.status_report.specs.PacketLines.{kind_text as message_kind_text, numbered_text, message_text}
 use Rattle.status_report.specs.CommandLines.{thing_text, reply_text}
-use Rattle.status_report.specs.Entries.{IsNumber, IsThing, IsAnswer, IsTableLine, IsKey}
+use Rattle.status_report.specs.Entries.{IsNumber, IsNumbered, IsMessage, IsThing, IsAnswer, IsTableLine, IsKey}
 use Rattle.status_report.proofs.Reading.{after, number_at, last, more, number, name_is_word}
-use Rattle.status_report.proofs.Lists.{Lacks, Item, items_of, items_again, all_items, starts_digit, decimal_starts, name_starts, word_lacks_comma}
-use Rattle.status_report.proofs.Parts.{choose, part}
+use Rattle.status_report.proofs.Lists.{Lacks, Item, items_of, items_again, all_items, starts_digit, decimal_starts, letter_starts, name_starts, word_lacks_comma}
+use Rattle.status_report.proofs.Parts.{choose, part, message_kind_at, kind_then}
 
 -- ---- answers
 
@@ -72,7 +76,8 @@ reply_of = choose answer.Ok
     ∷ (codes "refused exists", λ t. answer.Refused refusal.Exists) ∷ (codes "refused managed", λ t. answer.Refused refusal.Managed) ∷ (codes "refused unmanaged", λ t. answer.Refused refusal.Unmanaged)
     ∷ (codes "refused same-value", λ t. answer.Refused refusal.SameValue) ∷ (codes "refused too-many", λ t. answer.Refused refusal.TooMany) ∷ (codes "refused bad-property", λ t. answer.Refused refusal.BadProperty)
     ∷ (codes "refused bad-setting", λ t. answer.Refused refusal.BadSetting) ∷ (codes "refused still-up", λ t. answer.Refused refusal.StillUp) ∷ (codes "refused single", λ t. answer.Refused refusal.Single)
-    ∷ (codes "refused no-mark", λ t. answer.Refused refusal.NoMark) ∷ (codes "refused node-is-member", λ t. answer.Refused refusal.NodeIsMember) ∷ (codes "refused device-not-held", λ t. answer.Refused refusal.DeviceNotHeld) ∷ [])
+    ∷ (codes "refused no-mark", λ t. answer.Refused refusal.NoMark) ∷ (codes "refused node-is-member", λ t. answer.Refused refusal.NodeIsMember) ∷ (codes "refused device-not-held", λ t. answer.Refused refusal.DeviceNotHeld)
+    ∷ (codes "refused node-has-vote", λ t. answer.Refused refusal.NodeHasVote) ∷ [])
 
 pub reply_again : (a : Answer) → IsAnswer a → reply_of (reply_text a) ≡ a
 reply_again answer.Ok h = refl
@@ -101,28 +106,30 @@ reply_again (answer.Refused refusal.Single) h = refl
 reply_again (answer.Refused refusal.NoMark) h = refl
 reply_again (answer.Refused refusal.NodeIsMember) h = refl
 reply_again (answer.Refused refusal.DeviceNotHeld) h = refl
+reply_again (answer.Refused refusal.NodeHasVote) h = refl
 
 -- ---- lines of tables
 
-unfoldable pub has_tab : List ℕ → Bool
-has_tab [] = false
-has_tab (b ∷ bs) = if b == 9 then true else has_tab bs
+-- whether the byte c is there
+unfoldable pub has_byte : ℕ → List ℕ → Bool
+has_byte c [] = false
+has_byte c (b ∷ bs) = if b == c then true else has_byte c bs
 
 unfoldable pub key_before : List ℕ → List ℕ × List ℕ
 key_before [] = ([], [])
 key_before (b ∷ bs) = if b == 9 then ([], b ∷ bs) else (b ∷ (key_before bs).0, (key_before bs).1)
 
-no_tab : (text : List ℕ) → Lacks 9 text → has_tab text ≡ false
-unfolding has_tab
-no_tab [] h = refl
-no_tab (b ∷ text) h = rw (h.0, no_tab text h.1) refl
+no_byte : (c : ℕ) (text : List ℕ) → Lacks c text → has_byte c text ≡ false
+unfolding has_byte
+no_byte c [] h = refl
+no_byte c (b ∷ text) h = rw (h.0, no_byte c text h.1) refl
 
 not_same : (b c : ℕ) (test : Bool) → (b == c) ≡ test → b ≢ c → test ≡ false
 not_same b c true e ne = absurd (ne (eqb-true b c e))
 not_same b c false e ne = refl
 
-tab_stands : (key value : List ℕ) → IsKey key → has_tab (key ++ 9 ∷ value) ≡ true
-unfolding has_tab
+tab_stands : (key value : List ℕ) → IsKey key → has_byte 9 (key ++ 9 ∷ value) ≡ true
+unfolding has_byte
 tab_stands [] value h = refl
 tab_stands (b ∷ key) value h = rw (not_same b 9 (b == 9) refl h.0, tab_stands key value h.1) refl
 
@@ -139,26 +146,27 @@ digits_lack_tab : (ds : List ℕ) → AllDigits 10 ds → Lacks 9 ds
 digits_lack_tab [] h = tt
 digits_lack_tab (d ∷ ds) h = (digit_no_tab d (d == 9) refl h.0, digits_lack_tab ds h.1)
 
-generation_no_tab : (n : ℕ) → IsNumber n → has_tab (codes "ccr_gennum " ++ decimal n) ≡ false
-unfolding has_tab
-generation_no_tab n h = no_tab (decimal n) (digits_lack_tab (decimal n) (decimal_is_IsNumeral n h).0.1)
+generation_no_tab : (n : ℕ) → IsNumber n → has_byte 9 (codes "ccr_gennum " ++ decimal n) ≡ false
+unfolding has_byte
+generation_no_tab n h = no_byte 9 (decimal n) (digits_lack_tab (decimal n) (decimal_is_IsNumeral n h).0.1)
 
-hex_digit_no_tab : (k : ℕ) (test : Bool) → (slice_index lower_digits k == 9) ≡ test → k < 16 → test ≡ false
-hex_digit_no_tab k true e low = let same : slice_index lower_digits k ≡ 9 = eqb-true (slice_index lower_digits k) 9 e in absurd (cc (IsDigits-lower_digits k low, ap hex_digit_value same))
-hex_digit_no_tab k false e low = refl
+-- a byte that is no digit stands among none
+hex_digit_other : (c k : ℕ) (test : Bool) → hex_digit_value c ≡ None → (slice_index lower_digits k == c) ≡ test → k < 16 → test ≡ false
+hex_digit_other c k true none e low = let same : slice_index lower_digits k ≡ c = eqb-true (slice_index lower_digits k) c e in absurd (cc (IsDigits-lower_digits k low, ap hex_digit_value same, none))
+hex_digit_other c k false none e low = refl
 
-hex_lacks_tab : (bytes : List ℕ) → IsBytes bytes → Lacks 9 (encode_lower bytes)
+hex_lacks : (c : ℕ) → hex_digit_value c ≡ None → (bytes : List ℕ) → IsBytes bytes → Lacks c (encode_lower bytes)
 unfolding encode_with
-hex_lacks_tab [] h = tt
-hex_lacks_tab (b ∷ bytes) h =
+hex_lacks c none [] h = tt
+hex_lacks c none (b ∷ bytes) h =
     let fits : b < 256 = h 0 in (
-      hex_digit_no_tab (b / 16) (slice_index lower_digits (b / 16) == 9) refl (omega arith),
-      (hex_digit_no_tab (b % 16) (slice_index lower_digits (b % 16) == 9) refl (omega arith), hex_lacks_tab bytes (λ k. h (suc k))),
+      hex_digit_other c (b / 16) (slice_index lower_digits (b / 16) == c) none refl (omega arith),
+      (hex_digit_other c (b % 16) (slice_index lower_digits (b % 16) == c) none refl (omega arith), hex_lacks c none bytes (λ k. h (suc k))),
     )
 
-checksum_no_tab : (digest : List ℕ) → IsBytes digest → has_tab (codes "ccr_checksum " ++ encode_lower digest) ≡ false
-unfolding has_tab
-checksum_no_tab digest h = no_tab (encode_lower digest) (hex_lacks_tab digest h)
+checksum_no_tab : (digest : List ℕ) → IsBytes digest → has_byte 9 (codes "ccr_checksum " ++ encode_lower digest) ≡ false
+unfolding has_byte
+checksum_no_tab digest h = no_byte 9 (encode_lower digest) (hex_lacks 9 refl digest h)
 
 abbrev decoded : Result (List ℕ) FromHexError → List ℕ
 decoded (Ok bytes) = bytes
@@ -173,7 +181,7 @@ bytes_again bytes h = ap decoded (decode_of-encode_lower bytes h)
 
 abbrev pub table_of : List ℕ → TableLine
 table_of text =
-    if has_tab text then Row (key_before text).0 (after (key_before text).1)
+    if has_byte 9 text then Row (key_before text).0 (after (key_before text).1)
     else choose (Generation 0) ((codes "ccr_gennum ", λ t. Generation (number_at t).0) ∷ (codes "ccr_checksum ", λ t. Checksum (bytes_of t)) ∷ []) text
 
 -- what follows the first word
@@ -186,3 +194,44 @@ pub table_again : (l : TableLine) → IsTableLine l → table_of (line_of l) ≡
 table_again (Generation n) h = rw (generation_no_tab n h, last (number n h)) refl
 table_again (Checksum digest) h = rw (checksum_no_tab digest h, bytes_again digest h) refl
 table_again (Row key value) h = rw (tab_stands key value h.0, key_again key value h.0) refl
+
+-- ---- messages
+
+either : (t x : Bool) → x ≡ true → (if t then true else x) ≡ true
+either true x h = refl
+either false x h = h
+
+space_stands : (word rest : List ℕ) → has_byte 32 (word ++ 32 ∷ rest) ≡ true
+unfolding has_byte
+space_stands [] rest = refl
+space_stands (b ∷ word) rest = either (b == 32) (has_byte 32 (word ++ 32 ∷ rest)) (space_stands word rest)
+
+-- a number and what stands behind the space after it, where there is a space
+abbrev numbered_at : List ℕ → Option ℕ × List ℕ
+numbered_at text = if has_byte 32 text then (Some (number_at text).0, after (number_at text).1) else (None, text)
+
+-- a message, and what stands behind the space after it
+unfoldable pub message_at : List ℕ → MessageName × List ℕ
+message_at text =
+    let kind = message_kind_at text in
+    let numbered = numbered_at kind.1 in
+    (record { kind = kind.0; number = numbered.0 }, numbered.1)
+
+message_same : (k : MessageKind) (n : Option ℕ) (digits : List ℕ) → IsNumbered n → has_byte 32 digits ≡ false
+    → message_at (numbered_text (message_kind_text k) n ++ 32 ∷ digits) ≡ (record { kind = k; number = n }, digits)
+unfolding message_at
+message_same k None digits h alone = rw (kind_then k digits, alone) refl
+message_same k (Some n) digits h alone =
+    rw (append_assoc (message_kind_text k) (32 ∷ decimal n) (32 ∷ digits), kind_then k (decimal n ++ 32 ∷ digits), space_stands (decimal n) digits, more (number n h) digits) refl
+
+pub message_again : (m : MessageName) (bytes : List ℕ) → IsMessage m → IsBytes bytes → message_at (message_text m ++ 32 ∷ encode_lower bytes) ≡ (m, encode_lower bytes)
+message_again m bytes h are = message_same m.kind m.number (encode_lower bytes) h (no_byte 32 (encode_lower bytes) (hex_lacks 32 refl bytes are))
+
+-- ---- nodes that serve
+
+abbrev pub target_of : List ℕ → Option ℕ
+target_of text = if starts_digit text then Some (number_at text).0 else None
+
+pub target_again : (node : Option ℕ) → IsNumbered node → target_of (target_text node) ≡ node
+target_again None h = rw (letter_starts 110 (111 ∷ 110 ∷ 101 ∷ []) refl) refl
+target_again (Some n) h = rw (decimal_alone n h, last (number n h)) refl

@@ -1,25 +1,32 @@
 -- How an attempt on a membership begins, or ends without one.
 use Rattle.std.specs.Prelude.{ℕ, List, [], ◌∷◌, ◌++◌, codes}
 use Rattle.std.specs.Fmt.{decimal}
-use Rattle.status_report.specs.declared.attempt_entry.LackCause.{LackCause}
-use Rattle.status_report.specs.declared.attempt_entry.LackCause.TheVariants.{NoPath, NotRegistered, Greater, Expelled, Contended, Fault}
-use Rattle.status_report.specs.declared.attempt_entry.Lack.{Lack}
+use Rattle.cl_base.specs.Numbers.{set_text}
+use Rattle.cl_base.specs.declared.seizing.Lack.{Lack}
+use Rattle.cl_base.specs.declared.seizing.Obstacle.{Obstacle}
+use Rattle.cl_base.specs.declared.seizing.Obstacle.TheVariants.{NoPath, Seizing}
+use Rattle.cl_base.specs.declared.seizing.SeizeEnd.{SeizeEnd}
+use Rattle.cl_base.specs.declared.seizing.SeizeEnd.TheVariants.{Held, NotRegistered, Greater, Expelled, Contended, Fault}
 use Rattle.status_report.specs.declared.attempt_entry.AttemptEntry.{AttemptEntry}
-use Rattle.status_report.specs.declared.attempt_entry.AttemptEntry.TheVariants.{Begun, Votes, Superseded, Silent, Excluded}
-use Rattle.status_report.specs.Words.{hex, joined, set_text, spaced}
+use Rattle.status_report.specs.declared.attempt_entry.AttemptEntry.TheVariants.{Begun, Votes, Superseded, Silent, Excluded, Foreign}
+use Rattle.status_report.specs.Words.{hex, joined, spaced}
 
--- a word is decimal, a key hexadecimal
-abbrev pub cause_text : LackCause → List ℕ
-cause_text NoPath = codes "no-path"
-cause_text NotRegistered = codes "not-registered"
-cause_text (Greater word) = codes "greater-" ++ decimal word
-cause_text Expelled = codes "expelled"
-cause_text (Contended key) = codes "contended-" ++ hex key
-cause_text Fault = codes "fault"
+-- a word is decimal, a key hexadecimal; a device that is held is no obstacle, so `held` never comes
+abbrev pub end_text : SeizeEnd Unit → List ℕ
+end_text (Held u) = codes "held"
+end_text (NotRegistered u) = codes "not-registered"
+end_text (Greater word) = codes "greater-" ++ decimal word
+end_text Expelled = codes "expelled"
+end_text (Contended key) = codes "contended-" ++ hex key
+end_text Fault = codes "fault"
 
--- the device and the cause, with a colon (58) between
+abbrev pub obstacle_text : Obstacle → List ℕ
+obstacle_text NoPath = codes "no-path"
+obstacle_text (Seizing end) = end_text end
+
+-- the device and the obstacle, with a colon (58) between
 abbrev pub lack_text : Lack → List ℕ
-lack_text lack = decimal lack.device ++ 58 ∷ cause_text lack.cause
+lack_text lack = decimal lack.device ++ 58 ∷ obstacle_text lack.obstacle
 
 -- the devices with spaces (32) between, or `none`
 abbrev pub lacking_text : List Lack → List ℕ
@@ -33,3 +40,4 @@ attempt_text (Votes epoch have need lacking) =
 attempt_text (Superseded epoch by) = spaced (codes "ended" ∷ decimal epoch ∷ codes "superseded" ∷ decimal by ∷ [])
 attempt_text (Silent epoch node) = spaced (codes "ended" ∷ decimal epoch ∷ codes "silent" ∷ decimal node ∷ [])
 attempt_text (Excluded epoch node) = spaced (codes "ended" ∷ decimal epoch ∷ codes "excluded" ∷ decimal node ∷ [])
+attempt_text (Foreign epoch node) = spaced (codes "ended" ∷ decimal epoch ∷ codes "foreign" ∷ decimal node ∷ [])

@@ -33,6 +33,7 @@ refusal_text refusal.Single = codes "single"
 refusal_text refusal.NoMark = codes "no-mark"
 refusal_text refusal.NodeIsMember = codes "node-is-member"
 refusal_text refusal.DeviceNotHeld = codes "device-not-held"
+refusal_text refusal.NodeHasVote = codes "node-has-vote"
 refusal_text (refusal.LoseQuorum have need) = spaced (codes "lose-quorum" ∷ decimal have ∷ decimal need ∷ [])
 refusal_text (refusal.RecordFull length) = spaced (codes "record-full" ∷ decimal length ∷ [])
 

@@ -11,15 +11,20 @@ use Rattle.cl_base.specs.declared.refusal.Thing.{Thing}
 use Rattle.cl_base.specs.declared.refusal.Thing.TheVariants as thing
 use Rattle.cl_base.specs.declared.refusal.Refusal.{Refusal}
 use Rattle.cl_base.specs.declared.refusal.Refusal.TheVariants as refusal
+use Rattle.cl_base.specs.declared.packet.MessageName.{MessageName}
+use Rattle.cl_base.specs.declared.seizing.Lack.{Lack}
+use Rattle.cl_base.specs.declared.seizing.Obstacle.{Obstacle}
+use Rattle.cl_base.specs.declared.seizing.Obstacle.TheVariants.{NoPath, Seizing}
+use Rattle.cl_base.specs.declared.seizing.SeizeEnd.{SeizeEnd}
+use Rattle.cl_base.specs.declared.seizing.SeizeEnd.TheVariants as seized
 use Rattle.hex.specs.Hex.{IsBytes}
 use Rattle.pgr_device.specs.declared.kind.PrKind.{PrKind}
 use Rattle.pgr_device.specs.declared.command.PrAnswer.{PrAnswer}
 use Rattle.pgr_device.specs.declared.command.PrAnswer.TheVariants as given
 use Rattle.pgr_device.specs.declared.command.PrCommand.{PrCommand}
 use Rattle.pgr_device.specs.declared.command.PrCommand.TheVariants as command
-use Rattle.status_report.specs.declared.attempt_entry.LackCause.{LackCause}
-use Rattle.status_report.specs.declared.attempt_entry.LackCause.TheVariants as lack
-use Rattle.status_report.specs.declared.attempt_entry.Lack.{Lack}
+use Rattle.status_report.specs.declared.address_entry.AddressEntry.{AddressEntry}
+use Rattle.status_report.specs.declared.address_entry.AddressEntry.TheVariants as address
 use Rattle.status_report.specs.declared.attempt_entry.AttemptEntry.{AttemptEntry}
 use Rattle.status_report.specs.declared.attempt_entry.AttemptEntry.TheVariants as attempt
 use Rattle.status_report.specs.declared.call_entry.CallEntry.{CallEntry}
@@ -36,8 +41,6 @@ use Rattle.status_report.specs.declared.node_entry.DownCause.{DownCause}
 use Rattle.status_report.specs.declared.node_entry.DownCause.TheVariants as down
 use Rattle.status_report.specs.declared.node_entry.NodeEntry.{NodeEntry}
 use Rattle.status_report.specs.declared.node_entry.NodeEntry.TheVariants as node
-use Rattle.status_report.specs.declared.packet_entry.MessageName.{MessageName}
-use Rattle.status_report.specs.declared.packet_entry.MessageName.TheVariants as message
 use Rattle.status_report.specs.declared.packet_entry.PacketEntry.{PacketEntry}
 use Rattle.status_report.specs.declared.packet_entry.PacketEntry.TheVariants as packet
 use Rattle.status_report.specs.declared.schedule_entry.ScheduleEntry.{ScheduleEntry}
@@ -115,25 +118,12 @@ IsNodeEntry node.Saved = Unit {0}
 IsNodeEntry (node.Installed epoch) = IsNumber epoch
 IsNodeEntry (node.Member epoch) = IsNumber epoch
 
+abbrev pub IsNumbered : Option ℕ → Type 0
+IsNumbered None = Unit {0}
+IsNumbered (Some number) = IsNumber number
+
 abbrev pub IsMessage : MessageName → Type 0
-IsMessage message.Heartbeat = Unit {0}
-IsMessage message.Collect = Unit {0}
-IsMessage message.Promise = Unit {0}
-IsMessage message.Nack = Unit {0}
-IsMessage (message.SeizeQuorum device) = IsNumber device
-IsMessage (message.SeizeData device) = IsNumber device
-IsMessage (message.Seized device) = IsNumber device
-IsMessage message.Install = Unit {0}
-IsMessage message.Ready = Unit {0}
-IsMessage message.Start = Unit {0}
-IsMessage (message.Prepare place) = IsNumber place
-IsMessage (message.Prepared place) = IsNumber place
-IsMessage (message.Commit place) = IsNumber place
-IsMessage (message.Order order) = IsNumber order
-IsMessage (message.Done order) = IsNumber order
-IsMessage (message.Request request) = IsNumber request
-IsMessage (message.Answer request) = IsNumber request
-IsMessage message.Excluded = Unit {0}
+IsMessage name = IsNumbered name.number
 
 abbrev pub IsPacketEntry : PacketEntry → Type 0
 IsPacketEntry (packet.Sent number from to name bytes) = IsNumber number × IsNumber from × IsNumber to × IsMessage name × IsBytes bytes
@@ -151,16 +141,20 @@ IsDeviceEntry (device.Command node number command answer) = IsNumber node × IsN
 IsDeviceEntry (device.Accepted epoch node number value) = IsNumber epoch × IsNumber node × IsNumber number × IsNumber value
 IsDeviceEntry (device.Refused node number value cause) = IsNumber node × IsNumber number × IsNumber value
 
-abbrev pub IsCause : LackCause → Type 0
-IsCause lack.NoPath = Unit {0}
-IsCause lack.NotRegistered = Unit {0}
-IsCause (lack.Greater word) = IsNumber word
-IsCause lack.Expelled = Unit {0}
-IsCause (lack.Contended key) = IsNumber key
-IsCause lack.Fault = Unit {0}
+abbrev pub IsSeizeEnd : SeizeEnd Unit → Type 0
+IsSeizeEnd (seized.Held u) = Unit {0}
+IsSeizeEnd (seized.NotRegistered u) = Unit {0}
+IsSeizeEnd (seized.Greater word) = IsNumber word
+IsSeizeEnd seized.Expelled = Unit {0}
+IsSeizeEnd (seized.Contended key) = IsNumber key
+IsSeizeEnd seized.Fault = Unit {0}
+
+abbrev pub IsObstacle : Obstacle → Type 0
+IsObstacle NoPath = Unit {0}
+IsObstacle (Seizing end) = IsSeizeEnd end
 
 abbrev pub IsLack : Lack → Type 0
-IsLack l = IsNumber l.device × IsCause l.cause
+IsLack l = IsNumber l.device × IsObstacle l.obstacle
 
 abbrev pub IsAttemptEntry : AttemptEntry → Type 0
 IsAttemptEntry (attempt.Begun epoch members) = IsNumber epoch × IsSet members
@@ -168,6 +162,7 @@ IsAttemptEntry (attempt.Votes epoch have need lacking) = IsNumber epoch × IsNum
 IsAttemptEntry (attempt.Superseded epoch by) = IsNumber epoch × IsNumber by
 IsAttemptEntry (attempt.Silent epoch node) = IsNumber epoch × IsNumber node
 IsAttemptEntry (attempt.Excluded epoch node) = IsNumber epoch × IsNumber node
+IsAttemptEntry (attempt.Foreign epoch node) = IsNumber epoch × IsNumber node
 
 abbrev pub IsStartEntry : StartEntry → Type 0
 IsStartEntry (start.Started epoch members held base) = IsNumber epoch × IsSet members × IsSet held × IsNumber base
@@ -204,6 +199,7 @@ IsRefusal refusal.Single = Unit {0}
 IsRefusal refusal.NoMark = Unit {0}
 IsRefusal refusal.NodeIsMember = Unit {0}
 IsRefusal refusal.DeviceNotHeld = Unit {0}
+IsRefusal refusal.NodeHasVote = Unit {0}
 IsRefusal (refusal.LoseQuorum have need) = IsNumber have × IsNumber need
 IsRefusal (refusal.RecordFull length) = IsNumber length
 
@@ -235,6 +231,7 @@ IsReason reason.Moved = Unit {0}
 IsReason reason.Leaving = Unit {0}
 IsReason (reason.Affinity target) = IsName target
 IsReason (reason.Dependency target) = IsName target
+IsReason (reason.Load limit) = IsName limit
 IsReason (reason.Faulted resource) = IsName resource
 IsReason (reason.Blocked resource) = IsName resource
 
@@ -251,6 +248,10 @@ IsStatusEntry (status.QuorumVotes total need) = IsNumber total × IsNumber need
 IsStatusEntry (status.QuorumNode node vote member) = IsNumber node × IsNumber vote
 IsStatusEntry (status.QuorumDevice number votes state) = IsNumber number × IsNumber votes
 IsStatusEntry (status.Table line) = IsTableLine line
+
+abbrev pub IsAddressEntry : AddressEntry → Type 0
+IsAddressEntry (address.Served name client port node) = IsName name × IsNumber client × IsNumber port × IsNumbered node
+IsAddressEntry (address.Forgot name client port) = IsName name × IsNumber client × IsNumber port
 
 abbrev pub IsScheduleEntry : ScheduleEntry → Type 0
 IsScheduleEntry (schedule.Clock second) = IsNumber second
@@ -271,6 +272,7 @@ IsEntry (entry.Update told) = IsUpdateEntry told
 IsEntry (entry.Call told) = IsCallEntry told
 IsEntry (entry.Command told) = IsCommandEntry told
 IsEntry (entry.Status told) = IsStatusEntry told
+IsEntry (entry.Address told) = IsAddressEntry told
 IsEntry (entry.Schedule told) = IsScheduleEntry told
 
 -- one line: only its last byte is a newline

@@ -1,8 +1,10 @@
+pub mod AddressLines
 pub mod AttemptLines
 pub mod CallLines
 pub mod CommandLines
 pub mod DeviceLines
 pub mod Entries
+pub mod Examples
 pub mod Lines
 pub mod NodeLines
 pub mod PacketLines

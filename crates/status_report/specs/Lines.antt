@@ -1,11 +1,12 @@
 -- The line that an entry prints as.
 use Rattle.std.specs.Prelude.{ℕ, List, [], ◌∷◌, ◌++◌, codes}
 use Rattle.status_report.specs.declared.entry.Entry.{Entry}
-use Rattle.status_report.specs.declared.entry.Entry.TheVariants.{Answered, Powered, Node, Packet, Device, Attempt, Start, Update, Call, Command, Status, Schedule}
+use Rattle.status_report.specs.declared.entry.Entry.TheVariants.{Answered, Powered, Node, Packet, Device, Attempt, Start, Update, Call, Command, Status, Address, Schedule}
 use Rattle.status_report.specs.PrAnswers.{answer_text}
 use Rattle.status_report.specs.NodeLines.{node_text}
 use Rattle.status_report.specs.PacketLines.{packet_text}
 use Rattle.status_report.specs.DeviceLines.{device_text}
+use Rattle.status_report.specs.AddressLines.{address_text}
 use Rattle.status_report.specs.AttemptLines.{attempt_text}
 use Rattle.status_report.specs.StartLines.{start_text}
 use Rattle.status_report.specs.UpdateLines.{update_text}
@@ -26,6 +27,7 @@ entry_text (Update entry) = update_text entry
 entry_text (Call entry) = call_text entry
 entry_text (Command entry) = asked_text entry
 entry_text (Status entry) = status_text entry
+entry_text (Address entry) = address_text entry
 entry_text (Schedule entry) = schedule_text entry
 
 -- with its newline

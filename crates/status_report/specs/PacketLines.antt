@@ -1,35 +1,43 @@
 -- What becomes of a packet.
-use Rattle.std.specs.Prelude.{ℕ, List, codes, [], ◌∷◌}
+use Rattle.std.specs.Prelude.{ℕ, List, codes, [], ◌∷◌, Option, Some, None}
 use Rattle.std.specs.Fmt.{decimal}
 use Rattle.hex.specs.Hex.{encode_lower}
-use Rattle.status_report.specs.declared.packet_entry.MessageName.{MessageName}
-use Rattle.status_report.specs.declared.packet_entry.MessageName.TheVariants as message
-use Rattle.status_report.specs.declared.packet_entry.DropCause.{DropCause}
-use Rattle.status_report.specs.declared.packet_entry.DropCause.TheVariants.{Link, Pool, Down}
+use Rattle.cl_base.specs.declared.packet.MessageKind.{MessageKind}
+use Rattle.cl_base.specs.declared.packet.MessageKind.TheVariants as message
+use Rattle.cl_base.specs.declared.packet.MessageName.{MessageName}
+use Rattle.cl_base.specs.declared.packet.DropCause.{DropCause}
+use Rattle.cl_base.specs.declared.packet.DropCause.TheVariants.{Link, Pool, Down}
 use Rattle.status_report.specs.declared.packet_entry.PacketEntry.{PacketEntry}
 use Rattle.status_report.specs.declared.packet_entry.PacketEntry.TheVariants.{Sent, Delivered, Lost, Repeated, Dropped}
 use Rattle.status_report.specs.Words.{spaced}
 
--- the message's name, and its device, place or number where it has one
+abbrev pub kind_text : MessageKind → List ℕ
+kind_text message.Heartbeat = codes "Heartbeat"
+kind_text message.Collect = codes "Collect"
+kind_text message.Promise = codes "Promise"
+kind_text message.Nack = codes "Nack"
+kind_text message.SeizeQuorum = codes "SeizeQuorum"
+kind_text message.SeizeData = codes "SeizeData"
+kind_text message.Seized = codes "Seized"
+kind_text message.Install = codes "Install"
+kind_text message.Ready = codes "Ready"
+kind_text message.Start = codes "Start"
+kind_text message.Prepare = codes "Prepare"
+kind_text message.Prepared = codes "Prepared"
+kind_text message.Commit = codes "Commit"
+kind_text message.Order = codes "Order"
+kind_text message.Done = codes "Done"
+kind_text message.Request = codes "Request"
+kind_text message.Answer = codes "Answer"
+kind_text message.Excluded = codes "Excluded"
+
+-- the kind of the message, and its device, place or number where it has one
+abbrev pub numbered_text : List ℕ → Option ℕ → List ℕ
+numbered_text kind None = kind
+numbered_text kind (Some number) = spaced (kind ∷ decimal number ∷ [])
+
 abbrev pub message_text : MessageName → List ℕ
-message_text message.Heartbeat = codes "Heartbeat"
-message_text message.Collect = codes "Collect"
-message_text message.Promise = codes "Promise"
-message_text message.Nack = codes "Nack"
-message_text (message.SeizeQuorum device) = spaced (codes "SeizeQuorum" ∷ decimal device ∷ [])
-message_text (message.SeizeData device) = spaced (codes "SeizeData" ∷ decimal device ∷ [])
-message_text (message.Seized device) = spaced (codes "Seized" ∷ decimal device ∷ [])
-message_text message.Install = codes "Install"
-message_text message.Ready = codes "Ready"
-message_text message.Start = codes "Start"
-message_text (message.Prepare place) = spaced (codes "Prepare" ∷ decimal place ∷ [])
-message_text (message.Prepared place) = spaced (codes "Prepared" ∷ decimal place ∷ [])
-message_text (message.Commit place) = spaced (codes "Commit" ∷ decimal place ∷ [])
-message_text (message.Order order) = spaced (codes "Order" ∷ decimal order ∷ [])
-message_text (message.Done order) = spaced (codes "Done" ∷ decimal order ∷ [])
-message_text (message.Request request) = spaced (codes "Request" ∷ decimal request ∷ [])
-message_text (message.Answer request) = spaced (codes "Answer" ∷ decimal request ∷ [])
-message_text message.Excluded = codes "Excluded"
+message_text name = numbered_text (kind_text name.kind) name.number
 
 abbrev pub drop_text : DropCause → List ℕ
 drop_text Link = codes "link"

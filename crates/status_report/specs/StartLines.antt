@@ -1,10 +1,11 @@
 -- What a membership starts with.
 use Rattle.std.specs.Prelude.{ℕ, Bool, true, false, List, [], ◌++◌, codes, ◌∷◌}
 use Rattle.std.specs.Fmt.{decimal}
+use Rattle.cl_base.specs.Numbers.{set_text}
 use Rattle.status_report.specs.declared.start_entry.AdoptedFlags.{AdoptedFlags}
 use Rattle.status_report.specs.declared.start_entry.StartEntry.{StartEntry}
 use Rattle.status_report.specs.declared.start_entry.StartEntry.TheVariants.{Started, Base, Adopted}
-use Rattle.status_report.specs.Words.{set_text, spaced}
+use Rattle.status_report.specs.Words.{spaced}
 
 -- the letter of a flag that is set
 abbrev pub letter_if : Bool → List ℕ → List ℕ

@@ -46,6 +46,7 @@ reason_text reason.Moved = codes "moved"
 reason_text reason.Leaving = codes "leaving"
 reason_text (reason.Affinity target) = spaced (codes "affinity" ∷ target ∷ [])
 reason_text (reason.Dependency target) = spaced (codes "dependency" ∷ target ∷ [])
+reason_text (reason.Load limit) = spaced (codes "load" ∷ limit ∷ [])
 reason_text (reason.Faulted resource) = spaced (codes "faulted" ∷ resource ∷ [])
 reason_text (reason.Blocked resource) = spaced (codes "blocked" ∷ resource ∷ [])
 

@@ -1,67 +1,7 @@
-ghost use Rattle.std.specs.Prelude.{◌≡◌};
-
-use cl_base::{DevId, Epoch, NodeId, NodeSet};
-use std::marker::Model;
-
-/// Why a quorum device is not held.
-#[derive(Clone, Copy, Debug, PartialEq, Eq)]
-pub enum LackCause {
-    /// No member is attached to it.
-    NoPath,
-    /// No member that may seize it is registered there.
-    NotRegistered,
-    /// Its epoch word is this greater one.
-    Greater(u64),
-    /// The seizer's key was removed.
-    Expelled,
-    /// This key came again and again.
-    Contended(u64),
-    /// A command failed.
-    Fault,
-}
-
-/// A quorum device that an attempt lacks.
-#[derive(Clone, Copy, Debug, PartialEq, Eq)]
-pub struct Lack {
-    /// The device.
-    pub device: DevId,
-    /// Why it is not held.
-    pub cause: LackCause,
-}
-
-/// The quorum devices that an attempt lacks, by number. Contracts see the list of them.
-#[derive(Debug, Drop)]
-pub struct Lacking {
-    devices: Vec<Lack>,
-}
-
-impl Model for Lacking {
-    ghost use Rattle.std.specs.Prelude.{List};
-    ghost use Rattle.status_report.specs.declared.attempt_entry.Lack.{Lack};
-
-    ghost Value = { List Lack };
-
-    ghost view = { λ l. l.devices.items };
-}
-
-impl Lacking {
-    /// These devices.
-    pub fn new(items: Vec<Lack>) -> Lacking
-        ensures value { result ≡ items.items }
-    {
-        Lacking { devices: items }
-    }
-
-    /// The devices in order.
-    pub fn items(&self) -> &[Lack]
-        ensures value { result.now ≡ self.now }
-    {
-        self.devices.as_slice()
-    }
-}
+use cl_base::{Epoch, Lacking, NodeId, NodeSet};
 
 /// How an attempt on a membership begins, or ends without one.
-#[derive(Debug, Drop)]
+#[derive(Drop)]
 pub enum AttemptEntry {
     /// It begins.
     Begun {
@@ -100,6 +40,14 @@ pub enum AttemptEntry {
         /// Its epoch.
         epoch: Epoch,
         /// The member.
+        node: NodeId,
+    },
+    /// A member is configured neither under the newest committed updates nor under these with the
+    /// pending one.
+    Foreign {
+        /// Its epoch.
+        epoch: Epoch,
+        /// The least such member.
         node: NodeId,
     },
 }

@@ -1,12 +1,11 @@
 ghost use Rattle.std.specs.Prelude.{◌≡◌, ◌++◌, ◌∷◌, IfOk, OnOk};
 ghost use Rattle.std.specs.List.{flat_map};
 ghost use Rattle.std.specs.String.{string_bytes};
-ghost use Rattle.status_report.specs.AttemptLines.{attempt_text, lacking_text, lack_text, cause_text};
+ghost use Rattle.status_report.specs.AttemptLines.{attempt_text, lacking_text, lack_text, obstacle_text, end_text};
 ghost use Rattle.status_report.specs.declared.attempt_entry.AttemptEntry.TheVariants.{Votes};
 
-use crate::attempt_entry::{AttemptEntry, Lack, LackCause};
-use crate::words::set_text;
-use cl_base::Epoch;
+use crate::attempt_entry::AttemptEntry;
+use cl_base::{Epoch, Lack, Obstacle, SeizeEnd};
 use std::alloc::{AllocError, Global};
 
 /// How an attempt begins or ends.
@@ -15,8 +14,7 @@ pub fn attempt_line(alloc: Global, entry: &AttemptEntry) -> Result<String, Alloc
 {
     match entry {
         AttemptEntry::Begun { epoch, members } => {
-            let epoch = epoch.number();
-            let members = set_text(alloc, members.bits())?;
+            let members = members.text(alloc)?;
             format!(in alloc; "attempt {epoch} {members}")
         }
         AttemptEntry::Votes {
@@ -25,21 +23,14 @@ pub fn attempt_line(alloc: Global, entry: &AttemptEntry) -> Result<String, Alloc
             need,
             lacking,
         } => votes_line(alloc, *epoch, *have, *need, lacking.items()),
-        AttemptEntry::Superseded { epoch, by } => {
-            let epoch = epoch.number();
-            let by = by.number();
-            format!(in alloc; "ended {epoch} superseded {by}")
-        }
-        AttemptEntry::Silent { epoch, node } => {
-            let epoch = epoch.number();
-            let node = node.number();
-            format!(in alloc; "ended {epoch} silent {node}")
-        }
-        AttemptEntry::Excluded { epoch, node } => {
-            let epoch = epoch.number();
-            let node = node.number();
-            format!(in alloc; "ended {epoch} excluded {node}")
-        }
+        AttemptEntry::Superseded { epoch, by } => format!(in alloc;
+            "ended {epoch} superseded {by}"
+        ),
+        AttemptEntry::Silent { epoch, node } => format!(in alloc; "ended {epoch} silent {node}"),
+        AttemptEntry::Excluded { epoch, node } => format!(in alloc;
+            "ended {epoch} excluded {node}"
+        ),
+        AttemptEntry::Foreign { epoch, node } => format!(in alloc; "ended {epoch} foreign {node}"),
     }
 }
 
@@ -52,7 +43,6 @@ fn votes_line(
 ) -> Result<String, AllocError>
     ensures { IfOk result (λ text. string_bytes text ≡ attempt_text (Votes epoch have need lacking.now)) }
 {
-    let epoch = epoch.number();
     let lacking = lacking_text(alloc, lacking)?;
     format!(in alloc; "ended {epoch} votes {have} {need} {lacking}")
 }
@@ -82,20 +72,30 @@ fn push_lacks(alloc: Global, text: &mut String, lacks: &[Lack]) -> Result<(), Al
 fn lack_text(alloc: Global, lack: Lack) -> Result<String, AllocError>
     ensures { IfOk result (λ text. string_bytes text ≡ lack_text lack) }
 {
-    let device = lack.device.number();
-    let cause = cause_text(alloc, lack.cause)?;
-    format!(in alloc; "{device}:{cause}")
+    let device = lack.device;
+    let obstacle = obstacle_text(alloc, lack.obstacle)?;
+    format!(in alloc; "{device}:{obstacle}")
 }
 
-fn cause_text(alloc: Global, cause: LackCause) -> Result<String, AllocError>
-    ensures { IfOk result (λ text. string_bytes text ≡ cause_text cause) }
+fn obstacle_text(alloc: Global, obstacle: Obstacle) -> Result<String, AllocError>
+    ensures { IfOk result (λ text. string_bytes text ≡ obstacle_text obstacle) }
 {
-    match cause {
-        LackCause::NoPath => String::from_str(alloc, "no-path"),
-        LackCause::NotRegistered => String::from_str(alloc, "not-registered"),
-        LackCause::Greater(word) => format!(in alloc; "greater-{word}"),
-        LackCause::Expelled => String::from_str(alloc, "expelled"),
-        LackCause::Contended(key) => format!(in alloc; "contended-{key:x}"),
-        LackCause::Fault => String::from_str(alloc, "fault"),
+    match obstacle {
+        Obstacle::NoPath => String::from_str(alloc, "no-path"),
+        Obstacle::Seizing(end) => end_text(alloc, end),
+    }
+}
+
+/// How the seizing of a device ended. One that is held is no obstacle, and is told all the same.
+fn end_text(alloc: Global, end: SeizeEnd<()>) -> Result<String, AllocError>
+    ensures { IfOk result (λ text. string_bytes text ≡ end_text end) }
+{
+    match end {
+        SeizeEnd::Held(_) => String::from_str(alloc, "held"),
+        SeizeEnd::NotRegistered(_) => String::from_str(alloc, "not-registered"),
+        SeizeEnd::Greater(word) => format!(in alloc; "greater-{word}"),
+        SeizeEnd::Expelled => String::from_str(alloc, "expelled"),
+        SeizeEnd::Contended(key) => format!(in alloc; "contended-{key:x}"),
+        SeizeEnd::Fault => String::from_str(alloc, "fault"),
     }
 }

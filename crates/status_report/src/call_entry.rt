@@ -1,7 +1,7 @@
 use cl_base::{Epoch, Method, Name, NodeId, Outcome};
 
 /// What a node makes of a monitor's report.
-#[derive(Clone, Copy, Debug, PartialEq, Eq)]
+#[derive(Clone, Copy)]
 pub enum ProbeResult {
     /// The resource is well.
     Ok,
@@ -14,7 +14,7 @@ pub enum ProbeResult {
 }
 
 /// A call of a resource's method, or a monitor's report.
-#[derive(Clone, Copy, Debug, PartialEq, Eq)]
+#[derive(Clone, Copy)]
 pub enum CallEntry {
     /// The method is called.
     Called {

@@ -1,7 +1,7 @@
 use cl_base::{NodeId, Refusal};
 
 /// The answer to a command.
-#[derive(Debug, Drop)]
+#[derive(Drop)]
 pub enum Answer {
     /// It is done.
     Ok,
@@ -24,7 +24,7 @@ pub enum Answer {
 }
 
 /// A command of an administrator at a node. A node numbers its commands from 1 since its boot.
-#[derive(Debug, Drop)]
+#[derive(Drop)]
 pub enum CommandEntry {
     /// It is given.
     Asked {

@@ -2,7 +2,7 @@ use cl_base::{DevId, Epoch, NodeId};
 use pgr_device::{PrAnswer, PrCommand};
 
 /// What a node has of a command to a device.
-#[derive(Clone, Copy, Debug, PartialEq, Eq)]
+#[derive(Clone, Copy)]
 pub enum DeviceAnswer {
     /// The device's answer.
     Given(PrAnswer),
@@ -11,7 +11,7 @@ pub enum DeviceAnswer {
 }
 
 /// Why a write is refused.
-#[derive(Clone, Copy, Debug, PartialEq, Eq)]
+#[derive(Clone, Copy)]
 pub enum WriteRefusal {
     /// The node is no member.
     NotMember,
@@ -26,7 +26,7 @@ pub enum WriteRefusal {
 }
 
 /// What a node does at a device.
-#[derive(Clone, Copy, Debug, PartialEq, Eq)]
+#[derive(Clone, Copy)]
 pub enum DeviceEntry {
     /// A command and its answer.
     Command {

@@ -1,3 +1,4 @@
+use crate::address_entry::AddressEntry;
 use crate::attempt_entry::AttemptEntry;
 use crate::call_entry::CallEntry;
 use crate::command_entry::CommandEntry;
@@ -12,7 +13,7 @@ use cl_base::NodeId;
 use pgr_device::PrAnswer;
 
 /// An entry of a trace: one line of it.
-#[derive(Debug, Drop)]
+#[derive(Drop)]
 pub enum Entry {
     /// The device of a reservation schedule answered a command.
     Answered(PrAnswer),
@@ -41,6 +42,8 @@ pub enum Entry {
     Command(CommandEntry),
     /// A line of a query's answer.
     Status(StatusEntry),
+    /// A shared address and its clients.
+    Address(AddressEntry),
     /// What no node answers.
     Schedule(ScheduleEntry),
 }

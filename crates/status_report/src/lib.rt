@@ -1,6 +1,9 @@
 //! The entries of a trace as lines of text.
 #![tactic(auto)]
 
+mod address_entry;
+mod address_text;
+mod answer_print;
 mod attempt_entry;
 mod attempt_text;
 mod call_entry;
@@ -29,14 +32,16 @@ mod update_entry;
 mod update_text;
 mod words;
 
-pub use attempt_entry::{AttemptEntry, Lack, LackCause, Lacking};
+pub use address_entry::AddressEntry;
+pub use answer_print::{print_answer, print_powered};
+pub use attempt_entry::AttemptEntry;
 pub use call_entry::{CallEntry, ProbeResult};
 pub use command_entry::{Answer, CommandEntry};
 pub use device_entry::{DeviceAnswer, DeviceEntry, WriteRefusal};
 pub use entry::Entry;
-pub use laws::{each_entry_is_one_line, no_two_print_alike};
+pub use laws::{each_entry_is_one_line, examples_print_as_wanted, no_two_print_alike};
 pub use node_entry::{DownCause, NodeEntry};
-pub use packet_entry::{DropCause, MessageName, PacketEntry};
+pub use packet_entry::PacketEntry;
 pub use printing::print;
 pub use reply_text::answer_text;
 pub use schedule_entry::{ScheduleEntry, SkipCause};

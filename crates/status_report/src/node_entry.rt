@@ -1,7 +1,7 @@
 use cl_base::{Epoch, Panic};
 
 /// Why a node goes down.
-#[derive(Clone, Copy, Debug, PartialEq, Eq)]
+#[derive(Clone, Copy)]
 pub enum DownCause {
     /// It was made to crash.
     Crash,
@@ -12,7 +12,7 @@ pub enum DownCause {
 }
 
 /// What a node tells of itself.
-#[derive(Clone, Copy, Debug, PartialEq, Eq)]
+#[derive(Clone, Copy)]
 pub enum NodeEntry {
     /// It boots.
     Up,

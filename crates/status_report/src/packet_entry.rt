@@ -1,51 +1,7 @@
-use cl_base::{Bytes, DevId, NodeId};
-
-/// The message that a packet holds, with what tells it from others of its kind.
-#[derive(Clone, Copy, Debug, PartialEq, Eq)]
-pub enum MessageName {
-    Heartbeat,
-    Collect,
-    Promise,
-    Nack,
-    /// With its device.
-    SeizeQuorum(DevId),
-    /// With its device.
-    SeizeData(DevId),
-    /// With its device.
-    Seized(DevId),
-    Install,
-    Ready,
-    Start,
-    /// With its place.
-    Prepare(u64),
-    /// With its place.
-    Prepared(u64),
-    /// With its place.
-    Commit(u64),
-    /// With its number.
-    Order(u64),
-    /// With the number of its order.
-    Done(u64),
-    /// With its number.
-    Request(u64),
-    /// With the number of its request.
-    Answer(u64),
-    Excluded,
-}
-
-/// Why a packet is dropped.
-#[derive(Clone, Copy, Debug, PartialEq, Eq)]
-pub enum DropCause {
-    /// Its link holds as many packets as it may.
-    Link,
-    /// Too few cells are free for it.
-    Pool,
-    /// Its receiver is down.
-    Down,
-}
+use cl_base::{Bytes, DropCause, MessageName, NodeId};
 
 /// What becomes of a packet. Packets are numbered from 1.
-#[derive(Debug, Drop)]
+#[derive(Drop)]
 pub enum PacketEntry {
     /// It is sent.
     Sent {

@@ -1,10 +1,10 @@
 ghost use Rattle.std.specs.Prelude.{◌≡◌, IfOk};
 ghost use Rattle.std.specs.String.{string_bytes};
-ghost use Rattle.status_report.specs.PacketLines.{packet_text, message_text, drop_text};
+ghost use Rattle.status_report.specs.PacketLines.{packet_text, message_text, kind_text, drop_text};
 ghost use Rattle.status_report.specs.declared.packet_entry.PacketEntry.TheVariants.{Sent, Delivered};
 
-use crate::packet_entry::{DropCause, MessageName, PacketEntry};
-use cl_base::{Bytes, NodeId};
+use crate::packet_entry::PacketEntry;
+use cl_base::{Bytes, DropCause, MessageKind, MessageName, NodeId};
 use std::alloc::{AllocError, Global};
 
 /// What becomes of a packet.
@@ -39,8 +39,6 @@ fn sent_line(
 ) -> Result<String, AllocError>
     ensures { IfOk result (λ text. string_bytes text ≡ packet_text (Sent number from to message bytes.now)) }
 {
-    let from = from.number();
-    let to = to.number();
     let message = message_text(alloc, message)?;
     let digits = hex::encode(alloc, bytes.items())?;
     format!(in alloc; "sent {number} {from} {to} {message} {digits}")
@@ -54,42 +52,41 @@ fn delivered_line(
 ) -> Result<String, AllocError>
     ensures { IfOk result (λ text. string_bytes text ≡ packet_text (Delivered number from to)) }
 {
-    let from = from.number();
-    let to = to.number();
     format!(in alloc; "delivered {number} {from} {to}")
 }
 
 fn message_text(alloc: Global, message: MessageName) -> Result<String, AllocError>
     ensures { IfOk result (λ text. string_bytes text ≡ message_text message) }
 {
-    match message {
-        MessageName::Heartbeat => String::from_str(alloc, "Heartbeat"),
-        MessageName::Collect => String::from_str(alloc, "Collect"),
-        MessageName::Promise => String::from_str(alloc, "Promise"),
-        MessageName::Nack => String::from_str(alloc, "Nack"),
-        MessageName::SeizeQuorum(device) => {
-            let device = device.number();
-            format!(in alloc; "SeizeQuorum {device}")
-        }
-        MessageName::SeizeData(device) => {
-            let device = device.number();
-            format!(in alloc; "SeizeData {device}")
-        }
-        MessageName::Seized(device) => {
-            let device = device.number();
-            format!(in alloc; "Seized {device}")
-        }
-        MessageName::Install => String::from_str(alloc, "Install"),
-        MessageName::Ready => String::from_str(alloc, "Ready"),
-        MessageName::Start => String::from_str(alloc, "Start"),
-        MessageName::Prepare(place) => format!(in alloc; "Prepare {place}"),
-        MessageName::Prepared(place) => format!(in alloc; "Prepared {place}"),
-        MessageName::Commit(place) => format!(in alloc; "Commit {place}"),
-        MessageName::Order(order) => format!(in alloc; "Order {order}"),
-        MessageName::Done(order) => format!(in alloc; "Done {order}"),
-        MessageName::Request(request) => format!(in alloc; "Request {request}"),
-        MessageName::Answer(request) => format!(in alloc; "Answer {request}"),
-        MessageName::Excluded => String::from_str(alloc, "Excluded"),
+    let kind = kind_word(message.kind);
+    match message.number {
+        Some(number) => format!(in alloc; "{kind} {number}"),
+        None => String::from_str(alloc, kind),
+    }
+}
+
+fn kind_word(kind: MessageKind) -> &'static str
+    ensures { result.now ≡ kind_text kind }
+{
+    match kind {
+        MessageKind::Heartbeat => "Heartbeat",
+        MessageKind::Collect => "Collect",
+        MessageKind::Promise => "Promise",
+        MessageKind::Nack => "Nack",
+        MessageKind::SeizeQuorum => "SeizeQuorum",
+        MessageKind::SeizeData => "SeizeData",
+        MessageKind::Seized => "Seized",
+        MessageKind::Install => "Install",
+        MessageKind::Ready => "Ready",
+        MessageKind::Start => "Start",
+        MessageKind::Prepare => "Prepare",
+        MessageKind::Prepared => "Prepared",
+        MessageKind::Commit => "Commit",
+        MessageKind::Order => "Order",
+        MessageKind::Done => "Done",
+        MessageKind::Request => "Request",
+        MessageKind::Answer => "Answer",
+        MessageKind::Excluded => "Excluded",
     }
 }
 

@@ -1,5 +1,6 @@
-ghost use Rattle.std.specs.Prelude.{◌≡◌, IfOk};
+ghost use Rattle.std.specs.Prelude.{◌≡◌, ◌++◌, codes, IfOk, OnOk};
 ghost use Rattle.std.specs.String.{string_bytes};
+ghost use Rattle.status_report.specs.Words.{hex};
 ghost use Rattle.status_report.specs.PrAnswers.{answer_text, keys_text, holder_text, held_text, kind_text, command_text};
 
 use pgr_device::{PrAnswer, PrCommand, PrKind};
@@ -9,46 +10,64 @@ use std::alloc::{AllocError, Global};
 pub fn pr_answer(alloc: Global, answer: PrAnswer) -> Result<String, AllocError>
     ensures { IfOk result (λ text. string_bytes text ≡ answer_text answer) }
 {
-    match answer {
-        PrAnswer::Good => String::from_str(alloc, "good"),
-        PrAnswer::Conflict => String::from_str(alloc, "conflict"),
-        PrAnswer::InvalidRelease => String::from_str(alloc, "invalid-release"),
-        PrAnswer::NoPath => String::from_str(alloc, "no-path"),
-        PrAnswer::Keys(keys) => keys_line(alloc, keys.keys()),
-        PrAnswer::Holder(holder) => holder_line(alloc, holder),
-        PrAnswer::Word(word) => format!(in alloc; "word {word}"),
-        PrAnswer::Value(value) => format!(in alloc; "data {value}"),
-        PrAnswer::Miscompare(word) => format!(in alloc; "miscompare {word}"),
-    }
-}
-
-fn keys_line(alloc: Global, keys: &[u64]) -> Result<String, AllocError>
-    ensures { IfOk result (λ text. string_bytes text ≡ keys_text keys.now) }
-{
-    if keys.is_empty() {
-        return String::from_str(alloc, "keys none");
-    }
-    let mut text = String::from_str(alloc, "keys")?;
-    for key in keys {
-        write!(text, " {key:x}")?;
-    }
+    let mut text = String::new(alloc);
+    push_answer(&mut text, answer)?;
     Ok(text)
 }
 
-fn holder_line(alloc: Global, holder: Option<(u64, PrKind)>) -> Result<String, AllocError>
-    ensures { IfOk result (λ text. string_bytes text ≡ holder_text holder) }
+/// Appends a device's answer.
+pub fn push_answer(text: &mut String, answer: PrAnswer) -> Result<(), AllocError>
+    ensures { OnOk result (string_bytes text.new ≡ string_bytes text.old ++ answer_text answer) }
 {
-    match holder {
-        None => String::from_str(alloc, "reservation none"),
-        Some((key, kind)) => held_line(alloc, key, kind),
+    match answer {
+        PrAnswer::Good => text.push_str("good"),
+        PrAnswer::Conflict => text.push_str("conflict"),
+        PrAnswer::InvalidRelease => text.push_str("invalid-release"),
+        PrAnswer::NoPath => text.push_str("no-path"),
+        PrAnswer::Keys(keys) => push_keys(text, keys.keys()),
+        PrAnswer::Holder(holder) => push_holder(text, holder),
+        PrAnswer::Word(word) => write!(text, "word {word}"),
+        PrAnswer::Value(value) => write!(text, "data {value}"),
+        PrAnswer::Miscompare(word) => write!(text, "miscompare {word}"),
     }
 }
 
-fn held_line(alloc: Global, key: u64, kind: PrKind) -> Result<String, AllocError>
-    ensures { IfOk result (λ text. string_bytes text ≡ held_text key kind) }
+fn push_keys(text: &mut String, keys: &[u64]) -> Result<(), AllocError>
+    ensures { OnOk result (string_bytes text.new ≡ string_bytes text.old ++ keys_text keys.now) }
 {
-    let kind = kind_number(kind);
-    format!(in alloc; "reservation {key:x} {kind}")
+    if keys.is_empty() {
+        return text.push_str("keys none");
+    }
+    text.push_str("keys")?;
+    for key in keys {
+        write!(text, " {key:x}")?;
+    }
+    Ok(())
+}
+
+fn push_holder(text: &mut String, holder: Option<(u64, PrKind)>) -> Result<(), AllocError>
+    ensures { OnOk result (string_bytes text.new ≡ string_bytes text.old ++ holder_text holder) }
+{
+    match holder {
+        None => text.push_str("reservation none"),
+        Some((key, kind)) => push_held(text, key, kind),
+    }
+}
+
+fn push_held(text: &mut String, key: u64, kind: PrKind) -> Result<(), AllocError>
+    ensures { OnOk result (string_bytes text.new ≡ string_bytes text.old ++ held_text key kind) }
+{
+    push_holder_key(text, key)?;
+    text.push_str(kind_number(kind))?;
+    Ok(())
+}
+
+/// What stands before the type.
+fn push_holder_key(text: &mut String, key: u64) -> Result<(), AllocError>
+    ensures { OnOk result (string_bytes text.new ≡ string_bytes text.old ++ (codes "reservation " ++ (hex key ++ codes " "))) }
+{
+    write!(text, "reservation {key:x} ")?;
+    Ok(())
 }
 
 /// The number of the type, as text.

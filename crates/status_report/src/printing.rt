@@ -1,6 +1,7 @@
 ghost use Rattle.std.specs.Prelude.{◌≡◌, IfOk};
 ghost use Rattle.status_report.specs.Lines.{printed, entry_text};
 
+use crate::address_text::address_line;
 use crate::attempt_text::attempt_line;
 use crate::call_text::call_line;
 use crate::device_text::device_line;
@@ -40,6 +41,7 @@ fn line(alloc: Global, entry: &Entry) -> Result<Vec<u8>, AllocError>
         Entry::Call(entry) => call_line(alloc, entry),
         Entry::Command(entry) => command_line(alloc, entry),
         Entry::Status(entry) => status_line(alloc, entry),
+        Entry::Address(entry) => address_line(alloc, entry),
         Entry::Schedule(entry) => Ok(schedule_line(alloc, *entry)?.into_bytes()),
     }
 }

@@ -34,6 +34,7 @@ pub fn refused_text(alloc: Global, refusal: &Refusal) -> Result<Vec<u8>, AllocEr
         Refusal::NoMark => plain(alloc, "no-mark"),
         Refusal::NodeIsMember => plain(alloc, "node-is-member"),
         Refusal::DeviceNotHeld => plain(alloc, "device-not-held"),
+        Refusal::NodeHasVote => plain(alloc, "node-has-vote"),
         Refusal::LoseQuorum { have, need } => Ok(format!(in alloc;
             "lose-quorum {have} {need}"
         )?.into_bytes()),

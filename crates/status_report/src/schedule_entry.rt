@@ -1,5 +1,5 @@
 /// Why a line of a schedule is skipped.
-#[derive(Clone, Copy, Debug, PartialEq, Eq)]
+#[derive(Clone, Copy)]
 pub enum SkipCause {
     /// The node is up.
     Up,
@@ -11,10 +11,14 @@ pub enum SkipCause {
     NoWork,
     /// The resource is not monitored there.
     NoMonitor,
+    /// The node is not the president.
+    NoPresident,
+    /// There is no such shared address.
+    NoAddress,
 }
 
 /// What a line of a schedule comes to that no node answers.
-#[derive(Clone, Copy, Debug, PartialEq, Eq)]
+#[derive(Clone, Copy)]
 pub enum ScheduleEntry {
     /// The clock stands at this second.
     Clock(u64),

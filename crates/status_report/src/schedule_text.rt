@@ -30,5 +30,7 @@ fn skip_word(cause: SkipCause) -> &'static str
         SkipCause::NoPacket => "no-packet",
         SkipCause::NoWork => "no-work",
         SkipCause::NoMonitor => "no-monitor",
+        SkipCause::NoPresident => "no-president",
+        SkipCause::NoAddress => "no-address",
     }
 }

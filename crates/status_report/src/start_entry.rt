@@ -1,7 +1,7 @@
 use cl_base::{Bytes, DevSet, Epoch, Name, NodeId, NodeSet};
 
 /// How a resource stands on a node, as a membership takes it over.
-#[derive(Clone, Copy, Debug, PartialEq, Eq)]
+#[derive(Clone, Copy)]
 pub struct AdoptedFlags {
     /// Its network part is up.
     pub pre: bool,
@@ -16,7 +16,7 @@ pub struct AdoptedFlags {
 }
 
 /// What a membership starts with.
-#[derive(Debug, Drop)]
+#[derive(Drop)]
 pub enum StartEntry {
     /// The membership.
     Started {

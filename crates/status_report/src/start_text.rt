@@ -4,7 +4,7 @@ ghost use Rattle.status_report.specs.StartLines.{start_text, flags_text, letter_
 ghost use Rattle.status_report.specs.declared.start_entry.StartEntry.TheVariants.{Started, Base, Adopted};
 
 use crate::start_entry::{AdoptedFlags, StartEntry};
-use crate::words::{set_text, with_bytes};
+use crate::words::with_bytes;
 use cl_base::{Bytes, DevSet, Epoch, Name, NodeId, NodeSet};
 use std::alloc::{AllocError, Global};
 
@@ -43,8 +43,8 @@ fn started_line(
     ensures { IfOk result (λ line. line.items ≡ start_text (Started epoch members held base)) }
 {
     let epoch = epoch.number();
-    let members = set_text(alloc, members.bits())?;
-    let held = set_text(alloc, held.bits() as u32)?;
+    let members = members.text(alloc)?;
+    let held = held.text(alloc)?;
     Ok(format!(in alloc; "start {epoch} {members} held {held} base {base}")?.into_bytes())
 }
 

@@ -1,7 +1,7 @@
 use cl_base::{Bytes, DevId, GroupState, Name, NodeId, Reason, ResourceState};
 
 /// How a quorum device stands.
-#[derive(Clone, Copy, Debug, PartialEq, Eq)]
+#[derive(Clone, Copy)]
 pub enum QuorumState {
     /// The membership holds it.
     Held,
@@ -12,7 +12,7 @@ pub enum QuorumState {
 }
 
 /// A line of a table's text.
-#[derive(Debug, Drop)]
+#[derive(Drop)]
 pub enum TableLine {
     /// The table's generation number.
     Generation(u64),
@@ -28,7 +28,7 @@ pub enum TableLine {
 }
 
 /// A line of a query's answer.
-#[derive(Debug, Drop)]
+#[derive(Drop)]
 pub enum StatusEntry {
     /// How a group stands on a node.
     Group {

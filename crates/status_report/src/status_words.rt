@@ -50,6 +50,7 @@ pub fn reason_text(alloc: Global, reason: &Reason) -> Result<Vec<u8>, AllocError
         Reason::Leaving => plain(alloc, "leaving"),
         Reason::Affinity(target) => named(alloc, "affinity ", target),
         Reason::Dependency(target) => named(alloc, "dependency ", target),
+        Reason::Load(limit) => named(alloc, "load ", limit),
         Reason::Faulted(resource) => named(alloc, "faulted ", resource),
         Reason::Blocked(resource) => named(alloc, "blocked ", resource),
     }

@@ -1,7 +1,7 @@
 use cl_base::{Bytes, Epoch};
 
 /// An update of the configuration.
-#[derive(Debug, Drop)]
+#[derive(Drop)]
 pub enum UpdateEntry {
     /// The president proposes it.
     Proposed {

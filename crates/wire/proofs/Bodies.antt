@@ -5,9 +5,9 @@ use Rattle.cl_base.specs.declared.method.Method.{Method}
 use Rattle.cl_base.specs.declared.method.Outcome.{Outcome}
 use Rattle.wire.specs.declared.lists.Reading.{Reading}
 use Rattle.wire.specs.declared.report.Report.{Report}
-use Rattle.wire.specs.declared.message.SeizedResult.{SeizedResult}
-use Rattle.wire.specs.declared.message.MessageKind.{MessageKind}
-use Rattle.wire.specs.declared.message.MessageKind.TheVariants as kind
+use Rattle.cl_base.specs.Seizings.{SeizeResult}
+use Rattle.cl_base.specs.declared.packet.MessageKind.{MessageKind}
+use Rattle.cl_base.specs.declared.packet.MessageKind.TheVariants as kind
 use Rattle.wire.specs.declared.message.Body.{Body}
 use Rattle.wire.specs.declared.message.Body.TheVariants as body
 use Rattle.wire.specs.Kinds.{kind_of}
@@ -52,7 +52,7 @@ seize_data_parts : Law (λ (q : ℕ × (ℕ × (ℕ × Unit {0}))). word q.0 ++ 
 unfolding seize_data_at
 seize_data_parts = then number8 (λ a. then number4 (λ b. then device_law (λ c. finish (body.SeizeData a b c))))
 
-seized_parts : Law (λ (q : ℕ × (ℕ × (SeizedResult × Unit {0}))). word q.0 ++ (one q.1.0 ++ (seized_result q.1.1.0 ++ [])))
+seized_parts : Law (λ (q : ℕ × (ℕ × (SeizeResult × Unit {0}))). word q.0 ++ (one q.1.0 ++ (seized_result q.1.1.0 ++ [])))
     (λ q. IsWord q.0 × (IsDevice q.1.0 × (FitsResult q.1.1.0 × Unit {0})))
     (λ q. body.Seized q.0 q.1.0 q.1.1.0) seized_at
 unfolding seized_at

@@ -4,10 +4,11 @@ use Rattle.std.specs.Prelude.{IfOk, MatchOption}
 use Rattle.std.specs.declared.alloc.AllocError.{AllocError}
 use Rattle.std.proofs.lemmas.Bool.{eqb-true}
 use Rattle.std.proofs.lemmas.List.{append-nil, nil_from_length}
-use Rattle.wire.specs.declared.message.MessageKind.{MessageKind}
+use Rattle.cl_base.specs.declared.packet.MessageKind.{MessageKind}
 use Rattle.wire.specs.declared.message.Body.{Body}
 use Rattle.wire.specs.declared.message.Message.{Message}
-use Rattle.wire.specs.Kinds.{kind_byte, kind_of}
+use Rattle.cl_base.specs.Kinds.{kind_byte}
+use Rattle.wire.specs.Kinds.{kind_of}
 use Rattle.wire.specs.Spelling.{one, fields, spelling, Fits, IsNode}
 use Rattle.wire.specs.Reads.{◌>>=◌, kind_at, node_at, body_at, message_at, whole_of}
 use Rattle.wire.proofs.Fields.{IsBytes, bind_some, some_is, guard_some, Taken, FieldLaw}

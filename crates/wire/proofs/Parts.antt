@@ -13,11 +13,11 @@ use Rattle.wire.specs.declared.report.LastFailures.{LastFailures}
 use Rattle.wire.specs.declared.report.LastFailures.TheVariants.{Never, Once, Twice}
 use Rattle.wire.specs.declared.report.ResourceReport.{ResourceReport}
 use Rattle.wire.specs.declared.report.GroupReport.{GroupReport}
-use Rattle.wire.specs.declared.message.SeizedResult.{SeizedResult}
-use Rattle.wire.specs.declared.message.SeizedResult.TheVariants as seized
-use Rattle.wire.specs.declared.message.MessageKind.{MessageKind}
-use Rattle.wire.specs.declared.message.MessageKind.TheVariants as kind
-use Rattle.wire.specs.Kinds.{kind_byte}
+use Rattle.cl_base.specs.Seizings.{SeizeResult}
+use Rattle.cl_base.specs.declared.seizing.SeizeEnd.TheVariants as seized
+use Rattle.cl_base.specs.declared.packet.MessageKind.{MessageKind}
+use Rattle.cl_base.specs.declared.packet.MessageKind.TheVariants as kind
+use Rattle.cl_base.specs.Kinds.{kind_byte}
 use Rattle.wire.specs.Spelling.{number, word, one, set, truth_byte, truth, text, list, at_most_one, method_byte, outcome_byte, worth, marks_byte, seconds_of, reading, resource_report, group_report, report, seized_result, IsWord, IsDevices, IsNode, IsDevice, IsShortText, IsShortList, IsShortResource, FitsReading, FitsGroup, FitsReport, FitsResult}
 use Rattle.wire.specs.Reads.{◌>>=◌, number_at, byte_at, truth_at, node_at, device_at, devices_at, at_most_one_at, methods, method_at, outcome_at, kinds, kind_at, marks_of, marks_at, failures_at, reading_at, resource_at, group_at, report_at, seized_of, seized_result_at}
 use Rattle.wire.proofs.Fields.{IsBytes, bind_some, some_is, guard_some, chosen, Taken, Law, FieldLaw, finish, pick, then, Back, recast, tested, refit, number2, number4, number8, byte_law, code_law, text_law, list_law}
@@ -359,12 +359,12 @@ report_law = recast report FitsReport report_parts (λ q f. (refl, (f.0, f.1.0))
 
 -- ---- how a seizing ended
 
-seized_parts : Law (λ (q : ℕ × (ℕ × (List ℕ × SeizedResult))). one q.0 ++ (word q.1.0 ++ (list word q.1.1.0 ++ [])))
+seized_parts : Law (λ (q : ℕ × (ℕ × (List ℕ × SeizeResult))). one q.0 ++ (word q.1.0 ++ (list word q.1.1.0 ++ [])))
     (λ q. (q.0 < 256) × (IsWord q.1.0 × (IsShortList IsWord q.1.1.0 × (seized_of q.0 q.1.0 q.1.1.0 ≡ Some q.1.1.1)))) (λ q. q.1.1.1) seized_result_at
 unfolding seized_result_at
 seized_parts = then byte_law (λ c. then number8 (λ n. then (list_law number8) (λ k. pick (seized_of c n k))))
 
-record Ended (c n : ℕ) (keys : List ℕ) (r : SeizedResult) : Type 0 where
+record Ended (c n : ℕ) (keys : List ℕ) (r : SeizeResult) : Type 0 where
   same : one c ++ (word n ++ (list word keys ++ [])) ≡ seized_result r
   fitting : FitsResult r
 
@@ -374,14 +374,14 @@ zero_number n e = eqb-true n 0 e
 no_keys : (keys : List ℕ) → eqb (length keys) 0 ≡ true → keys ≡ []
 no_keys keys e = nil_from_length keys (eqb-true (length keys) 0 e)
 
-ended : (c n c' n' : ℕ) (keys keys' : List ℕ) (r r' : SeizedResult) → c ≡ c' → n ≡ n' → keys ≡ keys' → r' ≡ r → one c' ++ (word n' ++ (list word keys' ++ [])) ≡ seized_result r' → FitsResult r' → Ended c n keys r
+ended : (c n c' n' : ℕ) (keys keys' : List ℕ) (r r' : SeizeResult) → c ≡ c' → n ≡ n' → keys ≡ keys' → r' ≡ r → one c' ++ (word n' ++ (list word keys' ++ [])) ≡ seized_result r' → FitsResult r' → Ended c n keys r
 ended c n c' n' keys keys' r r' ec en ek er same fits =
-    subst (λ (x : SeizedResult). Ended c n keys x) er (record {
+    subst (λ (x : SeizeResult). Ended c n keys x) er (record {
       same = ap (λ (x : ℕ). one x ++ (word n ++ (list word keys ++ []))) ec ∙ ap (λ (x : ℕ). one c' ++ (word x ++ (list word keys ++ []))) en ∙ ap (λ (x : List ℕ). one c' ++ (word n' ++ (list word x ++ []))) ek ∙ same;
       fitting = fits;
     })
 
-seized_ended : (c n : ℕ) (keys : List ℕ) (r : SeizedResult) → IsWord n → IsShortList IsWord keys → seized_of c n keys ≡ Some r → Ended c n keys r
+seized_ended : (c n : ℕ) (keys : List ℕ) (r : SeizeResult) → IsWord n → IsShortList IsWord keys → seized_of c n keys ≡ Some r → Ended c n keys r
 seized_ended c n keys r fn fk e =
     elim (chosen ((eqb c 0) && (eqb n 0)) (Some (seized.Held keys)) _ (Some r) e) [
       | inl p ↦ let t = and_parts _ _ p.0 in ended c n 0 0 keys keys r (seized.Held keys) (eqb-true c 0 t.0) (zero_number n t.1) refl (some_is _ _ p.1) refl fk
@@ -403,14 +403,14 @@ seized_ended c n keys r fn fk e =
       ]
     ]
 
-abbrev SeizedBack : SeizedResult → Type 0
-SeizedBack m = Back (λ (q : ℕ × (ℕ × (List ℕ × SeizedResult))). one q.0 ++ (word q.1.0 ++ (list word q.1.1.0 ++ [])))
+abbrev SeizedBack : SeizeResult → Type 0
+SeizedBack m = Back (λ (q : ℕ × (ℕ × (List ℕ × SeizeResult))). one q.0 ++ (word q.1.0 ++ (list word q.1.1.0 ++ [])))
     (λ q. (q.0 < 256) × (IsWord q.1.0 × (IsShortList IsWord q.1.1.0 × (seized_of q.0 q.1.0 q.1.1.0 ≡ Some q.1.1.1)))) (λ q. q.1.1.1) (seized_result m) m
 
 none_short : IsShortList IsWord []
 none_short = (omega arith, tt)
 
-seized_back : (m : SeizedResult) → FitsResult m → SeizedBack m
+seized_back : (m : SeizeResult) → FitsResult m → SeizedBack m
 seized_back (seized.Held keys) f = record { value = (0, (0, (keys, seized.Held keys))); made = refl; fitting = (omega arith, (omega arith, (f, refl))); same = refl }
 seized_back (seized.NotRegistered keys) f = record { value = (1, (0, (keys, seized.NotRegistered keys))); made = refl; fitting = (omega arith, (omega arith, (f, refl))); same = refl }
 seized_back (seized.Greater w) f = record { value = (2, (w, ([], seized.Greater w))); made = refl; fitting = (omega arith, (f, (none_short, refl))); same = refl }

@@ -3,8 +3,8 @@ use Rattle.std.proofs.Common.{◌≡◌, ℕ, zero, suc, ◌<◌, List, [], ◌�
 use Rattle.std.specs.List.{AllByRecursion}
 use Rattle.wire.specs.declared.lists.Reading.{Reading}
 use Rattle.wire.specs.declared.report.GroupReport.{GroupReport}
-use Rattle.wire.specs.declared.message.SeizedResult.{SeizedResult}
-use Rattle.wire.specs.declared.message.SeizedResult.TheVariants as seized
+use Rattle.cl_base.specs.Seizings.{SeizeResult}
+use Rattle.cl_base.specs.declared.seizing.SeizeEnd.TheVariants as seized
 use Rattle.wire.specs.declared.message.Body.{Body}
 use Rattle.wire.specs.declared.message.Body.TheVariants as body
 use Rattle.wire.specs.Spelling.{IsShortReading, IsShortGroup, IsShortResult, IsShort, FitsReading, FitsGroup, FitsResult, FitsBody}
@@ -22,7 +22,7 @@ groups_short : (xs : List GroupReport) → AllByRecursion FitsGroup xs → AllBy
 groups_short [] f = tt
 groups_short (x ∷ xs) f = (f.0.0, groups_short xs f.1)
 
-result_short : (r : SeizedResult) → FitsResult r → IsShortResult r
+result_short : (r : SeizeResult) → FitsResult r → IsShortResult r
 result_short (seized.Held keys) f = f.0
 result_short (seized.NotRegistered keys) f = f.0
 result_short (seized.Greater w) f = tt

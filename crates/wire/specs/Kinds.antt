@@ -1,30 +1,9 @@
--- The kinds of messages and their bytes.
-use Rattle.std.specs.Prelude.{ℕ}
-use Rattle.wire.specs.declared.message.MessageKind.{MessageKind}
-use Rattle.wire.specs.declared.message.MessageKind.TheVariants as kind
+-- The kinds of messages.
+use Rattle.std.specs.Prelude.{Bool, true, false}
+use Rattle.cl_base.specs.declared.packet.MessageKind.{MessageKind}
+use Rattle.cl_base.specs.declared.packet.MessageKind.TheVariants as kind
 use Rattle.wire.specs.declared.message.Body.{Body}
 use Rattle.wire.specs.declared.message.Body.TheVariants as body
-
--- the byte that a message of the kind begins with
-abbrev pub kind_byte : MessageKind → ℕ
-kind_byte kind.Heartbeat = 1
-kind_byte kind.Collect = 2
-kind_byte kind.Promise = 3
-kind_byte kind.Nack = 4
-kind_byte kind.SeizeQuorum = 5
-kind_byte kind.SeizeData = 6
-kind_byte kind.Seized = 7
-kind_byte kind.Install = 8
-kind_byte kind.Ready = 9
-kind_byte kind.Start = 10
-kind_byte kind.Prepare = 11
-kind_byte kind.Prepared = 12
-kind_byte kind.Commit = 13
-kind_byte kind.Order = 14
-kind_byte kind.Done = 15
-kind_byte kind.Request = 16
-kind_byte kind.Answer = 17
-kind_byte kind.Excluded = 18
 
 abbrev pub kind_of : Body → MessageKind
 kind_of (body.Heartbeat promised session member) = kind.Heartbeat
@@ -45,3 +24,19 @@ kind_of (body.Done epoch number outcome) = kind.Done
 kind_of (body.Request epoch number text) = kind.Request
 kind_of (body.Answer epoch number text) = kind.Answer
 kind_of (body.Excluded epoch newest) = kind.Excluded
+
+abbrev pub is_promise : Body → Bool
+is_promise (body.Promise epoch installed members valid flagged committed pending) = true
+is_promise _ = false
+
+abbrev pub is_ready : Body → Bool
+is_ready (body.Ready epoch joined report) = true
+is_ready _ = false
+
+-- the kinds that the phases of an attempt have beside the installing
+abbrev pub is_of_attempt : Body → Bool
+is_of_attempt (body.Promise epoch installed members valid flagged committed pending) = true
+is_of_attempt (body.SeizeQuorum epoch members device) = true
+is_of_attempt (body.SeizeData epoch members device) = true
+is_of_attempt (body.Seized epoch device outcome) = true
+is_of_attempt _ = false

@@ -14,14 +14,14 @@ use Rattle.wire.specs.declared.report.LastFailures.TheVariants.{Never, Once, Twi
 use Rattle.wire.specs.declared.report.ResourceReport.{ResourceReport}
 use Rattle.wire.specs.declared.report.GroupReport.{GroupReport}
 use Rattle.wire.specs.declared.report.Report.{Report}
-use Rattle.wire.specs.declared.message.SeizedResult.{SeizedResult}
-use Rattle.wire.specs.declared.message.SeizedResult.TheVariants as seized
-use Rattle.wire.specs.declared.message.MessageKind.{MessageKind}
-use Rattle.wire.specs.declared.message.MessageKind.TheVariants as kind
+use Rattle.cl_base.specs.Seizings.{SeizeResult}
+use Rattle.cl_base.specs.declared.seizing.SeizeEnd.TheVariants as seized
+use Rattle.cl_base.specs.declared.packet.MessageKind.{MessageKind}
+use Rattle.cl_base.specs.declared.packet.MessageKind.TheVariants as kind
 use Rattle.wire.specs.declared.message.Body.{Body}
 use Rattle.wire.specs.declared.message.Body.TheVariants as body
 use Rattle.wire.specs.declared.message.Message.{Message}
-use Rattle.wire.specs.Kinds.{kind_byte}
+use Rattle.cl_base.specs.Kinds.{kind_byte}
 use Rattle.wire.specs.Spelling.{truth_byte, method_byte, outcome_byte}
 use Rattle.wire.specs.declared.stop.Stop.{Stop}
 use Rattle.wire.specs.declared.stop.Stop.TheVariants.{NoMemory, NoSpelling}
@@ -196,7 +196,7 @@ report_at bytes = do
   Some (record { resources = resources.0; groups = groups.0 }, groups.1)
 
 -- how a seizing ended, of its byte, its number and its keys
-abbrev pub seized_of : ℕ → ℕ → List ℕ → Option SeizedResult
+abbrev pub seized_of : ℕ → ℕ → List ℕ → Option SeizeResult
 seized_of code n keys =
     if (code == 0) && (n == 0) then Some (seized.Held keys)
     else if (code == 1) && (n == 0) then Some (seized.NotRegistered keys)
@@ -206,7 +206,7 @@ seized_of code n keys =
     else if (code == 5) && (n == 0) && (length keys == 0) then Some seized.Fault
     else None
 
-unfoldable pub seized_result_at : List ℕ → Option (SeizedResult × List ℕ)
+unfoldable pub seized_result_at : List ℕ → Option (SeizeResult × List ℕ)
 seized_result_at bytes = do
   code ← byte_at bytes
   n ← number_at 8 code.1

@@ -15,12 +15,13 @@ use Rattle.wire.specs.declared.report.LastFailures.TheVariants.{Never, Once, Twi
 use Rattle.wire.specs.declared.report.ResourceReport.{ResourceReport}
 use Rattle.wire.specs.declared.report.GroupReport.{GroupReport}
 use Rattle.wire.specs.declared.report.Report.{Report}
-use Rattle.wire.specs.declared.message.SeizedResult.{SeizedResult}
-use Rattle.wire.specs.declared.message.SeizedResult.TheVariants as seized
+use Rattle.cl_base.specs.Seizings.{SeizeResult}
+use Rattle.cl_base.specs.declared.seizing.SeizeEnd.TheVariants as seized
 use Rattle.wire.specs.declared.message.Body.{Body}
 use Rattle.wire.specs.declared.message.Body.TheVariants as body
 use Rattle.wire.specs.declared.message.Message.{Message}
-use Rattle.wire.specs.Kinds.{kind_byte, kind_of}
+use Rattle.cl_base.specs.Kinds.{kind_byte}
+use Rattle.wire.specs.Kinds.{kind_of}
 
 -- ---- fields
 
@@ -98,7 +99,7 @@ group_report r = concat (text r.group ∷ list word (seconds_of r.failures) ∷ 
 
 -- how a seizing ended: a byte, a number (the word or the key, else 0) and a list of keys (those that were
 -- read last, where they tell anything, else none)
-abbrev pub seized_result : SeizedResult → List ℕ
+abbrev pub seized_result : SeizeResult → List ℕ
 seized_result (seized.Held keys) = concat (one 0 ∷ word 0 ∷ list word keys ∷ [])
 seized_result (seized.NotRegistered keys) = concat (one 1 ∷ word 0 ∷ list word keys ∷ [])
 seized_result (seized.Greater w) = concat (one 2 ∷ word w ∷ list word [] ∷ [])
@@ -155,7 +156,7 @@ IsShortGroup r = IsShortText r.group
 abbrev pub IsShortReport : Report → Type 0
 IsShortReport r = IsShortList IsShortResource r.resources × IsShortList IsShortGroup r.groups
 
-abbrev pub IsShortResult : SeizedResult → Type 0
+abbrev pub IsShortResult : SeizeResult → Type 0
 IsShortResult (seized.Held keys) = length keys < 2 ^ 16
 IsShortResult (seized.NotRegistered keys) = length keys < 2 ^ 16
 IsShortResult (seized.Greater w) = Unit {0}
@@ -209,7 +210,7 @@ FitsGroup r = IsShortText r.group × AllByRecursion IsWord (seconds_of r.failure
 abbrev pub FitsReport : Report → Type 0
 FitsReport r = IsShortList IsShortResource r.resources × IsShortList FitsGroup r.groups
 
-abbrev pub FitsResult : SeizedResult → Type 0
+abbrev pub FitsResult : SeizeResult → Type 0
 FitsResult (seized.Held keys) = IsShortList IsWord keys
 FitsResult (seized.NotRegistered keys) = IsShortList IsWord keys
 FitsResult (seized.Greater w) = IsWord w

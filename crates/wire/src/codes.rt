@@ -2,11 +2,10 @@ ghost use Rattle.std.specs.Prelude.{◌≡◌, ◌≤◌};
 ghost use Rattle.wire.specs.Spelling.{method_byte, outcome_byte, marks_byte, worth};
 ghost use Rattle.wire.specs.Reads.{Gives, method_of, outcome_of, kind_of_byte, method_at, outcome_at, kind_at, marks_at};
 
-use crate::message::MessageKind;
 use crate::reader::Reader;
 use crate::report::Marks;
 use crate::stop::Stop;
-use cl_base::{Method, Outcome};
+use cl_base::{MessageKind, Method, Outcome};
 
 /// The byte of a method, or of a clear in its place.
 pub fn method_byte(method: Option<Method>) -> u8

@@ -5,10 +5,11 @@ ghost use Rattle.wire.specs.Reads.{Gives, heartbeat_at, collect_at, promise_at, 
 use crate::codes::{kind, method, outcome};
 use crate::item::{at_most_one, list};
 use crate::lists::{Keys, Readings, Texts};
-use crate::message::{Body, Install, Message, MessageKind, Order, SeizedResult};
+use crate::message::{Body, Install, Message, Order, SeizedResult};
 use crate::reader::Reader;
 use crate::report::{GroupReports, Report, ResourceReports};
 use crate::stop::Stop;
+use cl_base::MessageKind;
 use std::alloc::{AllocError, Global};
 
 #[tactic(auto, unfolding(crate::specs::Reads::heartbeat_at))]
@@ -298,6 +299,7 @@ fn whole(alloc: Global, bytes: &[u8]) -> Result<Option<Message>, AllocError>
 /// The message that the bytes spell, and None where they spell none. `AllocError` where the memory
 /// does not suffice for the message.
 pub fn decode(alloc: Global, bytes: &[u8]) -> Result<Option<Message>, AllocError>
+    ensures whole { IfOk result (λ found. found ≡ whole_of bytes.now) }
     // The message that is found is spelled so; where none is, none is spelled so.
     ensures found { IfOk result (λ found. MatchOption found ((m : Message) → Fits m → bytes.now ≢ spelling m) (λ m. Fits m × (bytes.now ≡ spelling m))) }
 {

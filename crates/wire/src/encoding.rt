@@ -1,5 +1,6 @@
-ghost use Rattle.std.specs.Prelude.{◌≡◌, ◌++◌, ◌<◌, ◌^◌, [], length, OnOk, IfOk, IfSome};
+ghost use Rattle.std.specs.Prelude.{◌≡◌, ◌++◌, ◌<◌, ◌^◌, [], true, length, OnOk, IfOk, IfSome};
 ghost use Rattle.wire.specs.Spelling.{word, set, one, truth, text, list, at_most_one, report, seized_result, outcome_byte, fields, spelling, IsShort, IsShortText, IsShortList, IsShortReport, IsShortResult, IsWord, IsNodes, IsDevice, FitsResult, FitsReport, FitsBody, Fits};
+ghost use Rattle.wire.specs.Kinds.{is_of_attempt};
 
 use crate::codes::{method_byte, outcome_byte};
 use crate::item::{put_at_most_one, put_keys, put_list};
@@ -7,8 +8,7 @@ use crate::lists::{Keys, Texts};
 use crate::message::{Body, Install, Message, Order, SeizedResult};
 use crate::report::Report;
 use crate::writer::Writer;
-use ccr_commit::Text;
-use cl_base::{DevId, Epoch, NodeSet};
+use cl_base::{Bytes, DevId, Epoch, NodeSet};
 use std::alloc::{AllocError, Global};
 
 fn put_epochs(writer: &mut Writer, first: Epoch, second: Epoch) -> Result<(), AllocError>
@@ -31,7 +31,7 @@ fn put_numbered_text(
     writer: &mut Writer,
     epoch: Epoch,
     number: u64,
-    words: &Text,
+    words: &Bytes,
 ) -> Result<(), AllocError>
     requires { IsShortText words.now }
     ensures spelled { OnOk result (writer.new ≡ writer.old ++ (word epoch ++ (word number ++ text words.now))) }
@@ -66,7 +66,7 @@ fn put_seize(
 fn put_updates(
     writer: &mut Writer,
     committed: &Texts,
-    pending: &Option<Text>,
+    pending: &Option<Bytes>,
 ) -> Result<(), AllocError>
     requires committed { IsShortList IsShortText committed.now }
     requires pending { IfSome pending.now IsShortText }
@@ -141,6 +141,52 @@ fn put_order(writer: &mut Writer, order: &Order) -> Result<(), AllocError>
     writer.text(&order.resource)
 }
 
+/// Writes the fields of a message by which a membership is found.
+fn put_of_attempt(writer: &mut Writer, body: &Body) -> Result<(), AllocError>
+    requires short { IsShort body.now }
+    requires kind { is_of_attempt body.now ≡ true }
+    ensures spelled { OnOk result (writer.new ≡ writer.old ++ fields body.now) }
+    ensures range { OnOk result (FitsBody body.now) }
+{
+    match body {
+        Body::Promise {
+            epoch,
+            installed,
+            members,
+            valid,
+            flagged,
+            committed,
+            pending,
+        } => {
+            put_epochs(writer, *epoch, *installed)?;
+            writer.nodes(*members)?;
+            writer.devices(*valid)?;
+            writer.truth(*flagged)?;
+            put_updates(writer, committed, pending)
+        }
+        Body::SeizeQuorum {
+            epoch,
+            members,
+            device,
+        }
+        | Body::SeizeData {
+            epoch,
+            members,
+            device,
+        } => put_seize(writer, *epoch, *members, *device),
+        Body::Seized {
+            epoch,
+            device,
+            outcome,
+        } => {
+            writer.epoch(*epoch)?;
+            writer.device(*device)?;
+            put_result(writer, outcome)
+        }
+        _ => Ok(()),
+    }
+}
+
 /// Writes the fields of a message.
 fn put_body(writer: &mut Writer, body: &Body) -> Result<(), AllocError>
     requires { IsShort body.now }
@@ -157,41 +203,11 @@ fn put_body(writer: &mut Writer, body: &Body) -> Result<(), AllocError>
             writer.truth(*member)
         }
         Body::Collect { epoch, members } => put_members(writer, *epoch, *members),
-        Body::Promise {
-            epoch,
-            installed,
-            members,
-            valid,
-            flagged,
-            committed,
-            pending,
-        } => {
-            put_epochs(writer, *epoch, *installed)?;
-            writer.nodes(*members)?;
-            writer.devices(*valid)?;
-            writer.truth(*flagged)?;
-            put_updates(writer, committed, pending)
-        }
+        Body::Promise { .. }
+        | Body::SeizeQuorum { .. }
+        | Body::SeizeData { .. }
+        | Body::Seized { .. } => put_of_attempt(writer, body),
         Body::Nack { epoch, promised } => put_epochs(writer, *epoch, *promised),
-        Body::SeizeQuorum {
-            epoch,
-            members,
-            device,
-        } => put_seize(writer, *epoch, *members, *device),
-        Body::SeizeData {
-            epoch,
-            members,
-            device,
-        } => put_seize(writer, *epoch, *members, *device),
-        Body::Seized {
-            epoch,
-            device,
-            outcome,
-        } => {
-            writer.epoch(*epoch)?;
-            writer.device(*device)?;
-            put_result(writer, outcome)
-        }
         Body::Install(install) => put_install(writer, install),
         Body::Ready {
             epoch,
@@ -204,8 +220,9 @@ fn put_body(writer: &mut Writer, body: &Body) -> Result<(), AllocError>
         }
         Body::Start { epoch } => writer.epoch(*epoch),
         Body::Prepare { epoch, place, text } => put_numbered_text(writer, *epoch, *place, text),
-        Body::Prepared { epoch, place } => put_numbered(writer, *epoch, *place),
-        Body::Commit { epoch, place } => put_numbered(writer, *epoch, *place),
+        Body::Prepared { epoch, place } | Body::Commit { epoch, place } => {
+            put_numbered(writer, *epoch, *place)
+        }
         Body::Order(order) => put_order(writer, order),
         Body::Done {
             epoch,
@@ -219,8 +236,8 @@ fn put_body(writer: &mut Writer, body: &Body) -> Result<(), AllocError>
             epoch,
             number,
             text,
-        } => put_numbered_text(writer, *epoch, *number, text),
-        Body::Answer {
+        }
+        | Body::Answer {
             epoch,
             number,
             text,

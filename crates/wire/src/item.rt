@@ -9,7 +9,7 @@ use crate::reader::Reader;
 use crate::report::{GroupReport, LastFailures, ResourceReport};
 use crate::stop::Stop;
 use crate::writer::Writer;
-use ccr_commit::Text;
+use cl_base::Bytes;
 use std::alloc::{AllocError, Global};
 
 /// What a list in a message holds.
@@ -114,7 +114,7 @@ impl Item for u64 {
     }
 }
 
-impl Item for Text {
+impl Item for Bytes {
     ghost spelled = { text };
 
     ghost is_short = { IsShortText };
@@ -127,7 +127,7 @@ impl Item for Text {
         writer.text(self)
     }
 
-    fn take(alloc: Global, reader: &mut Reader<'_>) -> Result<Text, Stop> {
+    fn take(alloc: Global, reader: &mut Reader<'_>) -> Result<Bytes, Stop> {
         reader.text(alloc)
     }
 }

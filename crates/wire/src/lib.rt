@@ -2,10 +2,13 @@
 #![tactic(auto)]
 
 mod codes;
+mod copying;
 mod decoding;
 mod encoding;
+mod epochs;
 mod item;
 mod laws;
+mod limits;
 mod lists;
 mod message;
 mod reader;
@@ -13,11 +16,12 @@ mod report;
 mod stop;
 mod writer;
 
+pub use copying::{copy_install, copy_pending, copy_promise, copy_ready, copy_texts};
 pub use decoding::decode;
 pub use encoding::encode;
-pub use laws::spellings_are_apart;
+pub use laws::{spellings_are_apart, spellings_have_their_length};
 pub use lists::{Keys, Reading, Readings, Texts};
-pub use message::{Body, Install, Message, MessageKind, Order, SeizedResult};
+pub use message::{Body, Install, Message, Order, SeizedResult};
 pub use report::{
     GroupReport, GroupReports, LastFailures, Marks, Report, ResourceReport, ResourceReports,
 };

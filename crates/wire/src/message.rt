@@ -1,59 +1,14 @@
 ghost use Rattle.std.specs.Prelude.{◌≡◌};
-ghost use Rattle.wire.specs.Kinds.{kind_byte, kind_of};
+ghost use Rattle.wire.specs.Kinds.{kind_of};
 
 use crate::lists::{Keys, Readings, Texts};
 use crate::report::Report;
-use ccr_commit::Text;
-use cl_base::{DevId, DevSet, Epoch, Method, NodeId, NodeSet, Outcome};
+use cl_base::{
+    Bytes, DevId, DevSet, Epoch, MessageKind, Method, NodeId, NodeSet, Outcome, SeizeEnd,
+};
 
-/// The kind of a message.
-#[derive(Clone, Copy, Debug, PartialEq, Eq)]
-pub enum MessageKind {
-    Heartbeat = 1,
-    Collect,
-    Promise,
-    Nack,
-    SeizeQuorum,
-    SeizeData,
-    Seized,
-    Install,
-    Ready,
-    Start,
-    Prepare,
-    Prepared,
-    Commit,
-    Order,
-    Done,
-    Request,
-    Answer,
-    Excluded,
-}
-
-impl MessageKind {
-    /// The byte of the kind, 1 to 18.
-    pub fn byte(self) -> u8
-        ensures value { result ≡ kind_byte self }
-    {
-        self as u8
-    }
-}
-
-/// How the seizing of a device ended.
-#[derive(Debug, Drop)]
-pub enum SeizedResult {
-    /// The device is held; the keys that were read last.
-    Held(Keys),
-    /// The seizer's key is not registered there; the keys that were read last.
-    NotRegistered(Keys),
-    /// The device's word is greater than the attempt's epoch; the word.
-    Greater(u64),
-    /// The seizer's key was removed.
-    Expelled,
-    /// Another key stands in the way; the key.
-    Contended(u64),
-    /// The device failed.
-    Fault,
-}
+/// How a seizing ended, with the keys that were read last.
+pub type SeizedResult = SeizeEnd<Keys>;
 
 /// A membership as its coordinator has it installed.
 #[derive(Debug, Drop)]
@@ -65,7 +20,7 @@ pub struct Install {
     /// The committed updates.
     pub committed: Texts,
     /// The pending update, if there is one.
-    pub pending: Option<Text>,
+    pub pending: Option<Bytes>,
     /// What was read on the devices that are held.
     pub readings: Readings,
 }
@@ -80,7 +35,7 @@ pub struct Order {
     /// The method; none of an order to clear.
     pub method: Option<Method>,
     /// The resource's name.
-    pub resource: Text,
+    pub resource: Bytes,
 }
 
 /// What a message says, by kind.
@@ -108,7 +63,7 @@ pub enum Body {
         /// Whether any resource has a flag on the sender.
         flagged: bool,
         committed: Texts,
-        pending: Option<Text>,
+        pending: Option<Bytes>,
     },
     /// The sender has promised a greater epoch.
     Nack {
@@ -149,7 +104,7 @@ pub enum Body {
     Prepare {
         epoch: Epoch,
         place: u64,
-        text: Text,
+        text: Bytes,
     },
     /// The sender has prepared the update.
     Prepared {
@@ -173,13 +128,13 @@ pub enum Body {
     Request {
         epoch: Epoch,
         number: u64,
-        text: Text,
+        text: Bytes,
     },
     /// The answer to the command.
     Answer {
         epoch: Epoch,
         number: u64,
-        text: Text,
+        text: Bytes,
     },
     /// The receiver is no member of a newer membership.
     Excluded {

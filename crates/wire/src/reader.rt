@@ -3,8 +3,7 @@ ghost use Rattle.wire.specs.Reads.{Gives, number_at, byte_at, truth_at, node_at,
 
 use crate::stop::Stop;
 use byteorder::{BigEndian, ByteOrder};
-use ccr_commit::Text;
-use cl_base::{DevId, DevSet, Epoch, NodeId, NodeSet};
+use cl_base::{Bytes, DevId, DevSet, Epoch, NodeId, NodeSet};
 use std::alloc::Global;
 use std::marker::Model;
 
@@ -154,7 +153,7 @@ impl<'a> Reader<'a> {
 
     /// Reads a text.
     #[tactic(auto, unfolding(crate::specs::Reads::text_at))]
-    pub fn text(&mut self, alloc: Global) -> Result<Text, Stop>
+    pub fn text(&mut self, alloc: Global) -> Result<Bytes, Stop>
         ensures { Gives result (text_at self.old) self.new }
     {
         let length = self.length()? as usize;
@@ -163,6 +162,6 @@ impl<'a> Reader<'a> {
         }
         let text = Vec::from_slice(alloc, &self.rest[..length])?;
         self.rest = &self.rest[length..];
-        Ok(Text::new(text))
+        Ok(Bytes::new(text))
     }
 }

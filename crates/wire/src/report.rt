@@ -1,7 +1,4 @@
-ghost use Rattle.std.specs.Prelude.{◌≡◌};
-
-use ccr_commit::Text;
-use std::marker::Model;
+use cl_base::{Bytes, Items};
 
 /// The flags and marks of a resource on a node.
 #[derive(Clone, Copy, Debug, PartialEq, Eq)]
@@ -35,83 +32,27 @@ pub enum LastFailures {
 #[derive(Debug, Drop)]
 pub struct ResourceReport {
     /// The resource's name.
-    pub resource: Text,
+    pub resource: Bytes,
     /// Its flags and marks on the node.
     pub marks: Marks,
 }
 
-/// Reports of resources in order. Contracts see the list of them.
-#[derive(Debug, Drop)]
-pub struct ResourceReports {
-    reports: Vec<ResourceReport>,
-}
-
-impl Model for ResourceReports {
-    ghost use Rattle.std.specs.Prelude.{List};
-    ghost use Rattle.wire.specs.declared.report.ResourceReport.{ResourceReport};
-
-    ghost Value = { List ResourceReport };
-
-    ghost view = { λ r. r.reports.items };
-}
-
-impl ResourceReports {
-    /// These reports.
-    pub fn new(items: Vec<ResourceReport>) -> ResourceReports
-        ensures value { result ≡ items.items }
-    {
-        ResourceReports { reports: items }
-    }
-
-    /// The reports in order.
-    pub fn items(&self) -> &[ResourceReport]
-        ensures value { result.now ≡ self.now }
-    {
-        self.reports.as_slice()
-    }
-}
+/// What is reported of resources, in order.
+pub type ResourceReports = Items<ResourceReport>;
 
 /// What a node reports of a group.
 #[derive(Debug, Drop)]
 pub struct GroupReport {
     /// The group's name.
-    pub group: Text,
+    pub group: Bytes,
     /// The seconds at which it last failed to start on the node.
     pub failures: LastFailures,
     /// The second at which a monitor last asked to move it from the node.
     pub moved: Option<u64>,
 }
 
-/// Reports of groups in order. Contracts see the list of them.
-#[derive(Debug, Drop)]
-pub struct GroupReports {
-    reports: Vec<GroupReport>,
-}
-
-impl Model for GroupReports {
-    ghost use Rattle.std.specs.Prelude.{List};
-    ghost use Rattle.wire.specs.declared.report.GroupReport.{GroupReport};
-
-    ghost Value = { List GroupReport };
-
-    ghost view = { λ r. r.reports.items };
-}
-
-impl GroupReports {
-    /// These reports.
-    pub fn new(items: Vec<GroupReport>) -> GroupReports
-        ensures value { result ≡ items.items }
-    {
-        GroupReports { reports: items }
-    }
-
-    /// The reports in order.
-    pub fn items(&self) -> &[GroupReport]
-        ensures value { result.now ≡ self.now }
-    {
-        self.reports.as_slice()
-    }
-}
+/// What is reported of groups, in order.
+pub type GroupReports = Items<GroupReport>;
 
 /// What a node reports of its resources and groups where it joins a membership.
 #[derive(Debug, Drop)]

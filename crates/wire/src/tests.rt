@@ -4,17 +4,73 @@ use std::alloc::Global;
 use std::process::Abort;
 use std::test::*;
 
-/// The bytes spell a message of this kind, and are its spelling.
-fn expect(rt: &impl Abort, alloc: Global, bytes: &[u8], kind: MessageKind) -> Result<(), Fail> {
-    let found = decode(alloc, bytes)?.ok_or("no message")?;
-    assert!(rt; found.body.kind() == kind);
-    assert_eq!(rt; encode(alloc, &found)?.as_slice(), bytes);
-    Ok(())
+/// Spellings, each with its kind and its bytes.
+const SPELLINGS: &str = "\
+Heartbeat: 1 1 0 0 0 0 0 0 0 65 0 0 0 0 0 0 0 65 1\n\
+Collect: 2 1 0 0 0 0 0 0 0 65 0 0 0 3\n\
+Promise: 3 2 0 0 0 0 0 0 0 129 0 0 0 0 0 0 0 65 0 0 0 3 0 0 0 1 0 0 2 0 0 0 1 97 0 0 0 2 98 99 \
+    0 1 0 0 0 1 100\n\
+Nack: 4 2 0 0 0 0 0 0 0 65 0 0 0 0 0 0 0 129\n\
+SeizeQuorum: 5 1 0 0 0 0 0 0 0 65 0 0 0 3 1\n\
+SeizeData: 6 1 0 0 0 0 0 0 0 65 0 0 0 3 16\n\
+Seized: 7 2 0 0 0 0 0 0 0 65 1 0 0 0 0 0 0 0 0 0 0 2 0 0 0 0 0 0 0 1 0 0 0 0 0 0 0 2\n\
+Seized: 7 2 0 0 0 0 0 0 0 65 1 2 0 0 0 0 0 0 0 129 0 0\n\
+Seized: 7 2 0 0 0 0 0 0 0 65 1 3 0 0 0 0 0 0 0 0 0 0\n\
+Install: 8 1 0 0 0 0 0 0 0 65 0 0 0 3 0 1 0 0 0 1 97 0 0 0 1 1 2 0 1 0 0 0 0 0 0 0 7\n\
+Ready: 9 2 0 0 0 0 0 0 0 65 0 0 0 1 0 1 0 0 0 1 114 35 0 1 0 0 0 1 103 0 2 0 0 0 0 0 0 0 5 0 0 \
+    0 0 0 0 0 9 0 1 0 0 0 0 0 0 0 8\n\
+Start: 10 1 0 0 0 0 0 0 0 65\n\
+Prepare: 11 1 0 0 0 0 0 0 0 65 0 0 0 0 0 0 0 1 0 0 0 1 97\n\
+Prepared: 12 2 0 0 0 0 0 0 0 65 0 0 0 0 0 0 0 1\n\
+Commit: 13 1 0 0 0 0 0 0 0 65 0 0 0 0 0 0 0 1\n\
+Order: 14 1 0 0 0 0 0 0 0 65 0 0 0 0 0 0 0 4 12 0 0 0 1 114\n\
+Order: 14 1 0 0 0 0 0 0 0 65 0 0 0 0 0 0 0 4 0 0 0 0 1 114\n\
+Done: 15 2 0 0 0 0 0 0 0 65 0 0 0 0 0 0 0 4 2\n\
+Request: 16 32 0 0 0 0 0 0 0 65 0 0 0 0 0 0 0 1 0 0 0 2 97 98\n\
+Answer: 17 1 0 0 0 0 0 0 0 65 0 0 0 0 0 0 0 1 0 0 0 2 111 107\n\
+Excluded: 18 1 0 0 0 0 0 0 0 65 0 0 0 0 0 0 0 129\n\
+";
+
+/// Bytes that spell nothing, each with the reason.
+const NO_SPELLINGS: &str = "\
+a truth value of 2: 1 1 0 0 0 0 0 0 0 65 0 0 0 0 0 0 0 65 2\n\
+a byte more: 1 1 0 0 0 0 0 0 0 65 0 0 0 0 0 0 0 65 1 0\n\
+a byte less: 1 1 0 0 0 0 0 0 0 65 0 0 0 0 0 0 0 65\n\
+a kind of 0: 0 1 0 0 0 0 0 0 0 65\n\
+a kind of 19: 19 1 0 0 0 0 0 0 0 65\n\
+a sender of 0: 10 0 0 0 0 0 0 0 0 65\n\
+a sender of 33: 10 33 0 0 0 0 0 0 0 65\n\
+a device of 17: 5 1 0 0 0 0 0 0 0 65 0 0 0 3 17\n\
+a set with device 17: 9 2 0 0 0 0 0 0 0 65 0 1 0 0 0 0 0 0\n\
+two pending texts: 8 1 0 0 0 0 0 0 0 65 0 0 0 3 0 0 0 2 0 0 0 1 97 0 0 0 1 98 0 0\n\
+marks of 64: 9 2 0 0 0 0 0 0 0 65 0 0 0 1 0 1 0 0 0 1 114 64 0 0\n\
+three seconds: 9 2 0 0 0 0 0 0 0 65 0 0 0 1 0 0 0 1 0 0 0 1 103 0 3 0 0 0 0 0 0 0 5 0 0 0 0 0 \
+    0 0 6 0 0 0 0 0 0 0 9 0 0\n\
+held, with a number: 7 2 0 0 0 0 0 0 0 65 1 0 0 0 0 0 0 0 0 1 0 0\n\
+greater, with a key: 7 2 0 0 0 0 0 0 0 65 1 2 0 0 0 0 0 0 0 129 0 1 0 0 0 0 0 0 0 1\n\
+a method of 13: 14 1 0 0 0 0 0 0 0 65 0 0 0 0 0 0 0 4 13 0 0 0 1 114\n\
+an outcome of 3: 15 2 0 0 0 0 0 0 0 65 0 0 0 0 0 0 0 4 3\n\
+a count with its low byte first: 3 2 0 0 0 0 0 0 0 129 0 0 0 0 0 0 0 65 0 0 0 3 0 0 0 1 0 1 0 \
+    0 0 0 1 97 0 0\n\
+";
+
+/// The bytes of a line.
+fn bytes_of(alloc: Global, line: &str) -> Result<Vec<u8>, Fail> {
+    let (_, numbers) = line.split_once(": ").ok_or("a name")?;
+    let mut bytes = Vec::new(alloc);
+    for number in numbers.split(' ') {
+        bytes.push(number.parse::<u8>().ok().ok_or("a byte")?)?;
+    }
+    Ok(bytes)
 }
 
-/// The bytes spell no message.
-fn refuse(rt: &impl Abort, alloc: Global, bytes: &[u8]) -> Result<(), Fail> {
-    assert!(rt; decode(alloc, bytes)?.is_none());
+/// What is copied of a message is copied where there is memory.
+fn copied(alloc: Global, m: &Message) -> Result<(), Fail> {
+    copy_promise(alloc, m)?;
+    copy_ready(alloc, m)?;
+    if let Body::Install(install) = &m.body {
+        copy_install(alloc, install)?;
+    }
     Ok(())
 }
 
@@ -36,279 +92,41 @@ fn worked(rt: HostRuntime) -> Result<(), Fail> {
     Ok(())
 }
 
-#[test]
-fn forming(rt: HostRuntime) -> Result<(), Fail> {
-    expect(
-        &rt,
-        rt.alloc(),
-        &[1, 1, 0, 0, 0, 0, 0, 0, 0, 65, 0, 0, 0, 0, 0, 0, 0, 65, 1],
-        MessageKind::Heartbeat,
-    )?;
-    expect(
-        &rt,
-        rt.alloc(),
-        &[2, 1, 0, 0, 0, 0, 0, 0, 0, 65, 0, 0, 0, 3],
-        MessageKind::Collect,
-    )?;
-    expect(
-        &rt,
-        rt.alloc(),
-        &[
-            3, 2, 0, 0, 0, 0, 0, 0, 0, 129, 0, 0, 0, 0, 0, 0, 0, 65, 0, 0, 0, 3, 0, 0, 0, 1, 0, 0,
-            2, 0, 0, 0, 1, 97, 0, 0, 0, 2, 98, 99, 0, 1, 0, 0, 0, 1, 100,
-        ],
-        MessageKind::Promise,
-    )?;
-    expect(
-        &rt,
-        rt.alloc(),
-        &[4, 2, 0, 0, 0, 0, 0, 0, 0, 65, 0, 0, 0, 0, 0, 0, 0, 129],
-        MessageKind::Nack,
-    )?;
-    expect(
-        &rt,
-        rt.alloc(),
-        &[5, 1, 0, 0, 0, 0, 0, 0, 0, 65, 0, 0, 0, 3, 1],
-        MessageKind::SeizeQuorum,
-    )?;
-    expect(
-        &rt,
-        rt.alloc(),
-        &[6, 1, 0, 0, 0, 0, 0, 0, 0, 65, 0, 0, 0, 3, 16],
-        MessageKind::SeizeData,
-    )?;
-    expect(
-        &rt,
-        rt.alloc(),
-        &[
-            7, 2, 0, 0, 0, 0, 0, 0, 0, 65, 1, 0, 0, 0, 0, 0, 0, 0, 0, 0, 0, 2, 0, 0, 0, 0, 0, 0, 0,
-            1, 0, 0, 0, 0, 0, 0, 0, 2,
-        ],
-        MessageKind::Seized,
-    )?;
-    expect(
-        &rt,
-        rt.alloc(),
-        &[
-            7, 2, 0, 0, 0, 0, 0, 0, 0, 65, 1, 2, 0, 0, 0, 0, 0, 0, 0, 129, 0, 0,
-        ],
-        MessageKind::Seized,
-    )?;
-    expect(
-        &rt,
-        rt.alloc(),
-        &[
-            7, 2, 0, 0, 0, 0, 0, 0, 0, 65, 1, 3, 0, 0, 0, 0, 0, 0, 0, 0, 0, 0,
-        ],
-        MessageKind::Seized,
-    )?;
-    expect(
-        &rt,
-        rt.alloc(),
-        &[
-            8, 1, 0, 0, 0, 0, 0, 0, 0, 65, 0, 0, 0, 3, 0, 1, 0, 0, 0, 1, 97, 0, 0, 0, 1, 1, 2, 0,
-            1, 0, 0, 0, 0, 0, 0, 0, 7,
-        ],
-        MessageKind::Install,
-    )?;
-    expect(
-        &rt,
-        rt.alloc(),
-        &[
-            9, 2, 0, 0, 0, 0, 0, 0, 0, 65, 0, 0, 0, 1, 0, 1, 0, 0, 0, 1, 114, 35, 0, 1, 0, 0, 0, 1,
-            103, 0, 2, 0, 0, 0, 0, 0, 0, 0, 5, 0, 0, 0, 0, 0, 0, 0, 9, 0, 1, 0, 0, 0, 0, 0, 0, 0,
-            8,
-        ],
-        MessageKind::Ready,
-    )?;
+/// The line is the spelling of a message.
+fn spelled(rt: &impl Abort, alloc: Global, line: &str) -> Result<(), Fail> {
+    let bytes = bytes_of(alloc, line)?;
+    let found = decode(alloc, bytes.as_slice())?.ok_or("no message")?;
+    assert!(rt; bytes.first() == Some(&found.body.kind().byte()));
+    assert!(rt; found.body.is_short());
+    assert!(rt; encode(alloc, &found)? == bytes);
+    copied(alloc, &found)
+}
+
+/// The line is the spelling of no message.
+fn unspelled(rt: &impl Abort, alloc: Global, line: &str) -> Result<(), Fail> {
+    let bytes = bytes_of(alloc, line)?;
+    assert!(rt; decode(alloc, bytes.as_slice())?.is_none());
+    Ok(())
+}
+
+/// Each line is the spelling of a message.
+fn all_spelled(rt: &impl Abort, alloc: Global, lines: &str) -> Result<(), Fail> {
+    for line in lines.lines() {
+        spelled(rt, alloc, line)?;
+    }
+    Ok(())
+}
+
+/// No line is the spelling of a message.
+fn none_spelled(rt: &impl Abort, alloc: Global, lines: &str) -> Result<(), Fail> {
+    for line in lines.lines() {
+        unspelled(rt, alloc, line)?;
+    }
     Ok(())
 }
 
 #[test]
-fn working(rt: HostRuntime) -> Result<(), Fail> {
-    expect(
-        &rt,
-        rt.alloc(),
-        &[10, 1, 0, 0, 0, 0, 0, 0, 0, 65],
-        MessageKind::Start,
-    )?;
-    expect(
-        &rt,
-        rt.alloc(),
-        &[
-            11, 1, 0, 0, 0, 0, 0, 0, 0, 65, 0, 0, 0, 0, 0, 0, 0, 1, 0, 0, 0, 1, 97,
-        ],
-        MessageKind::Prepare,
-    )?;
-    expect(
-        &rt,
-        rt.alloc(),
-        &[12, 2, 0, 0, 0, 0, 0, 0, 0, 65, 0, 0, 0, 0, 0, 0, 0, 1],
-        MessageKind::Prepared,
-    )?;
-    expect(
-        &rt,
-        rt.alloc(),
-        &[13, 1, 0, 0, 0, 0, 0, 0, 0, 65, 0, 0, 0, 0, 0, 0, 0, 1],
-        MessageKind::Commit,
-    )?;
-    expect(
-        &rt,
-        rt.alloc(),
-        &[
-            14, 1, 0, 0, 0, 0, 0, 0, 0, 65, 0, 0, 0, 0, 0, 0, 0, 4, 12, 0, 0, 0, 1, 114,
-        ],
-        MessageKind::Order,
-    )?;
-    expect(
-        &rt,
-        rt.alloc(),
-        &[
-            14, 1, 0, 0, 0, 0, 0, 0, 0, 65, 0, 0, 0, 0, 0, 0, 0, 4, 0, 0, 0, 0, 1, 114,
-        ],
-        MessageKind::Order,
-    )?;
-    expect(
-        &rt,
-        rt.alloc(),
-        &[15, 2, 0, 0, 0, 0, 0, 0, 0, 65, 0, 0, 0, 0, 0, 0, 0, 4, 2],
-        MessageKind::Done,
-    )?;
-    expect(
-        &rt,
-        rt.alloc(),
-        &[
-            16, 32, 0, 0, 0, 0, 0, 0, 0, 65, 0, 0, 0, 0, 0, 0, 0, 1, 0, 0, 0, 2, 97, 98,
-        ],
-        MessageKind::Request,
-    )?;
-    expect(
-        &rt,
-        rt.alloc(),
-        &[
-            17, 1, 0, 0, 0, 0, 0, 0, 0, 65, 0, 0, 0, 0, 0, 0, 0, 1, 0, 0, 0, 2, 111, 107,
-        ],
-        MessageKind::Answer,
-    )?;
-    expect(
-        &rt,
-        rt.alloc(),
-        &[18, 1, 0, 0, 0, 0, 0, 0, 0, 65, 0, 0, 0, 0, 0, 0, 0, 129],
-        MessageKind::Excluded,
-    )?;
-    Ok(())
-}
-
-#[test]
-fn refused(rt: HostRuntime) -> Result<(), Fail> {
-    // a truth value of 2
-    refuse(
-        &rt,
-        rt.alloc(),
-        &[1, 1, 0, 0, 0, 0, 0, 0, 0, 65, 0, 0, 0, 0, 0, 0, 0, 65, 2],
-    )?;
-    // a byte more
-    refuse(
-        &rt,
-        rt.alloc(),
-        &[1, 1, 0, 0, 0, 0, 0, 0, 0, 65, 0, 0, 0, 0, 0, 0, 0, 65, 1, 0],
-    )?;
-    // a byte less
-    refuse(
-        &rt,
-        rt.alloc(),
-        &[1, 1, 0, 0, 0, 0, 0, 0, 0, 65, 0, 0, 0, 0, 0, 0, 0, 65],
-    )?;
-    // a kind of 0
-    refuse(&rt, rt.alloc(), &[0, 1, 0, 0, 0, 0, 0, 0, 0, 65])?;
-    // a kind of 19
-    refuse(&rt, rt.alloc(), &[19, 1, 0, 0, 0, 0, 0, 0, 0, 65])?;
-    // a sender of 0
-    refuse(&rt, rt.alloc(), &[10, 0, 0, 0, 0, 0, 0, 0, 0, 65])?;
-    // a sender of 33
-    refuse(&rt, rt.alloc(), &[10, 33, 0, 0, 0, 0, 0, 0, 0, 65])?;
-    // a device of 17
-    refuse(
-        &rt,
-        rt.alloc(),
-        &[5, 1, 0, 0, 0, 0, 0, 0, 0, 65, 0, 0, 0, 3, 17],
-    )?;
-    // a set with device 17
-    refuse(
-        &rt,
-        rt.alloc(),
-        &[9, 2, 0, 0, 0, 0, 0, 0, 0, 65, 0, 1, 0, 0, 0, 0, 0, 0],
-    )?;
-    Ok(())
-}
-
-#[test]
-fn refused_fields(rt: HostRuntime) -> Result<(), Fail> {
-    // two pending texts
-    refuse(
-        &rt,
-        rt.alloc(),
-        &[
-            8, 1, 0, 0, 0, 0, 0, 0, 0, 65, 0, 0, 0, 3, 0, 0, 0, 2, 0, 0, 0, 1, 97, 0, 0, 0, 1, 98,
-            0, 0,
-        ],
-    )?;
-    // marks of 64
-    refuse(
-        &rt,
-        rt.alloc(),
-        &[
-            9, 2, 0, 0, 0, 0, 0, 0, 0, 65, 0, 0, 0, 1, 0, 1, 0, 0, 0, 1, 114, 64, 0, 0,
-        ],
-    )?;
-    // three seconds
-    refuse(
-        &rt,
-        rt.alloc(),
-        &[
-            9, 2, 0, 0, 0, 0, 0, 0, 0, 65, 0, 0, 0, 1, 0, 0, 0, 1, 0, 0, 0, 1, 103, 0, 3, 0, 0, 0,
-            0, 0, 0, 0, 5, 0, 0, 0, 0, 0, 0, 0, 6, 0, 0, 0, 0, 0, 0, 0, 9, 0, 0,
-        ],
-    )?;
-    // held, with a number
-    refuse(
-        &rt,
-        rt.alloc(),
-        &[
-            7, 2, 0, 0, 0, 0, 0, 0, 0, 65, 1, 0, 0, 0, 0, 0, 0, 0, 0, 1, 0, 0,
-        ],
-    )?;
-    // greater, with a key
-    refuse(
-        &rt,
-        rt.alloc(),
-        &[
-            7, 2, 0, 0, 0, 0, 0, 0, 0, 65, 1, 2, 0, 0, 0, 0, 0, 0, 0, 129, 0, 1, 0, 0, 0, 0, 0, 0,
-            0, 1,
-        ],
-    )?;
-    // a method of 13
-    refuse(
-        &rt,
-        rt.alloc(),
-        &[
-            14, 1, 0, 0, 0, 0, 0, 0, 0, 65, 0, 0, 0, 0, 0, 0, 0, 4, 13, 0, 0, 0, 1, 114,
-        ],
-    )?;
-    // an outcome of 3
-    refuse(
-        &rt,
-        rt.alloc(),
-        &[15, 2, 0, 0, 0, 0, 0, 0, 0, 65, 0, 0, 0, 0, 0, 0, 0, 4, 3],
-    )?;
-    // a count with its low byte first
-    refuse(
-        &rt,
-        rt.alloc(),
-        &[
-            3, 2, 0, 0, 0, 0, 0, 0, 0, 129, 0, 0, 0, 0, 0, 0, 0, 65, 0, 0, 0, 3, 0, 0, 0, 1, 0, 1,
-            0, 0, 0, 0, 1, 97, 0, 0,
-        ],
-    )?;
-    Ok(())
+fn tables(rt: HostRuntime) -> Result<(), Fail> {
+    all_spelled(&rt, rt.alloc(), SPELLINGS)?;
+    none_spelled(&rt, rt.alloc(), NO_SPELLINGS)
 }

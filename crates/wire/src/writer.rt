@@ -2,8 +2,7 @@ ghost use Rattle.std.specs.Prelude.{◌≡◌, ◌++◌, ◌<◌, [], length, On
 ghost use Rattle.wire.specs.Spelling.{number, word, set, one, truth, text, IsShortText, IsWord, IsNode, IsDevice, IsNodes, IsDevices};
 
 use byteorder::{BigEndian, ByteOrder};
-use ccr_commit::Text;
-use cl_base::{DevId, DevSet, Epoch, NodeId, NodeSet};
+use cl_base::{Bytes, DevId, DevSet, Epoch, NodeId, NodeSet};
 use std::alloc::{AllocError, Global};
 use std::marker::Model;
 
@@ -126,7 +125,7 @@ impl Writer {
 
     /// Writes a text.
     #[tactic(auto, unfolding(crate::specs::Spelling::text))]
-    pub fn text(&mut self, written: &Text) -> Result<(), AllocError>
+    pub fn text(&mut self, written: &Bytes) -> Result<(), AllocError>
         requires { IsShortText written.now }
         ensures { OnOk result (self.new ≡ self.old ++ text written.now) }
     {

@@ -1,4 +1,4 @@
-use Rattle.std.proofs.Common.{◌≤◌, ◌-◌, length, arith, length-drop}
+use Rattle.std.proofs.Common.{◌≤◌, ◌-◌, length, arith, length-drop, ◌∙◌}
 use Rattle.std.proofs.lemmas.List.{take_rest}
 use Rattle.cl_io.proofs.KnownLemmas.{front_then}
 use Rattle.cl_io.proofs.writing.write_all.Goals as goal
@@ -11,5 +11,5 @@ loop-done-preserved g c =
     record {
       within = omega arith;
       held = front_then _ _ _ c.args.bytes.now c.loop-done.done c.in_ok-count.count c.loop-done.invariant.held fits wrote.bytes;
-      later = omega (arith, wrote.cause.later, c.loop-done.invariant.later);
+      same = wrote.same (λ none. absurd (c.if-count-eq0.false none)) ∙ c.loop-done.invariant.same;
     }

@@ -29,3 +29,6 @@ returns-in_ok-clock-in-Clock-clause-allowed c = c.in_ok-clock-in-Clock.ensures.a
 
 pub returns-in-Command-clause-allowed : goal.returns-in-Command-clause-allowed
 returns-in-Command-clause-allowed c = c.command.ensures.allowed c.args.so_far
+
+pub returns-in_ok-client_since_two-in-Client-clause-allowed : goal.returns-in_ok-client_since_two-in-Client-clause-allowed
+returns-in_ok-client_since_two-in-Client-clause-allowed c = c.in_ok-client_since_two-in-Client.ensures.allowed c.args.so_far

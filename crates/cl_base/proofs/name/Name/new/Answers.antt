@@ -1,7 +1,8 @@
 use Rattle.std.proofs.Common.{◌≡◌, ℕ, ◌≤◌, length, List, ◌++◌, take, drop, replicate, refl, arith, length-append, length-drop, ◌∙◌, subst, sym, ap}
 use Rattle.std.proofs.lemmas.List.{drop-replicate}
 use Rattle.std.proofs.Math.Seq.{drop-append_seam, take-append_seam}
-use Rattle.cl_base.specs.Names.{IsPadded, IsName}
+use Rattle.cl_base.specs.Names.{IsName}
+use Rattle.cl_base.specs.Padded.{IsPadded}
 use Rattle.cl_base.proofs.name.Name.new.Goals as goal
 
 padded_behind : (bytes zeros : List ℕ) → length bytes ≤ 32 → zeros ≡ replicate 32 0 → IsPadded (bytes ++ drop (length bytes) zeros) (length bytes)

@@ -1,7 +1,7 @@
 use Rattle.std.proofs.Common.{◌≡◌, ℕ, ◌≤◌, length, List, ◌++◌, drop, replicate, refl, arith, length-append, length-drop, ◌∙◌, subst, sym, ap}
 use Rattle.std.proofs.lemmas.List.{drop-replicate}
 use Rattle.std.proofs.Math.Seq.{drop-append_seam}
-use Rattle.pgr_device.specs.Padded.{IsPadded}
+use Rattle.cl_base.specs.Padded.{IsPadded}
 use Rattle.pgr_device.proofs.key_list.KeyList.new.Goals as goal
 
 padded_behind : (keys zeros : List ℕ) → length keys ≤ 32 → zeros ≡ replicate 32 0 → IsPadded (keys ++ drop (length keys) zeros) (length keys)

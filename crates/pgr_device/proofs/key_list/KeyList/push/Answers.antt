@@ -1,6 +1,6 @@
 use Rattle.std.proofs.Common.{◌≡◌, ℕ, ◌+◌, ◌-◌, ◌<◌, length, List, take, drop, replicate, set, refl, arith, ◌∙◌, sym, ap, length-set}
 use Rattle.std.proofs.lemmas.List.{drop-replicate, drop-set-lt, drop-drop, length-take-le}
-use Rattle.pgr_device.specs.Padded.{IsPadded}
+use Rattle.cl_base.specs.Padded.{IsPadded}
 use Rattle.pgr_device.proofs.key_list.KeyList.push.Goals as goal
 
 used_is : (places : List ℕ) (used : ℕ) → IsPadded places used → length (take used places) ≡ used

@@ -1,0 +1,9 @@
+-- The exit codes of the program.
+use Rattle.std.specs.Prelude.{◌≡◌, ℕ}
+use Rattle.replay.specs.declared.status.Status.{Status}
+use Rattle.replay.specs.Statuses.{code_of}
+
+-- the code of some status
+pub record IsExit (code : ℕ) : Type 0 where
+  pub status : Status
+  pub is : code ≡ code_of status

@@ -1,0 +1,9 @@
+pub mod Registrations
+pub mod Readings
+pub mod Changes
+pub mod Ties
+pub mod Seizings
+pub mod Joinings
+pub mod Others
+pub mod Wholes
+pub mod FirstKeys

@@ -1,0 +1,16 @@
+ghost use Rattle.std.specs.Prelude.{◌≡◌, ◌≤◌, ◌∷◌, ◌++◌, ℕ, Ok};
+ghost use Rattle.std.specs.Fmt.{decimal};
+ghost use Rattle.cl_base.specs.Limits.{most_nodes_at_first};
+ghost use Rattle.pgr_device.specs.Allowed.{IsAllowed};
+ghost use Rattle.pgr_device.specs.declared.command.PrCommand.{PrCommand};
+ghost use Rattle.schedule_text.specs.Lines.{pr_line_of};
+ghost use Rattle.schedule_text.specs.declared.line.PrLine.TheVariants.{Command};
+ghost use Rattle.status_report.specs.Entries.{IsPrCommand};
+ghost use Rattle.status_report.specs.PrAnswers.{command_text};
+
+/// The words in which the trace tells a command to a device are, behind the number of a sender and a
+/// space (32), the line of a reservation schedule that gives this command.
+pub fn printed_commands_are_read()
+    ensures read { (sender : ℕ) (c : PrCommand) → 1 ≤ sender → sender ≤ most_nodes_at_first → IsAllowed c → IsPrCommand c
+        → pr_line_of (decimal sender ++ 32 ∷ command_text c) ≡ Ok (Command sender c) }
+{}

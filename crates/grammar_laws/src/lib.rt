@@ -1,0 +1,7 @@
+//! What one layer prints another reads: laws over the grammar of schedules and the words of the
+//! trace.
+#![tactic(auto)]
+
+mod laws;
+
+pub use laws::printed_commands_are_read;

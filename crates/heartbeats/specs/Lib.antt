@@ -1,0 +1,4 @@
+pub mod Due
+pub mod Peers
+pub mod State
+pub mod Views

@@ -1,0 +1,157 @@
+-- Requests: which commands of members have come to their president, and what became of each; and that each update was asked for.
+use Rattle.std.specs.Prelude.{◌≡◌, ℕ, ◌==◌, ◌&&◌, Bool, true, false, if◌then◌else◌, List, [], ◌∷◌, ◌++◌, Option, Some, None}
+use Rattle.std.specs.List.{list_any}
+use Rattle.std.specs.Option.{option_and_then}
+use Rattle.status_report.specs.declared.command_entry.Answer.TheVariants as answer
+use Rattle.history.specs.Moment.{Moment}
+use Rattle.history.specs.Names as name
+use Rattle.history.specs.Names.{Name, named}
+use Rattle.history.specs.Trace.{sent, delivered, propose, ack, asked, answered, gives}
+use Rattle.history.specs.Order.{Always, before_last, since}
+use Rattle.history.specs.Setting.{Setting, coordinator}
+use Rattle.history.specs.Letters.{Letter, letter_of}
+use Rattle.history.specs.Member.{member_of}
+use Rattle.history.specs.Seizing.{is_number, is_boot}
+
+-- ---- the words of a command
+
+abbrev pub same_words : List ℕ → List ℕ → Bool
+same_words [] [] = true
+same_words (x ∷ xs) (y ∷ ys) = (x == y) && same_words xs ys
+same_words _ _ = false
+
+abbrev pub are_words : List ℕ → Option (List ℕ) → Bool
+are_words words None = false
+are_words words (Some found) = same_words words found
+
+-- the words of the command of an `asked` line, which stands right after its schedule line
+abbrev pub words_before : List Moment → Option (List ℕ)
+words_before (gives n words ∷ before) = Some words
+words_before _ = None
+
+-- the canonical words of the command of an `asked` line
+abbrev pub command_before : Setting → List Moment → Option (List ℕ)
+command_before S before = option_and_then S.canonical (words_before before)
+
+abbrev pub is_asking : ℕ → ℕ → Moment → Bool
+is_asking n q (asked m r) = (m == n) && (r == q)
+is_asking n q _ = false
+
+-- what was before the last `asked n q` line
+abbrev pub before_asking : ℕ → ℕ → List Moment → List Moment
+before_asking n q moments = before_last (is_asking n q) moments
+
+-- the canonical words of the command that n asked by this number since it went up; None, where a monitor asked
+abbrev pub command_of : Setting → ℕ → ℕ → List Moment → Option (List ℕ)
+command_of S n q before = command_before S (before_asking n q (since (is_boot n) before))
+
+-- ---- what has come to the president
+
+-- what became of a request
+pub data Stage : Type 0 where
+  Waiting : Stage
+  -- an update, proposed at this place
+  Proposed : (place : ℕ) → Stage
+  -- answered without a proposal
+  Answered : Stage
+
+-- the request of a member, with the canonical words of its command
+pub record Request : Type 0 where
+  pub node : ℕ
+  pub number : ℕ
+  pub words : List ℕ
+  pub stage : Stage
+
+abbrev pub is_request_of : ℕ → ℕ → Request → Bool
+is_request_of n q r = (r.node == n) && (r.number == q)
+
+abbrev pub is_waiting : List ℕ → Stage → List ℕ → Bool
+is_waiting words Waiting found = same_words words found
+is_waiting words _ found = false
+
+-- each once for a node and number
+abbrev pub with_request : ℕ → ℕ → Option (List ℕ) → List Request → List Request
+with_request n q None rs = rs
+with_request n q (Some words) rs =
+    if list_any (is_request_of n q) rs then rs else rs ++ (record { node = n; number = q; words = words; stage = Waiting }) ∷ []
+
+-- the first of these words that waits is taken up
+abbrev pub taken_up : ℕ → List ℕ → List Request → List Request
+taken_up v words [] = []
+taken_up v words (r ∷ later) = if is_waiting words r.stage r.words then (record r { stage = Proposed v }) ∷ later else r ∷ taken_up v words later
+
+abbrev pub closed : Request → Stage → Request
+closed r Waiting = record r { stage = Answered }
+closed r stage = r
+
+abbrev pub answered_in : ℕ → ℕ → List Request → List Request
+answered_in n q [] = []
+answered_in n q (r ∷ later) = if is_request_of n q r then closed r r.stage ∷ later else r ∷ answered_in n q later
+
+-- the president sends m this
+abbrev pub answered_by : ℕ → Name → List Request → List Request
+answered_by m (name.Answer q) rs = answered_in m q rs
+answered_by m _ rs = rs
+
+-- the number of a Request
+abbrev pub number_asked : Name → Option ℕ
+number_asked (name.Request q) = Some q
+number_asked _ = None
+
+-- the words of the command that m asked by this number as a member of e
+abbrev pub asked_in : Setting → ℕ → ℕ → ℕ → List Moment → Option (List ℕ)
+asked_in S e m q before = if is_number e (member_of m (before_asking m q before)) then command_of S m q before else None
+
+abbrev pub with_asked : Setting → ℕ → Letter → Option ℕ → List Request → List Request
+with_asked S e l None rs = rs
+with_asked S e l (Some q) rs = with_request l.from q (asked_in S e l.from q l.before) rs
+
+abbrev pub with_letter : Setting → ℕ → Option Letter → List Request → List Request
+with_letter S e None rs = rs
+with_letter S e (Some l) rs = with_asked S e l (number_asked l.name) rs
+
+-- The requests that have come to the president of e, the oldest first: its own commands as they are asked, those of another member with
+-- its Request.
+abbrev pub requests_of : Setting → ℕ → List Moment → List Request
+requests_of S e [] = []
+requests_of S e (asked n q ∷ before) =
+    if (n == coordinator e) && is_number e (member_of n before) then with_request n q (command_before S before) (requests_of S e before) else requests_of S e before
+requests_of S e (delivered p m c ∷ before) =
+    if (c == coordinator e) && is_number e (member_of c before) then with_letter S e (letter_of p before) (requests_of S e before) else requests_of S e before
+requests_of S e (propose f v words ∷ before) = if f == e then taken_up v words (requests_of S e before) else requests_of S e before
+requests_of S e (answered n q reply ∷ before) = if n == coordinator e then answered_in n q (requests_of S e before) else requests_of S e before
+requests_of S e (sent p c m called bytes ∷ before) = if c == coordinator e then answered_by m (named called) (requests_of S e before) else requests_of S e before
+requests_of S e (_ ∷ before) = requests_of S e before
+
+-- ---- each proposal was asked for: it takes up a request that waits
+
+abbrev pub IsAskedFor : Setting → List Moment → Moment → Type 0
+IsAskedFor S before (propose e v words) = list_any (λ r. is_waiting words r.stage r.words) (requests_of S e before) ≡ true
+IsAskedFor S before _ = Unit {0}
+
+abbrev pub Asked : Setting → List Moment → Type 0
+Asked S moments = Always (IsAskedFor S) moments
+
+-- ---- `answer n q ok` to an update stands after the `ack` line of its own proposal
+
+abbrev pub is_ack : ℕ → ℕ → Moment → Bool
+is_ack e v (ack f w words) = (f == e) && (w == v)
+is_ack e v _ = false
+
+abbrev pub is_acked_at : ℕ → List Moment → Stage → Bool
+is_acked_at e before (Proposed v) = list_any (is_ack e v) before
+is_acked_at e before _ = false
+
+-- what is no update needs no ack
+abbrev pub is_acked : Setting → ℕ → ℕ → Option (List ℕ) → Option ℕ → List Moment → Bool
+is_acked S n q (Some words) (Some e) before =
+    if S.is_update words then list_any (λ r. is_request_of n q r && is_acked_at e before r.stage) (requests_of S e before) else true
+is_acked S n q _ _ before = false
+
+abbrev pub IsAnswered : Setting → List Moment → Moment → Type 0
+IsAnswered S before (answered n q answer.Ok) =
+    is_acked S n q (command_before S (before_asking n q before)) (member_of n (before_asking n q before)) before ≡ true
+IsAnswered S before _ = Unit {0}
+
+abbrev pub AnsweredAfterAck : Setting → List Moment → Type 0
+AnsweredAfterAck S moments = Always (IsAnswered S) moments

@@ -1,0 +1,15 @@
+pub mod SampleNames
+pub mod SampleOneNode
+pub mod SampleSplit
+pub mod SampleAmnesia
+pub mod SampleMessages
+pub mod SampleContents
+pub mod SampleAnswers
+pub mod SampleValidity
+pub mod SampleResults
+pub mod SampleLines
+pub mod SampleSilence
+pub mod SamplePending
+pub mod SampleJoiner
+pub mod SampleCauses
+pub mod SampleSecond

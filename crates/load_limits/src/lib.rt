@@ -1,0 +1,8 @@
+//! Load limits: the named limits of nodes, and whether a group with its load factors would pass one.
+#![tactic(auto)]
+
+mod limits;
+#[cfg(test)]
+mod tests;
+
+pub use limits::{Factor, Limit, Limits};

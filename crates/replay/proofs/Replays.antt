@@ -1,0 +1,153 @@
+-- A completed run of a reservation schedule is what the device answers.
+use Rattle.std.proofs.Common.{◌≡◌, ℕ, ◌+◌, ◌==◌, Bool, true, false, if◌then◌else◌, List, [], ◌∷◌, ◌++◌, length, Option, Some, None, Result, Ok, Err, refl, sym, ap, subst, arith}
+use Rattle.std.proofs.lemmas.Bool.Decides.{nat_tests}
+use Rattle.std.specs.List.{flat_map}
+use Rattle.pgr_device.specs.Device.{Device, fresh}
+use Rattle.pgr_device.specs.Runs.{run_answers}
+use Rattle.pgr_device.specs.Spc as spc
+use Rattle.pgr_device.specs.declared.run.Step.{Step}
+use Rattle.pgr_device.specs.declared.run.Step.TheVariants.{Command, PowerLoss}
+use Rattle.schedule_text.specs.declared.header.Head.{Head}
+use Rattle.schedule_text.specs.declared.header.Head.TheVariants.{Pr, Cluster}
+use Rattle.schedule_text.specs.declared.header.HeaderState.{HeaderState}
+use Rattle.schedule_text.specs.declared.header.HeaderState.TheVariants as state
+use Rattle.schedule_text.specs.declared.kind.Kind.{Kind}
+use Rattle.schedule_text.specs.declared.line.PrLine.{PrLine}
+use Rattle.schedule_text.specs.declared.line.PrLine.TheVariants as line
+use Rattle.schedule_text.specs.Headers.{HeaderStep, More, Over, Bad, header_step, head_of}
+use Rattle.schedule_text.specs.Lines.{pr_line_of}
+use Rattle.status_report.specs.declared.entry.Entry.TheVariants.{Answered, Powered}
+use Rattle.status_report.specs.Lines.{printed}
+use Rattle.replay.specs.declared.session.Body.TheVariants.{Replaying}
+use Rattle.replay.specs.declared.session.State.{State}
+use Rattle.replay.specs.declared.session.State.TheVariants.{Heading, Reading}
+use Rattle.replay.specs.declared.task.Task.TheVariants.{Run}
+use Rattle.replay.specs.Sessions.{replayed, entered, body_of, is_not_built, heading, step, Goes, Refuses}
+use Rattle.replay.specs.Outcomes.{Open, TooLarge, Outcome, outcome, silent, onward, is_too_large, at_end, end_of}
+use Rattle.replay.specs.Replays.{Schedule, Completes, TellsSchedule, entries, answers_among, steps_of, with_line, schedule_of, stepped, behind}
+
+pub answers_are : (d : Device) (steps : List Step) → answers_among (entries d steps) ≡ run_answers d steps
+answers_are d [] = refl
+answers_are d (Command node command ∷ steps) = ap (λ answers. (spc.step d node command).answer ∷ answers) (answers_are (spc.step d node command).after steps)
+answers_are d (PowerLoss ∷ steps) = answers_are d steps
+
+-- a line that is replayed, and what follows
+line_completes : (d : Device) (r : Result PrLine Kind) (read : ℕ) (rest : State → Outcome) (steps : List Step)
+    → ((next : Device) → Completes (rest (Reading (Replaying next))).ending → (rest (Reading (Replaying next))).text ≡ flat_map printed (entries next steps))
+    → Completes (onward (replayed d r) read rest).ending → (onward (replayed d r) read rest).text ≡ flat_map printed (entries d (with_line r steps))
+line_completes d (Err kind) read rest steps later h = absurd h
+line_completes d (Ok line.End) read rest steps later h = refl
+line_completes d (Ok line.Blank) read rest steps later h = later d h
+line_completes d (Ok line.Power) read rest steps later h = ap (λ (t : List ℕ). printed Powered ++ t) (later d h)
+line_completes d (Ok (line.Command node command)) read rest steps later h =
+    ap (λ (t : List ℕ). printed (Answered (spc.step d node command).answer) ++ t) (later (spc.step d node command).after h)
+
+some_lines : (A : Type 0) (x : A) (xs : List A) → (length (x ∷ xs) == 0) ≡ false
+some_lines A x xs = grind (arith, nat_tests)
+
+-- a line that is not too large
+chosen : (large : Bool) (n : ℕ) (o : Outcome) (T : List ℕ → Type 0) → (Completes o.ending → T o.text)
+    → Completes (if large then silent (TooLarge n) else o).ending → T (if large then silent (TooLarge n) else o).text
+chosen true n o T f h = absurd h
+chosen false n o T f h = f h
+
+-- and behind which the input ends
+ended_chosen : (large ended : Bool) (n : ℕ) (o : Outcome) (T : List ℕ → Type 0) → (Completes o.ending → T o.text)
+    → Completes (if large then silent (TooLarge n) else if ended then o else silent Open).ending → T (if large then silent (TooLarge n) else if ended then o else silent Open).text
+ended_chosen true ended n o T f h = absurd h
+ended_chosen false true n o T f h = f h
+ended_chosen false false n o T f h = absurd h
+
+-- the outcome where a line stands before others, and where it is the last
+line_outcome : (ended : Bool) (bytes next : List ℕ) (lines : List (List ℕ)) (s : State) (read : ℕ) → outcome Run ended (bytes ∷ next ∷ lines) s read
+    ≡ (if is_too_large read bytes then silent (TooLarge (read + 1)) else onward (step Run s bytes) read (λ now. outcome Run ended (next ∷ lines) now (read + 1)))
+line_outcome ended bytes next lines s read = rw (some_lines (List ℕ) next lines) refl
+
+last_outcome : (ended : Bool) (b : ℕ) (bytes : List ℕ) (s : State) (read : ℕ) → outcome Run ended ((b ∷ bytes) ∷ []) s read
+    ≡ (if is_too_large read (b ∷ bytes) then silent (TooLarge (read + 1)) else if ended then onward (step Run s (b ∷ bytes)) read (λ now. end_of (at_end Run now) (read + 1)) else silent Open)
+last_outcome ended b bytes s read = rw (some_lines ℕ b bytes) refl
+
+empty_outcome : (ended : Bool) (s : State) (read : ℕ) → outcome Run ended ([] ∷ []) s read ≡ (if ended then end_of (at_end Run s) read else silent Open)
+empty_outcome ended s read = refl
+
+-- of an outcome that is known to be another
+at_outcome : (o p : Outcome) (T : List ℕ → Type 0) → o ≡ p → (Completes p.ending → T p.text) → Completes o.ending → T o.text
+at_outcome o p T is f = subst (λ (x : Outcome). Completes x.ending → T x.text) (sym is) f
+
+body_completes : (ended : Bool) (lines : List (List ℕ)) (d : Device) (read : ℕ) → Completes (outcome Run ended lines (Reading (Replaying d)) read).ending
+    → (outcome Run ended lines (Reading (Replaying d)) read).text ≡ flat_map printed (entries d (steps_of lines))
+body_completes ended [] d read h = absurd h
+body_completes true ([] ∷ []) d read h = refl
+body_completes false ([] ∷ []) d read h = absurd h
+body_completes ended ((b ∷ bytes) ∷ []) d read h =
+    at_outcome (outcome Run ended ((b ∷ bytes) ∷ []) (Reading (Replaying d)) read) _ (λ (t : List ℕ). t ≡ flat_map printed (entries d (steps_of ((b ∷ bytes) ∷ []))))
+    (last_outcome ended b bytes (Reading (Replaying d)) read)
+    (ended_chosen (is_too_large read (b ∷ bytes)) ended (read + 1) (onward (replayed d (pr_line_of (b ∷ bytes))) read (λ now. end_of (at_end Run now) (read + 1)))
+    (λ (t : List ℕ). t ≡ flat_map printed (entries d (steps_of ((b ∷ bytes) ∷ []))))
+    (line_completes d (pr_line_of (b ∷ bytes)) read (λ now. end_of (at_end Run now) (read + 1)) [] (λ next k. refl))) h
+body_completes ended (bytes ∷ next ∷ lines) d read h =
+    at_outcome (outcome Run ended (bytes ∷ next ∷ lines) (Reading (Replaying d)) read) _ (λ (t : List ℕ). t ≡ flat_map printed (entries d (steps_of (bytes ∷ next ∷ lines))))
+    (line_outcome ended bytes next lines (Reading (Replaying d)) read)
+    (chosen (is_too_large read bytes) (read + 1) (onward (replayed d (pr_line_of bytes)) read (λ now. outcome Run ended (next ∷ lines) now (read + 1)))
+    (λ (t : List ℕ). t ≡ flat_map printed (entries d (steps_of (bytes ∷ next ∷ lines))))
+    (line_completes d (pr_line_of bytes) read (λ now. outcome Run ended (next ∷ lines) now (read + 1)) (steps_of (next ∷ lines))
+    (λ after k. body_completes ended (next ∷ lines) after (read + 1) k))) h
+
+-- the header ends at the end of the input
+end_completes : (head : Option Head) (read : ℕ) → Completes (end_of (body_of Run head) read).ending → TellsSchedule (behind head []) (end_of (body_of Run head) read).text
+end_completes None read h = absurd h
+end_completes (Some (Pr senders)) read h = refl
+end_completes (Some (Cluster header)) read h = absurd h
+
+-- before a line
+over_completes : (head : Option Head) (bytes : List ℕ) (lines : List (List ℕ)) (read : ℕ) (rest : State → Outcome)
+    → ((next : Device) → Completes (rest (Reading (Replaying next))).ending → (rest (Reading (Replaying next))).text ≡ flat_map printed (entries next (steps_of lines)))
+    → Completes (onward (entered (body_of Run head) bytes) read rest).ending → TellsSchedule (behind head (bytes ∷ lines)) (onward (entered (body_of Run head) bytes) read rest).text
+over_completes None bytes lines read rest later h = absurd h
+over_completes (Some (Pr senders)) bytes lines read rest later h = line_completes (fresh senders) (pr_line_of bytes) read rest (steps_of lines) later h
+over_completes (Some (Cluster header)) bytes lines read rest later h = absurd h
+
+-- and at a line that belongs to it
+more_completes : (refused : Bool) (kind : Kind) (next : HeaderState) (read : ℕ) (rest : State → Outcome) (s : Option Schedule)
+    → (Completes (rest (Heading next)).ending → TellsSchedule s (rest (Heading next)).text)
+    → Completes (onward (if refused then Refuses kind else Goes (Heading next) []) read rest).ending → TellsSchedule s (onward (if refused then Refuses kind else Goes (Heading next) []) read rest).text
+more_completes true kind next read rest s later h = absurd h
+more_completes false kind next read rest s later h = later h
+
+heading_completes : (hs : HeaderStep) (now : HeaderState) (bytes : List ℕ) (lines : List (List ℕ)) (read : ℕ) (rest : State → Outcome)
+    → ((next : HeaderState) → Completes (rest (Heading next)).ending → TellsSchedule (schedule_of next lines) (rest (Heading next)).text)
+    → ((next : Device) → Completes (rest (Reading (Replaying next))).ending → (rest (Reading (Replaying next))).text ≡ flat_map printed (entries next (steps_of lines)))
+    → Completes (onward (heading Run now bytes hs) read rest).ending
+    → TellsSchedule (stepped hs (λ next. schedule_of next lines) (behind (head_of now) (bytes ∷ lines))) (onward (heading Run now bytes hs) read rest).text
+heading_completes (More next) now bytes lines read rest more later h = more_completes (is_not_built Run bytes) _ next read rest (schedule_of next lines) (more next) h
+heading_completes Over now bytes lines read rest more later h = over_completes (head_of now) bytes lines read rest later h
+heading_completes (Bad kind) now bytes lines read rest more later h = absurd h
+
+empty_completes : (now : HeaderState) (read : ℕ) → Completes (end_of (body_of Run (head_of now)) read).ending → TellsSchedule (schedule_of now ([] ∷ [])) (end_of (body_of Run (head_of now)) read).text
+empty_completes state.Opening read h = absurd h
+empty_completes state.Senders read h = absurd h
+empty_completes (state.Complete senders) read h = refl
+empty_completes (state.Cluster version) read h = absurd h
+empty_completes (state.Nodes version cluster) read h = absurd h
+empty_completes (state.Configured cluster nodes) read h = absurd h
+empty_completes (state.Devices header) read h = absurd h
+
+pub head_completes : (ended : Bool) (lines : List (List ℕ)) (now : HeaderState) (read : ℕ) → Completes (outcome Run ended lines (Heading now) read).ending
+    → TellsSchedule (schedule_of now lines) (outcome Run ended lines (Heading now) read).text
+head_completes ended [] now read h = absurd h
+head_completes true ([] ∷ []) now read h = empty_completes now read h
+head_completes false ([] ∷ []) now read h = absurd h
+head_completes ended ((b ∷ bytes) ∷ []) now read h =
+    at_outcome (outcome Run ended ((b ∷ bytes) ∷ []) (Heading now) read) _ (λ (t : List ℕ). TellsSchedule (schedule_of now ((b ∷ bytes) ∷ [])) t)
+    (last_outcome ended b bytes (Heading now) read)
+    (ended_chosen (is_too_large read (b ∷ bytes)) ended (read + 1) (onward (heading Run now (b ∷ bytes) (header_step now (b ∷ bytes))) read (λ s. end_of (at_end Run s) (read + 1)))
+    (λ (t : List ℕ). TellsSchedule (schedule_of now ((b ∷ bytes) ∷ [])) t)
+    (heading_completes (header_step now (b ∷ bytes)) now (b ∷ bytes) [] read (λ s. end_of (at_end Run s) (read + 1))
+    (λ next k. end_completes (head_of next) (read + 1) k) (λ next k. refl))) h
+head_completes ended (bytes ∷ next ∷ lines) now read h =
+    at_outcome (outcome Run ended (bytes ∷ next ∷ lines) (Heading now) read) _ (λ (t : List ℕ). TellsSchedule (schedule_of now (bytes ∷ next ∷ lines)) t)
+    (line_outcome ended bytes next lines (Heading now) read)
+    (chosen (is_too_large read bytes) (read + 1) (onward (heading Run now bytes (header_step now bytes)) read (λ s. outcome Run ended (next ∷ lines) s (read + 1)))
+    (λ (t : List ℕ). TellsSchedule (schedule_of now (bytes ∷ next ∷ lines)) t)
+    (heading_completes (header_step now bytes) now bytes (next ∷ lines) read (λ s. outcome Run ended (next ∷ lines) s (read + 1))
+    (λ after k. head_completes ended (next ∷ lines) after (read + 1) k) (λ after k. body_completes ended (next ∷ lines) after (read + 1) k))) h

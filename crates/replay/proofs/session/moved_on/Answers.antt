@@ -1,0 +1,8 @@
+use Rattle.std.proofs.Common.{rules, ◌<◌}
+use Rattle.replay.proofs.Rounds.{rounds_fit}
+use Rattle.replay.proofs.session.moved_on.Goals as goal
+
+pub after_event-requires : goal.after_event-requires
+after_event-requires c =
+    let fits : c.args.so_far.rounds < 18446744073709551616 = search rules in
+    rounds_fit c.args.header.now c.args.so_far c.args.event.now c.requires fits

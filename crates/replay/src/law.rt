@@ -1,0 +1,20 @@
+//! What follows from the definitions that `run_words` cites. Each law is a function that does
+//! nothing: its clauses are the law.
+ghost use Rattle.std.specs.Prelude.{◌≡◌, Bool, List, ℕ};
+ghost use Rattle.pgr_device.specs.Device.{Device};
+ghost use Rattle.pgr_device.specs.Runs.{run_answers};
+ghost use Rattle.pgr_device.specs.declared.run.Step.{Step};
+ghost use Rattle.replay.specs.Outcomes.{outcome_of};
+ghost use Rattle.replay.specs.Replays.{Completes, TellsReplay, entries, answers_among};
+ghost use Rattle.replay.specs.declared.task.Task.TheVariants.{Run};
+
+/// A `run` that reads its schedule to the end writes what the device, step by step, answers to the
+/// commands of the schedule and to its losses of power, one line each.
+pub fn completed_run_is_the_devices()
+    ensures { (ended : Bool) (bytes : List ℕ) → Completes (outcome_of Run ended bytes).ending → TellsReplay bytes (outcome_of Run ended bytes).text }
+{}
+
+/// The answers among these lines are those that the device gives to the commands.
+pub fn entries_have_the_answers()
+    ensures { (d : Device) (steps : List Step) → answers_among (entries d steps) ≡ run_answers d steps }
+{}

@@ -1,5 +1,0 @@
-use Rattle.seize.proofs.DeviceAnswers.{device_gives}
-use Rattle.seize.proofs.law.a_device_gives_no_fault.Goals as goal
-
-pub returns-clause-answers : goal.returns-clause-answers
-returns-clause-answers c = device_gives

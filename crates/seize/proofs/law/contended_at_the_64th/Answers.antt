@@ -1,9 +1,0 @@
-use Rattle.seize.specs.declared.kind.SeizeResult.TheVariants.{Contended}
-use Rattle.seize.proofs.Past.{ending, contends}
-use Rattle.seize.proofs.law.contended_at_the_64th.Goals as goal
-
-pub returns-clause-only : goal.returns-clause-only
-returns-clause-only c = λ s answers key. ending s answers (Contended key)
-
-pub returns-clause-whenever : goal.returns-clause-whenever
-returns-clause-whenever c = contends

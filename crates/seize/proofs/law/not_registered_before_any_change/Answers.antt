@@ -1,6 +1,0 @@
-use Rattle.seize.specs.declared.kind.SeizeResult.TheVariants.{NotRegistered}
-use Rattle.seize.proofs.Past.{ending}
-use Rattle.seize.proofs.law.not_registered_before_any_change.Goals as goal
-
-pub returns-clause-only : goal.returns-clause-only
-returns-clause-only c = λ s answers keys. ending s answers (NotRegistered keys)

@@ -1,5 +1,0 @@
-use Rattle.cl_base.proofs.SetLemmas.{tests_bit}
-use Rattle.status_report.proofs.words.has_number.Goals as goal
-
-pub returns : goal.returns
-returns c = tests_bit c.args.bits c.args.n c.requires.low
