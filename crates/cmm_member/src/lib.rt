@@ -26,6 +26,7 @@ pub use laws::{
 };
 pub use lengths::full_record_length;
 pub use member::MemberNode;
+pub use rows::record_rows;
 pub use running::Record;
 
 #[cfg(test)]

@@ -1,12 +1,12 @@
 ghost use Rattle.std.specs.Prelude.{◌≡◌, ◌≢◌, ◌≤◌, ◌<◌, ◌+◌, ◌↔◌, Bool, true, false, if◌then◌else◌, IfOk, IfErr, OnErr, IsTrue, IsSome, MatchResult, All, length};
-ghost use Rattle.cl_base.specs.Sets.{has};
+ghost use Rattle.cl_base.specs.Sets.{has, set_without};
 ghost use Rattle.ccr_commit.specs.Entries.{texts_of, answer_for, left_by, all_committed};
 ghost use Rattle.ccr_commit.specs.declared.entries.Prepared.TheVariants.{Taken};
 ghost use Rattle.ccr_text.specs.TableText.{AreRows};
 ghost use Rattle.membership_machine.specs.State.{Node};
 ghost use Rattle.membership_machine.specs.Steps.{promising, appending, committing, crashing};
 ghost use Rattle.cmm_member.specs.Records.{IsRecord, IsRowText, rows_of};
-ghost use Rattle.cmm_member.specs.Nodes.{IsMember, down_of, halted_by, promised_to, with_entries};
+ghost use Rattle.cmm_member.specs.Nodes.{IsMember, down_of, halted_by, promised_to, with_entries, with_joined, with_valid};
 ghost use Rattle.cmm_member.specs.Machine.{ShowsDown, ShowsForming, ShowsMember};
 ghost use Rattle.cmm_member.specs.Views.{kept, seen};
 
@@ -168,6 +168,23 @@ impl MemberNode {
         ensures machine { IsTrue result → (n : Node) → ShowsMember self.old n → ShowsMember self.new (committing n) }
     {
         self.running.durable.entries.commit(place)
+    }
+
+    /// The device is valid to the node no longer. This takes no memory.
+    pub fn invalidate(&mut self, d: DevId)
+        ensures after { self.new ≡ with_valid self.old (set_without self.old.saved.valid d) }
+        ensures machine { (n : Node) → ShowsMember self.old n → ShowsMember self.new n }
+    {
+        self.running.durable.valid = self.running.durable.valid.without(d);
+    }
+
+    /// The node has joined the device, which is valid to it from now on. This takes no memory.
+    pub fn joined(&mut self, d: DevId)
+        ensures after { self.new ≡ with_joined self.old d }
+        ensures machine { (n : Node) → ShowsMember self.old n → ShowsMember self.new n }
+    {
+        self.running.durable.valid = self.running.durable.valid.with(d);
+        self.running.joined = self.running.joined.with(d);
     }
 
     /// The node panics. This takes no memory.

@@ -1,7 +1,7 @@
 -- The tasks of a node since they were last cleared, in the order in which they were begun: what is asked of them, and what calls make of them.
 use Rattle.std.specs.Prelude.{ℕ, ◌&&◌, Bool, List, [], ◌∷◌, ◌++◌, Option, None, Some, is_none, find, if◌then◌else◌}
 use Rattle.std.specs.List.{list_any, list_all}
-use Rattle.std.specs.Option.{option_and_then}
+use Rattle.std.specs.Option.{option_and_then, option_map}
 use Rattle.cl_base.specs.Seizings.{SeizeResult}
 use Rattle.pgr_device.specs.declared.command.PrCommand.{PrCommand}
 use Rattle.seize.specs.declared.kind.JoinResult.{JoinResult}
@@ -31,6 +31,10 @@ joins tasks = list_any (λ t. is_joining t.work && is_queued t) tasks
 -- the command that is due
 abbrev pub next_of : List Task → Option PrCommand
 next_of tasks = option_and_then (λ t. command_in t.work) (first_of tasks)
+
+-- the device of that command
+abbrev pub due_device : List Task → Option ℕ
+due_device tasks = option_map (λ t. t.device) (first_of tasks)
 
 -- the device, where the command that is due is the first of a plain seizing
 abbrev pub begins_plainly : List Task → Option ℕ

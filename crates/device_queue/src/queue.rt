@@ -2,7 +2,7 @@ ghost use Rattle.std.specs.Prelude.{◌≡◌, ◌↔◌, [], IfOk, IfSome, IsNo
 ghost use Rattle.std.specs.List.{position};
 ghost use Rattle.pgr_device.specs.Allowed.{IsAllowed};
 ghost use Rattle.pgr_device.specs.Keys.{HasNoZeroKey};
-ghost use Rattle.device_queue.specs.Queue.{after_answer, after_join, after_seize, asked_again, asked_of, begins_join, begins_plainly, first_of, is_idle, join_of, joins, kept_of, next_of, progress_after, seizure_of};
+ghost use Rattle.device_queue.specs.Queue.{after_answer, after_join, after_seize, asked_again, asked_of, begins_join, begins_plainly, due_device, first_of, is_idle, join_of, joins, kept_of, next_of, progress_after, seizure_of};
 ghost use Rattle.device_queue.specs.Tasks.{is_queued};
 ghost use Rattle.device_queue.specs.declared.progress.Asked.TheVariants.{Begun};
 
@@ -97,6 +97,16 @@ impl DeviceQueue {
             return None;
         };
         task.command()
+    }
+
+    /// The device of the command that is due; none exactly where the queue is empty.
+    pub fn due_device(&self) -> Option<DevId>
+        ensures value { result ≡ due_device self.now }
+    {
+        let Some(task) = self.first() else {
+            return None;
+        };
+        Some(task.device)
     }
 
     /// The device, exactly where the command that is due is the first of a plain seizing. In the event
