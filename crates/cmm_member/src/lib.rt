@@ -17,6 +17,7 @@ mod rows;
 mod running;
 
 pub use down::DownNode;
+pub use entry_list::entries_from;
 pub use error::{InstallError, NotHeld};
 pub use forming::{FormingNode, Installed, Started};
 pub use halted::HaltedNode;
