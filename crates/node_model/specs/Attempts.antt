@@ -1,0 +1,224 @@
+-- What a coordinator does: it begins an attempt, and carries out the steps that the attempt gives.
+use Rattle.std.specs.Prelude.{ℕ, ◌+◌, ◌/◌, ◌%◌, ◌*◌, ◌^◌, ◌==◌, ◌&&◌, nat_le, nat_lt, not, Bool, true, false, List, [], ◌∷◌, ◌++◌, length, Option, None, Some, is_some, if◌then◌else◌}
+use Rattle.std.specs.Option.{unwrap_or}
+use Rattle.cl_base.specs.Sets.{has}
+use Rattle.cl_base.specs.declared.panic.Panic.TheVariants as panic
+use Rattle.ccr_commit.specs.Entries.{EntryList, all_committed}
+use Rattle.cmm_attempt.specs.declared.attached.AttachedDevice.{AttachedDevice}
+use Rattle.cmm_attempt.specs.declared.counting.BothVotes.{BothVotes}
+use Rattle.cmm_attempt.specs.declared.phase.Phase.{Phase}
+use Rattle.cmm_attempt.specs.declared.phase.Phase.TheVariants.{Collecting, Choosing, SeizingVotes, SeizingOthers, Installing, Over}
+use Rattle.cmm_attempt.specs.declared.step.AttemptEnd.{AttemptEnd}
+use Rattle.cmm_attempt.specs.declared.step.AttemptEnd.TheVariants as end
+use Rattle.cmm_attempt.specs.declared.step.Step.{Step}
+use Rattle.cmm_attempt.specs.declared.step.Step.TheVariants as step
+use Rattle.cmm_attempt.specs.Attempts.{AttemptState, Turn, beginning, voting, own_readying, newest_installed}
+use Rattle.cmm_attempt.specs.Seizings.{held_set}
+use Rattle.cmm_member.specs.Nodes.{NodeState, installed_with, started}
+use Rattle.cmm_member.specs.Records.{NodeRecord}
+use Rattle.device_queue.specs.declared.task.Task.{Task}
+use Rattle.device_queue.specs.Queue.{after_join, after_seize, joins}
+use Rattle.seize.specs.declared.kind.SeizeKind.{SeizeKind}
+use Rattle.seize.specs.Joining as joining
+use Rattle.seize.specs.Seizing as seizing
+use Rattle.status_report.specs.declared.attempt_entry.AttemptEntry.{AttemptEntry}
+use Rattle.status_report.specs.declared.attempt_entry.AttemptEntry.TheVariants as attempt
+use Rattle.status_report.specs.declared.entry.Entry.TheVariants as entry
+use Rattle.status_report.specs.declared.node_entry.DownCause.TheVariants as down
+use Rattle.status_report.specs.declared.node_entry.NodeEntry.TheVariants as node
+use Rattle.status_report.specs.declared.start_entry.StartEntry.TheVariants as start
+use Rattle.wire.specs.declared.lists.Reading.{Reading}
+use Rattle.wire.specs.declared.message.Body.{Body}
+use Rattle.wire.specs.declared.message.Body.TheVariants as body
+use Rattle.wire.specs.declared.message.Install.{Install}
+use Rattle.wire.specs.declared.message.Message.{Message}
+use Rattle.node_model.specs.declared.cluster.Cluster.{Cluster}
+use Rattle.node_model.specs.declared.node.UpNode.{UpNode}
+use Rattle.node_model.specs.declared.output.Output.{Output}
+use Rattle.node_model.specs.declared.output.Output.TheVariants.{Tells}
+use Rattle.node_model.specs.declared.seat.Seat.{Seat}
+use Rattle.node_model.specs.declared.seat.Seat.TheVariants.{Forming, Member}
+use Rattle.node_model.specs.Clusters.{has_path}
+use Rattle.node_model.specs.Entries.{answering, keeping, telling, telling_of}
+use Rattle.node_model.specs.Plans.{Plan, and_then}
+use Rattle.node_model.specs.Plans.Plan.{Stays, Falls, Says}
+use Rattle.node_model.specs.Seats.{promising, record_of, state_of}
+
+-- The node's record as it is shown in a Promise of p. No resource has a flag yet.
+abbrev pub shown_in : NodeRecord → ℕ → Body
+shown_in r p = body.Promise p r.installed r.members r.valid false r.entries.committed r.entries.pending
+
+abbrev pub promise_of : UpNode → ℕ → Body
+promise_of x p = shown_in (record_of x) p
+
+abbrev pub under_way : UpNode → AttemptState → UpNode
+under_way x a = record x { attempt = Some a }
+
+-- an attempt has ended: none begins for four ticks
+abbrev pub resting : UpNode → UpNode
+resting x = record x { attempt = None; beats = record x.beats { wait = 4 } }
+
+-- How it ended.
+
+abbrev pub ended_entry : ℕ → AttemptEnd → AttemptEntry
+ended_entry e (end.Votes have need lacking) = attempt.Votes e have need lacking
+ended_entry e (end.Superseded p) = attempt.Superseded e p
+ended_entry e (end.Silent n) = attempt.Silent e n
+ended_entry e (end.Foreign n) = attempt.Foreign e n
+ended_entry e (end.Excluded n) = attempt.Excluded e n
+
+abbrev pub left_out_by : AttemptEnd → Option ℕ
+left_out_by (end.Votes have need lacking) = None
+left_out_by (end.Superseded p) = None
+left_out_by (end.Silent n) = None
+left_out_by (end.Foreign n) = None
+left_out_by (end.Excluded n) = Some n
+
+-- a member that is left out is told the newest epoch; the coordinator itself panics
+abbrev pub excluding : ℕ → UpNode → ℕ → ℕ → Option ℕ → Plan
+excluding me x e newest None = Stays x
+excluding me x e newest (Some m) = if m == me then Falls (down.Panic (panic.Excluded newest)) else answering m (body.Excluded e newest) x
+
+abbrev pub ending : ℕ → UpNode → AttemptEnd → Option AttemptState → Plan
+ending me x e None = Stays x
+ending me x e (Some a) = telling (entry.Attempt (ended_entry a.plan.epoch e)) (excluding me (resting x) a.plan.epoch (unwrap_or (newest_installed a) 0) (left_out_by e))
+
+-- The coordinator seizes a device itself.
+abbrev pub seizing_here : Cluster → ℕ → UpNode → ℕ → SeizeKind → Option AttemptState → UpNode
+seizing_here c me x d kind None = x
+seizing_here c me x d kind (Some a) =
+    if has a.plan.members me
+    then record x { tasks = after_seize x.tasks d (seizing.begun kind a.plan.epoch a.plan.members me c.id (has (record_of x).valid d)) }
+    else x
+
+-- After an install each device that was read, that the node has a path to and has not joined by the install, is to be joined.
+abbrev pub is_to_join : Cluster → ℕ → ℕ → Reading → Bool
+is_to_join c me joined r = has_path c.attached me r.device && not (has joined r.device)
+
+abbrev pub joining_with : Cluster → ℕ → ℕ → ℕ → List Task → Reading → List Task
+joining_with c me e joined tasks r = if is_to_join c me joined r then after_join tasks r.device (joining.begun e me c.id) else tasks
+
+abbrev pub joining_from : Cluster → ℕ → ℕ → ℕ → List Task → List Reading → List Task
+joining_from c me e joined tasks [] = tasks
+joining_from c me e joined tasks (r ∷ rs) = joining_from c me e joined (joining_with c me e joined tasks r) rs
+
+abbrev pub installing : Cluster → ℕ → UpNode → NodeState → List Task → Install → UpNode
+installing c me x s tasks i = record x { seat = Forming (installed_with s i); tasks = joining_from c me i.epoch (installed_with s i).joined tasks i.readings }
+
+-- the install is of the node's session, and not installed yet
+abbrev pub installs_now : NodeState → Install → Bool
+installs_now s i = nat_le 1 i.epoch && (s.session == i.epoch) && not (s.saved.installed == i.epoch)
+
+-- the node has installed it: it saves, and says so
+abbrev pub installed_so : ℕ → UpNode → ℕ → Plan → Plan
+installed_so me y e rest = keeping me y (telling_of me (node.Installed e) rest)
+
+-- The coordinator installs; its seizings are over.
+abbrev pub installing_here : Cluster → ℕ → UpNode → Install → Seat → Plan
+installing_here c me x i (Member s) = Stays x
+installing_here c me x i (Forming s) =
+    if installs_now s i
+    then installed_so me (installing c me x s [] i) i.epoch (Stays (installing c me x s [] i))
+    else Stays x
+
+-- The coordinator starts the membership: a pending update is committed and saved first.
+
+abbrev pub base_lines : ℕ → ℕ → List (List ℕ) → List Output
+base_lines e before [] = []
+base_lines e before (text ∷ texts) = Tells (entry.Start (start.Base e (before + 1) text)) ∷ base_lines e (before + 1) texts
+
+abbrev pub starts_now : NodeState → ℕ → Bool
+starts_now s e = nat_le 1 e && (s.session == e) && (s.saved.installed == e)
+
+abbrev pub keeping_if : Bool → ℕ → UpNode → Plan → Plan
+keeping_if changed me x rest = if changed then keeping me x rest else rest
+
+abbrev pub starting_as : UpNode → NodeState → UpNode
+starting_as x s = record x { seat = Member (started s); attempt = None }
+
+abbrev pub start_lines : AttemptState → NodeState → Plan → Plan
+start_lines a s rest =
+    telling (entry.Start (start.Started a.plan.epoch a.plan.members (held_set a.devices) (length (all_committed s.saved.entries).committed)))
+    (Says (base_lines a.plan.epoch 0 (all_committed s.saved.entries).committed) rest)
+
+abbrev pub starting_with : ℕ → UpNode → AttemptState → Seat → Plan
+starting_with me x a (Member s) = Stays x
+starting_with me x a (Forming s) =
+    if starts_now s a.plan.epoch
+    then keeping_if (is_some s.saved.entries.pending) me (starting_as x s) (start_lines a s (telling_of me (node.Member a.plan.epoch) (Stays (starting_as x s))))
+    else Stays x
+
+abbrev pub starting_here : ℕ → UpNode → Option AttemptState → Plan
+starting_here me x None = Stays x
+starting_here me x (Some a) = starting_with me x a x.seat
+
+-- The steps of an attempt, one after another.
+
+abbrev pub step_plan : Cluster → ℕ → UpNode → Step → Plan
+step_plan c me x (step.Send to m) = answering to m.body x
+step_plan c me x (step.SeizeHere d kind) = Stays (seizing_here c me x d kind x.attempt)
+step_plan c me x (step.NeedVotes n) = Stays x
+step_plan c me x (step.InstallHere i) = installing_here c me x i x.seat
+step_plan c me x step.StartHere = starting_here me x x.attempt
+step_plan c me x (step.Ended e) = ending me x e x.attempt
+
+abbrev pub performing : Cluster → ℕ → UpNode → List Step → Plan
+performing c me x [] = Stays x
+performing c me x (s ∷ steps) = and_then (step_plan c me x s) (λ y. performing c me y steps)
+
+-- The coordinator's own part of the installed membership is done: it has no device left to join.
+
+abbrev pub readied_by : Cluster → ℕ → UpNode → Option AttemptState → Plan
+readied_by c me x None = Stays x
+readied_by c me x (Some a) = performing c me (under_way x (own_readying a).after) (own_readying a).steps
+
+abbrev pub own_ready : Cluster → ℕ → UpNode → Plan
+own_ready c me x = if joins x.tasks then Stays x else readied_by c me x x.attempt
+
+abbrev pub is_install : Step → Bool
+is_install (step.InstallHere i) = true
+is_install _ = false
+
+abbrev pub begins_install : List Step → Bool
+begins_install [] = false
+begins_install (s ∷ steps) = is_install s
+
+abbrev pub performed : Cluster → ℕ → UpNode → List Step → Plan
+performed c me x steps = and_then (performing c me x steps) (λ y. if begins_install steps then own_ready c me y else Stays y)
+
+-- The votes under the newest record are given at once. No update changes them yet.
+
+abbrev pub is_choosing : Phase → Bool
+is_choosing Collecting = false
+is_choosing Choosing = true
+is_choosing SeizingVotes = false
+is_choosing SeizingOthers = false
+is_choosing Installing = false
+is_choosing Over = false
+
+abbrev pub votes_in : Cluster → BothVotes
+votes_in c = record { committed = c.votes; pending = None }
+
+abbrev pub going_on : Cluster → ℕ → UpNode → Turn → Plan
+going_on c me x t =
+    if is_choosing t.after.phase
+    then performed c me (under_way x (voting t.after (votes_in c)).after) (voting t.after (votes_in c)).steps
+    else performed c me (under_way x t.after) t.steps
+
+-- An attempt begins: the node promises its epoch and saves that, and then ..
+
+abbrev pub may_count_on : ℕ → Bool
+may_count_on greatest = nat_lt (greatest / 64) (2 ^ 56)
+
+abbrev pub next_epoch : ℕ → UpNode → ℕ
+next_epoch me x = (x.greatest / 64 + 1) * 64 + me
+
+abbrev pub own_promise : ℕ → UpNode → ℕ → Message
+own_promise me x p = record { sender = me; body = promise_of x p }
+
+abbrev pub led : Cluster → ℕ → UpNode → ℕ → ℕ → Plan
+led c me y p members =
+    keeping me y (telling (entry.Attempt (attempt.Begun p members)) (going_on c me y (beginning p members (own_promise me y p) c.attached c.id)))
+
+abbrev pub leading : Cluster → ℕ → UpNode → ℕ → Plan
+leading c me x members = led c me (record (promising x (next_epoch me x)) { greatest = next_epoch me x }) (next_epoch me x) members

@@ -1,0 +1,60 @@
+-- What a node does at a tick, and at its boot.
+use Rattle.std.specs.Prelude.{ℕ, zero, suc, ◌-◌, ◌==◌, ◌&&◌, nat_le, Bool, true, false, List, [], ◌∷◌, map, Option, None, Some, if◌then◌else◌}
+use Rattle.std.specs.Option.{unwrap_or}
+use Rattle.cl_base.specs.Limits.{most_nodes}
+use Rattle.cl_base.specs.Numbers.{numbers_to}
+use Rattle.cl_base.specs.Sets.{has}
+use Rattle.cmm_attempt.specs.Attempts.{AttemptState, ticking}
+use Rattle.cmm_member.specs.Records.{NodeRecord}
+use Rattle.heartbeats.specs.declared.due.Membership.{Membership}
+use Rattle.heartbeats.specs.State.{State}
+use Rattle.heartbeats.specs.Due.{begins}
+use Rattle.heartbeats.specs.Views.{receivers_of, ticked}
+use Rattle.status_report.specs.declared.node_entry.NodeEntry.TheVariants as node
+use Rattle.wire.specs.declared.message.Body.{Body}
+use Rattle.wire.specs.declared.message.Body.TheVariants as body
+use Rattle.node_model.specs.declared.cluster.Cluster.{Cluster}
+use Rattle.node_model.specs.declared.node.UpNode.{UpNode}
+use Rattle.node_model.specs.declared.output.Output.{Output}
+use Rattle.node_model.specs.declared.output.Output.TheVariants.{Sends}
+use Rattle.node_model.specs.declared.seat.Seat.{Seat}
+use Rattle.node_model.specs.declared.seat.Seat.TheVariants.{Forming, Member}
+use Rattle.node_model.specs.Attempts.{going_on, leading, may_count_on}
+use Rattle.node_model.specs.Entries.{telling_of}
+use Rattle.node_model.specs.Plans.{Plan}
+use Rattle.node_model.specs.Plans.Plan.{Stays, Says}
+use Rattle.node_model.specs.Seats.{is_member, promised_of, record_of, session_of}
+
+abbrev pub membership_of : UpNode → Seat → Option Membership
+membership_of x (Forming s) = None
+membership_of x (Member s) = Some (record { epoch = s.session; members = s.saved.members })
+
+abbrev pub heartbeat_of : UpNode → Body
+heartbeat_of x = body.Heartbeat (promised_of x) (session_of x) (is_member x.seat)
+
+-- to each receiver, ascending
+unfoldable pub heartbeats_to : UpNode → ℕ → List Output
+heartbeats_to x receivers = map (λ n. Sends n (heartbeat_of x)) (numbers_to receivers most_nodes)
+
+-- whether an attempt begins where none is under way and the node does not wait
+abbrev pub may_begin : Cluster → ℕ → UpNode → Bool
+may_begin c me x = may_count_on x.greatest && begins x.beats c.configured (membership_of x x.seat) && has (unwrap_or x.beats.view 0) me
+
+abbrev pub waiting_less : UpNode → UpNode
+waiting_less x = record x { beats = record x.beats { wait = x.beats.wait - 1 } }
+
+-- The attempt goes on; or the node waits; or it begins an attempt, or does not.
+abbrev pub attempt_ticked : Cluster → ℕ → UpNode → Option AttemptState → Plan
+attempt_ticked c me x (Some a) = going_on c me x (ticking a)
+attempt_ticked c me x None =
+    if nat_le 1 x.beats.wait then Stays (waiting_less x)
+    else (if may_begin c me (waiting_less x) then leading c me (waiting_less x) (unwrap_or x.beats.view 0) else Stays (waiting_less x))
+
+abbrev pub later : Cluster → UpNode → UpNode
+later c x = record x { beats = ticked x.beats c.configured }
+
+abbrev pub beating : Cluster → ℕ → UpNode → Plan
+beating c me x = Says (heartbeats_to x (receivers_of x.beats c.configured)) (attempt_ticked c me x x.attempt)
+
+abbrev pub on_tick : Cluster → ℕ → UpNode → Plan
+on_tick c me x = telling_of me node.Ticked (beating c me (later c x))

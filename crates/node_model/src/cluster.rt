@@ -1,0 +1,46 @@
+ghost use Rattle.std.specs.Prelude.{◌≡◌};
+ghost use Rattle.node_model.specs.Clusters.{has_path, is_within};
+
+use cl_base::{DevId, DevSet, NodeId, NodeSet};
+use cmm_attempt::AttachedDevices;
+use quorum_votes::Votes;
+
+/// What every node knows of its cluster from the beginning.
+#[derive(Drop)]
+pub struct Cluster {
+    /// The number of the cluster, which is in its nodes' keys.
+    pub id: u32,
+    /// The nodes that there are.
+    pub nodes: NodeSet,
+    /// The nodes that are configured at first.
+    pub configured: NodeSet,
+    /// The shared devices that there are.
+    pub devices: DevSet,
+    /// These devices, by number, and the nodes that have a path to each.
+    pub attached: AttachedDevices,
+    /// The votes at first.
+    pub votes: Votes,
+}
+
+impl Cluster {
+    /// Whether the node has a path to the device.
+    pub fn has_path(&self, n: NodeId, d: DevId) -> bool
+        ensures value { result ≡ has_path self.now.attached n d }
+    {
+        self.attached.items().iter().any(|a| a.device == d && a.nodes.has(n))
+    }
+
+    /// Whether each of these nodes is there.
+    pub fn has_nodes(&self, nodes: NodeSet) -> bool
+        ensures value { result ≡ is_within nodes self.now.nodes }
+    {
+        nodes.bits() | self.nodes.bits() == self.nodes.bits()
+    }
+
+    /// Whether each of these devices is there.
+    pub fn has_devices(&self, devices: DevSet) -> bool
+        ensures value { result ≡ is_within devices self.now.devices }
+    {
+        devices.bits() | self.devices.bits() == self.devices.bits()
+    }
+}

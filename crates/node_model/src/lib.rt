@@ -1,0 +1,15 @@
+//! A node of the cluster: what it keeps in memory, what it gives, and why it stops. The rules of its
+//! steps stand in `specs/`; the crates above carry them out.
+#![tactic(auto)]
+
+mod cluster;
+mod node;
+mod output;
+mod seat;
+mod stop;
+
+pub use cluster::Cluster;
+pub use node::{Node, UpNode};
+pub use output::{Output, cause_of, keep, send, tell, tell_of};
+pub use seat::Seat;
+pub use stop::Stop;

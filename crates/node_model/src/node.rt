@@ -1,0 +1,29 @@
+use crate::seat::Seat;
+use cl_base::Epoch;
+use cmm_attempt::Attempt;
+use device_queue::DeviceQueue;
+use heartbeats::Heartbeats;
+
+/// What a node keeps in memory while it is up.
+#[derive(Drop)]
+pub struct UpNode {
+    /// Its state in its session, with its record.
+    pub seat: Seat,
+    /// The greatest epoch that it has seen.
+    pub greatest: Epoch,
+    /// What it knows of the other nodes' heartbeats.
+    pub beats: Heartbeats,
+    /// Its tasks at devices.
+    pub tasks: DeviceQueue,
+    /// The attempt that it coordinates, if one is under way.
+    pub attempt: Option<Attempt>,
+}
+
+/// A node of the cluster. Of one that is down nothing is left but its record, which is on its disk.
+#[derive(Drop)]
+pub enum Node {
+    /// It is down.
+    Down,
+    /// It is up.
+    Up(UpNode),
+}

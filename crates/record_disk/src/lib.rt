@@ -1,0 +1,6 @@
+//! A node's record on its local disk.
+#![tactic(auto)]
+
+mod disk;
+
+pub use disk::{DiskError, Loss, RecordDisk};
