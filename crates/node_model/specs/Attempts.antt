@@ -26,6 +26,7 @@ use Rattle.status_report.specs.declared.attempt_entry.AttemptEntry.TheVariants a
 use Rattle.status_report.specs.declared.entry.Entry.TheVariants as entry
 use Rattle.status_report.specs.declared.node_entry.DownCause.TheVariants as down
 use Rattle.status_report.specs.declared.node_entry.NodeEntry.TheVariants as node
+use Rattle.status_report.specs.declared.start_entry.StartEntry.{StartEntry}
 use Rattle.status_report.specs.declared.start_entry.StartEntry.TheVariants as start
 use Rattle.wire.specs.declared.lists.Reading.{Reading}
 use Rattle.wire.specs.declared.message.Body.{Body}
@@ -42,7 +43,7 @@ use Rattle.node_model.specs.Clusters.{has_path}
 use Rattle.node_model.specs.Entries.{answering, keeping, telling, telling_of}
 use Rattle.node_model.specs.Plans.{Plan, and_then}
 use Rattle.node_model.specs.Plans.Plan.{Stays, Falls, Says}
-use Rattle.node_model.specs.Seats.{promising, record_of, state_of}
+use Rattle.node_model.specs.Seats.{promised_of, promising, record_of, state_of}
 
 -- The node's record as it is shown in a Promise of p. No resource has a flag yet.
 abbrev pub shown_in : NodeRecord → ℕ → Body
@@ -109,6 +110,14 @@ installing c me x s tasks i = record x { seat = Forming (installed_with s i); ta
 abbrev pub installs_now : NodeState → Install → Bool
 installs_now s i = nat_le 1 i.epoch && (s.session == i.epoch) && not (s.saved.installed == i.epoch)
 
+abbrev pub install_of : Install → Seat → Seat
+install_of i (Member s) = Member s
+install_of i (Forming s) = if installs_now s i then Forming (installed_with s i) else Forming s
+
+abbrev pub changed_by : Install → Seat → Bool
+changed_by i (Member s) = false
+changed_by i (Forming s) = installs_now s i
+
 -- the node has installed it: it saves, and says so
 abbrev pub installed_so : ℕ → UpNode → ℕ → Plan → Plan
 installed_so me y e rest = keeping me y (telling_of me (node.Installed e) rest)
@@ -130,15 +139,23 @@ base_lines e before (text ∷ texts) = Tells (entry.Start (start.Base e (before 
 abbrev pub starts_now : NodeState → ℕ → Bool
 starts_now s e = nat_le 1 e && (s.session == e) && (s.saved.installed == e)
 
+-- the node as a member, and whether its record has changed by that
+abbrev pub member_by : ℕ → Seat → Option (NodeState × Bool)
+member_by e (Member s) = None
+member_by e (Forming s) = if starts_now s e then Some (started s, is_some s.saved.entries.pending) else None
+
 abbrev pub keeping_if : Bool → ℕ → UpNode → Plan → Plan
 keeping_if changed me x rest = if changed then keeping me x rest else rest
 
 abbrev pub starting_as : UpNode → NodeState → UpNode
 starting_as x s = record x { seat = Member (started s); attempt = None }
 
+abbrev pub started_entry : AttemptState → ℕ → StartEntry
+started_entry a base = start.Started a.plan.epoch a.plan.members (held_set a.devices) base
+
 abbrev pub start_lines : AttemptState → NodeState → Plan → Plan
 start_lines a s rest =
-    telling (entry.Start (start.Started a.plan.epoch a.plan.members (held_set a.devices) (length (all_committed s.saved.entries).committed)))
+    telling (entry.Start (started_entry a (length (all_committed s.saved.entries).committed)))
     (Says (base_lines a.plan.epoch 0 (all_committed s.saved.entries).committed) rest)
 
 abbrev pub starting_with : ℕ → UpNode → AttemptState → Seat → Plan
@@ -220,5 +237,8 @@ abbrev pub led : Cluster → ℕ → UpNode → ℕ → ℕ → Plan
 led c me y p members =
     keeping me y (telling (entry.Attempt (attempt.Begun p members)) (going_on c me y (beginning p members (own_promise me y p) c.attached c.id)))
 
+abbrev pub leading_to : Cluster → ℕ → UpNode → ℕ → ℕ → Plan
+leading_to c me x p members = if nat_lt (promised_of x) p then led c me (record (promising x p) { greatest = p }) p members else Stays x
+
 abbrev pub leading : Cluster → ℕ → UpNode → ℕ → Plan
-leading c me x members = led c me (record (promising x (next_epoch me x)) { greatest = next_epoch me x }) (next_epoch me x) members
+leading c me x members = leading_to c me x (next_epoch me x) members

@@ -32,7 +32,7 @@ use Rattle.node_model.specs.Entries.{answering, keeping, telling}
 use Rattle.node_model.specs.Members.{readying}
 use Rattle.node_model.specs.Plans.{Plan}
 use Rattle.node_model.specs.Plans.Plan.{Stays, Falls}
-use Rattle.node_model.specs.Seats.{coordinator_of, leads, record_of, seen, session_of, state_of, with_node}
+use Rattle.node_model.specs.Seats.{coordinator_of, record_of, seen, session_of, state_of, with_node}
 
 -- Before a plain seizing registers the node's key, the record says that the key there is not validated.
 
@@ -62,15 +62,23 @@ abbrev pub own_seized : Cluster → ℕ → UpNode → ℕ → SeizeResult → O
 own_seized c me x d result None = Stays x
 own_seized c me x d result (Some a) = going_on c me x (own_answering a d result)
 
+abbrev pub seized_for : Cluster → ℕ → UpNode → ℕ → SeizeResult → Option ℕ → Plan
+seized_for c me x d result None = Stays x
+seized_for c me x d result (Some coordinator) =
+    if coordinator == me then own_seized c me x d result x.attempt
+    else answering coordinator (body.Seized (session_of x) d result) x
+
 abbrev pub seized_here : Cluster → ℕ → UpNode → ℕ → SeizeResult → Plan
-seized_here c me x d result =
-    if leads me x then own_seized c me x d result x.attempt
-    else answering (coordinator_of x) (body.Seized (session_of x) d result) x
+seized_here c me x d result = seized_for c me x d result (coordinator_of x)
 
 -- A joining has ended. With the last one the coordinator's own part is done, or a member is ready.
 
+abbrev pub joined_for : Cluster → ℕ → UpNode → Option ℕ → Plan
+joined_for c me x None = Stays x
+joined_for c me x (Some coordinator) = if coordinator == me then own_ready c me x else readying x coordinator
+
 abbrev pub joined_all : Cluster → ℕ → UpNode → Plan
-joined_all c me x = if leads me x then own_ready c me x else readying x (coordinator_of x)
+joined_all c me x = joined_for c me x (coordinator_of x)
 
 abbrev pub joining_so : UpNode → ℕ → UpNode
 joining_so x d = with_node x (with_joined (state_of x.seat) d)

@@ -1,5 +1,5 @@
 -- What a node does with a message.
-use Rattle.std.specs.Prelude.{ℕ, ◌==◌, ◌&&◌, ◌||◌, nat_le, nat_lt, not, Bool, true, false, List, [], ◌∷◌, length, Option, None, Some, is_some, if◌then◌else◌, max}
+use Rattle.std.specs.Prelude.{ℕ, ◌%◌, ◌==◌, ◌&&◌, ◌||◌, nat_le, nat_lt, not, Bool, true, false, List, [], ◌∷◌, length, Option, None, Some, is_some, if◌then◌else◌, max}
 use Rattle.std.specs.List.{list_all}
 use Rattle.cl_base.specs.Sets.{has}
 use Rattle.cl_base.specs.Seizings.{SeizeResult}
@@ -35,7 +35,7 @@ use Rattle.node_model.specs.Clusters.{is_within}
 use Rattle.node_model.specs.Entries.{answering, keeping, sending, telling, telling_of}
 use Rattle.node_model.specs.Plans.{Plan}
 use Rattle.node_model.specs.Plans.Plan.{Stays, Falls}
-use Rattle.node_model.specs.Seats.{coordinator_of, installed_of, is_in, is_member, leads, promised_of, promising, record_of, seen, session_of, state_of}
+use Rattle.node_model.specs.Seats.{installed_of, is_in, is_member, promised_of, promising, record_of, seen, session_of, state_of}
 
 -- Packets that are foreign change nothing: they name a node or a device that is not there, a request to seize is of members without
 -- this node, a Seized has more keys than a device has, or there is a text: no update and no request is built yet.
@@ -90,7 +90,7 @@ beat_in (body.Heartbeat promised session member) = Some (record { promised = pro
 beat_in _ = None
 
 abbrev pub awaits_start : ℕ → UpNode → ℕ → ℕ → Bool → Bool
-awaits_start me x from session member = is_member x.seat && leads me x && (session == session_of x) && not member && has (record_of x).members from
+awaits_start me x from session member = is_member x.seat && (session_of x % 64 == me) && (session == session_of x) && not member && has (record_of x).members from
 
 abbrev pub on_heartbeat : ℕ → UpNode → ℕ → ℕ → Bool → Plan
 on_heartbeat me x from session member = if awaits_start me x from session member then answering from (body.Start (session_of x)) x else Stays x

@@ -1,5 +1,6 @@
 -- A node that is up, and what it is seen to be.
 use Rattle.std.specs.Prelude.{ℕ, ◌%◌, ◌==◌, ◌&&◌, nat_le, max, Bool, true, false, List, [], Option, None, Some, Result, Ok, Err, if◌then◌else◌}
+use Rattle.cl_base.specs.Limits.{most_nodes}
 use Rattle.cl_base.specs.Sets.{has, set_without}
 use Rattle.cmm_member.specs.Records.{NodeRecord}
 use Rattle.cmm_member.specs.Nodes.{NodeState, DownState, booted, promised_to, with_valid, with_joined}
@@ -38,13 +39,13 @@ installed_of x = (record_of x).installed
 abbrev pub is_in : UpNode → ℕ → Bool
 is_in x epoch = nat_le 1 epoch && (session_of x == epoch)
 
--- the node that coordinates its session
-abbrev pub coordinator_of : UpNode → ℕ
-coordinator_of x = session_of x % 64
+-- the node of this number, where it is one
+abbrev pub node_numbered : ℕ → Option ℕ
+node_numbered n = if nat_le 1 n && nat_le n most_nodes then Some n else None
 
--- it coordinates its session itself
-abbrev pub leads : ℕ → UpNode → Bool
-leads me x = coordinator_of x == me
+-- the node that coordinates its session
+abbrev pub coordinator_of : UpNode → Option ℕ
+coordinator_of x = node_numbered (session_of x % 64)
 
 -- with another state of the same kind
 abbrev pub with_node : UpNode → NodeState → UpNode

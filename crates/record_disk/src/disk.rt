@@ -45,8 +45,8 @@ pub trait RecordDisk {
         ensures kept { kept self.new ≡ kept self.old };
 
     /// Saves a record in place of the one that is kept.
-    fn save(&mut self, alloc: Global, record: &Record) -> Result<(), DiskError>
-        ensures saved { OnOk result (kept self.new ≡ Views.kept record.now) }
-        ensures lost { OnErr result ((kept self.new ≡ kept self.old) ⊎ (kept self.new ≡ Views.kept record.now)) }
+    fn save(&mut self, alloc: Global, durable: &Record) -> Result<(), DiskError>
+        ensures saved { OnOk result (kept self.new ≡ Views.kept durable.now) }
+        ensures lost { OnErr result ((kept self.new ≡ kept self.old) ⊎ (kept self.new ≡ Views.kept durable.now)) }
         ensures no_memory { IsErrOf result NoMemory → kept self.new ≡ kept self.old };
 }

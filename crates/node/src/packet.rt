@@ -1,0 +1,146 @@
+// A packet that is delivered.
+ghost use Rattle.std.specs.Prelude.{◌≡◌};
+ghost use Rattle.cmm_member.specs.Records.{NodeRecord};
+ghost use Rattle.node_model.specs.Members.{on_answer, on_body, on_heartbeat, on_packet, hearing};
+ghost use Rattle.node_model.specs.Plans.{Follows};
+
+use cl_base::{Epoch, NodeId, Panic};
+use heartbeats::Beat;
+use node_attempts::go_on;
+use node_members::{Request, collect, is_foreign, seize, take_install, take_start};
+use node_model::{Cluster, Output, Stop, UpNode, send};
+use record_disk::RecordDisk;
+use seize::SeizeKind;
+use status_report::DownCause;
+use std::alloc::Global;
+use wire::{Body, Message};
+
+/// The node is delivered a message. A foreign one changes nothing.
+pub fn take_packet<K: RecordDisk>(
+    alloc: Global,
+    cluster: &Cluster,
+    me: NodeId,
+    disk: &mut K,
+    mut up: UpNode,
+    from: NodeId,
+    m: &Message,
+    out: &mut Vec<Output>,
+) -> Result<UpNode, Stop>
+    ensures { Follows (on_packet cluster.now me up from m.now) out.old.items (K.kept disk.old) result out.new.items (K.kept disk.new) }
+{
+    if is_foreign(cluster, me, &m.body) {
+        return Ok(up);
+    }
+    up.beats.hear(from, beat_in(&m.body));
+    up.greatest = up.greatest.max(m.body.greatest_shown());
+    take_message(alloc, cluster, me, disk, up, from, m, out)
+}
+
+fn take_message<K: RecordDisk>(
+    alloc: Global,
+    cluster: &Cluster,
+    me: NodeId,
+    disk: &mut K,
+    up: UpNode,
+    from: NodeId,
+    m: &Message,
+    out: &mut Vec<Output>,
+) -> Result<UpNode, Stop> {
+    match &m.body {
+        Body::Heartbeat {
+            session, member, ..
+        } => take_heartbeat(me, up, from, *session, *member, out),
+        Body::Collect { epoch, .. } => collect(alloc, me, disk, up, from, *epoch, out),
+        Body::Promise { .. } | Body::Nack { .. } | Body::Seized { .. } | Body::Ready { .. } => {
+            take_answer(alloc, cluster, me, disk, up, from, m, out)
+        }
+        Body::SeizeQuorum {
+            epoch,
+            members,
+            device,
+        } => {
+            let request = Request {
+                kind: SeizeKind::Vote,
+                epoch: *epoch,
+                members: *members,
+                device: *device,
+            };
+            seize(alloc, cluster, me, up, from, request, out)
+        }
+        Body::SeizeData {
+            epoch,
+            members,
+            device,
+        } => {
+            let request = Request {
+                kind: SeizeKind::Plain,
+                epoch: *epoch,
+                members: *members,
+                device: *device,
+            };
+            seize(alloc, cluster, me, up, from, request, out)
+        }
+        Body::Install(i) => take_install(alloc, cluster, me, disk, up, from, i, out),
+        Body::Start { epoch } => take_start(alloc, me, disk, up, *epoch, out),
+        Body::Excluded { epoch, newest } => take_excluded(up, *epoch, *newest),
+        _ => Ok(up),
+    }
+}
+
+/// The answer of a member to the node's own attempt.
+fn take_answer<K: RecordDisk>(
+    alloc: Global,
+    cluster: &Cluster,
+    me: NodeId,
+    disk: &mut K,
+    mut up: UpNode,
+    from: NodeId,
+    m: &Message,
+    out: &mut Vec<Output>,
+) -> Result<UpNode, Stop> {
+    let Some(mut attempt) = up.attempt.take() else {
+        return Ok(up);
+    };
+    let steps = attempt.take(from, m)?;
+    go_on(alloc, cluster, me, disk, up, attempt, steps, out)
+}
+
+/// The president answers a member of its session that is not one yet by Start.
+fn take_heartbeat(
+    me: NodeId,
+    up: UpNode,
+    from: NodeId,
+    session: Epoch,
+    member: bool,
+    out: &mut Vec<Output>,
+) -> Result<UpNode, Stop> {
+    let own = up.seat.session();
+    let leads = own.number() % 64 == me.number();
+    if up.seat.is_member() && leads && session == own && !member && up.seat.members().has(from) {
+        send(out, from, Body::Start { epoch: own })?;
+    }
+    Ok(up)
+}
+
+/// The attempt of the node's session leaves it out.
+fn take_excluded(up: UpNode, epoch: Epoch, newest: Epoch) -> Result<UpNode, Stop> {
+    if epoch != Epoch::zero() && up.seat.session() == epoch {
+        return Err(Stop::Down(DownCause::Panic(Panic::Excluded(newest))));
+    }
+    Ok(up)
+}
+
+fn beat_in(body: &Body) -> Option<Beat> {
+    match body {
+        Body::Heartbeat {
+            promised,
+            session,
+            member,
+        } => Some(Beat {
+            promised: *promised,
+            session: *session,
+            member: *member,
+        }),
+        _ => None,
+    }
+}

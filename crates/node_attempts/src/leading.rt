@@ -1,0 +1,80 @@
+// A node begins an attempt.
+ghost use Rattle.std.specs.Prelude.{◌≡◌, ◌<◌, ◌/◌, ◌%◌, ◌^◌, true};
+ghost use Rattle.cl_base.specs.Sets.{has};
+ghost use Rattle.node_model.specs.Attempts.{leading, led};
+ghost use Rattle.node_model.specs.Plans.{Follows};
+
+use crate::performing::go_on;
+use cl_base::{Epoch, NodeId, NodeSet};
+use cmm_attempt::{AttachedDevices, Attempt};
+use node_acts::promise_body;
+use node_model::{Cluster, Output, Seat, Stop, UpNode, keep, tell};
+use record_disk::RecordDisk;
+use status_report::{AttemptEntry, Entry};
+use std::alloc::Global;
+use wire::Message;
+
+/// The node begins an attempt to form a membership of these nodes, of which it is one: it promises the
+/// next epoch above the greatest that it has seen, and leads the attempt.
+pub fn lead<K: RecordDisk>(
+    alloc: Global,
+    cluster: &Cluster,
+    me: NodeId,
+    disk: &mut K,
+    up: UpNode,
+    members: NodeSet,
+    out: &mut Vec<Output>,
+) -> Result<UpNode, Stop>
+    requires count { up.greatest / 64 < 2 ^ 56 }
+    requires member { has members me ≡ true }
+    ensures { Follows (leading cluster.now me up members) out.old.items (K.kept disk.old) result out.new.items (K.kept disk.new) }
+{
+    let epoch = up.greatest.next_above(me);
+    let UpNode {
+        seat,
+        greatest,
+        beats,
+        mut tasks,
+        attempt,
+    } = up;
+    match seat.promise(epoch) {
+        Ok(node) => {
+            tasks.clear();
+            let up = UpNode {
+                seat: Seat::Forming(node),
+                greatest: epoch,
+                beats,
+                tasks,
+                attempt: None,
+            };
+            begin_attempt(alloc, cluster, me, disk, up, epoch, members, out)
+        }
+        // The greatest epoch seen is never below the promise.
+        Err(seat) => Ok(UpNode { seat, greatest, beats, tasks, attempt }),
+    }
+}
+
+fn begin_attempt<K: RecordDisk>(
+    alloc: Global,
+    cluster: &Cluster,
+    me: NodeId,
+    disk: &mut K,
+    up: UpNode,
+    epoch: Epoch,
+    members: NodeSet,
+    out: &mut Vec<Output>,
+) -> Result<UpNode, Stop>
+    requires coordinator { epoch % 64 ≡ me }
+    requires member { has members me ≡ true }
+    ensures { Follows (led cluster.now me up epoch members) out.old.items (K.kept disk.old) result out.new.items (K.kept disk.new) }
+{
+    keep(alloc, me, disk, &up.seat, out)?;
+    tell(out, Entry::Attempt(AttemptEntry::Begun { epoch, members }))?;
+    let own = Message {
+        sender: me,
+        body: promise_body(alloc, &up.seat, epoch)?,
+    };
+    let attached = AttachedDevices::new(cluster.attached.items().to_vec(alloc)?);
+    let (attempt, steps) = Attempt::begin(alloc, epoch, members, own, attached, cluster.id)?;
+    go_on(alloc, cluster, me, disk, up, attempt, steps, out)
+}

@@ -1,0 +1,146 @@
+// The steps that an attempt gives are carried out, one after another.
+ghost use Rattle.std.specs.Prelude.{◌≡◌, IfOk};
+ghost use Rattle.cmm_attempt.specs.Attempts.{with_steps};
+ghost use Rattle.node_model.specs.Attempts.{going_on, own_ready, performed, performing, seizing_here, step_plan};
+ghost use Rattle.node_model.specs.Plans.{Follows};
+
+use crate::ending::end_attempt;
+use crate::installing::install_here;
+use crate::starting::start_here;
+use cl_base::{DevId, NodeId};
+use cmm_attempt::{Attempt, Step, Steps};
+use node_model::{Cluster, Output, Stop, UpNode, send};
+use record_disk::RecordDisk;
+use seize::{Seize, SeizeKind};
+use std::alloc::{AllocError, Global};
+
+/// The attempt has taken a call, which gave these steps: they are carried out. Where the votes under
+/// the newest record are wanted, the attempt gets them and goes on.
+pub fn go_on<K: RecordDisk>(
+    alloc: Global,
+    cluster: &Cluster,
+    me: NodeId,
+    disk: &mut K,
+    mut up: UpNode,
+    mut attempt: Attempt,
+    steps: Steps,
+    out: &mut Vec<Output>,
+) -> Result<UpNode, Stop>
+    ensures { Follows (going_on cluster.now me up (with_steps attempt steps)) out.old.items (K.kept disk.old) result out.new.items (K.kept disk.new) }
+{
+    if !attempt.needs_votes() {
+        up.attempt = Some(attempt);
+        return perform(alloc, cluster, me, disk, up, steps, out);
+    }
+    // No update changes the votes yet.
+    let steps = attempt.with_votes(cluster.votes, None)?;
+    up.attempt = Some(attempt);
+    perform(alloc, cluster, me, disk, up, steps, out)
+}
+
+/// The steps are carried out, and the coordinator's own part of an install where nothing is to be joined.
+fn perform<K: RecordDisk>(
+    alloc: Global,
+    cluster: &Cluster,
+    me: NodeId,
+    disk: &mut K,
+    up: UpNode,
+    steps: Steps,
+    out: &mut Vec<Output>,
+) -> Result<UpNode, Stop>
+    ensures { Follows (performed cluster.now me up steps) out.old.items (K.kept disk.old) result out.new.items (K.kept disk.new) }
+{
+    let installs = matches!(steps.items().first(), Some(Step::InstallHere(_)));
+    let up = do_steps(alloc, cluster, me, disk, up, steps, out)?;
+    if installs {
+        own_ready(alloc, cluster, me, disk, up, out)
+    } else {
+        Ok(up)
+    }
+}
+
+/// The coordinator has installed the membership: where it has no device left to join, its own part is
+/// done.
+pub fn own_ready<K: RecordDisk>(
+    alloc: Global,
+    cluster: &Cluster,
+    me: NodeId,
+    disk: &mut K,
+    mut up: UpNode,
+    out: &mut Vec<Output>,
+) -> Result<UpNode, Stop>
+    ensures { Follows (own_ready cluster.now me up) out.old.items (K.kept disk.old) result out.new.items (K.kept disk.new) }
+{
+    if up.tasks.joins() {
+        return Ok(up);
+    }
+    let Some(mut attempt) = up.attempt.take() else {
+        return Ok(up);
+    };
+    let steps = attempt.own_ready()?;
+    up.attempt = Some(attempt);
+    do_steps(alloc, cluster, me, disk, up, steps, out)
+}
+
+fn do_steps<K: RecordDisk>(
+    alloc: Global,
+    cluster: &Cluster,
+    me: NodeId,
+    disk: &mut K,
+    mut up: UpNode,
+    steps: Steps,
+    out: &mut Vec<Output>,
+) -> Result<UpNode, Stop>
+    ensures { Follows (performing cluster.now me up steps) out.old.items (K.kept disk.old) result out.new.items (K.kept disk.new) }
+{
+    for step in steps.into_items() {
+        up = do_step(alloc, cluster, me, disk, up, step, out)?;
+    }
+    Ok(up)
+}
+
+fn do_step<K: RecordDisk>(
+    alloc: Global,
+    cluster: &Cluster,
+    me: NodeId,
+    disk: &mut K,
+    up: UpNode,
+    step: Step,
+    out: &mut Vec<Output>,
+) -> Result<UpNode, Stop>
+    ensures { Follows (step_plan cluster.now me up step) out.old.items (K.kept disk.old) result out.new.items (K.kept disk.new) }
+{
+    match step {
+        Step::Send { to, message } => {
+            send(out, to, message.body)?;
+            Ok(up)
+        }
+        Step::SeizeHere { dev, kind } => Ok(seize_here(cluster, me, up, dev, kind)?),
+        Step::NeedVotes { .. } => Ok(up),
+        Step::InstallHere(i) => install_here(alloc, cluster, me, disk, up, i, out),
+        Step::StartHere => start_here(alloc, me, disk, up, out),
+        Step::Ended(end) => end_attempt(me, up, end, out),
+    }
+}
+
+/// The coordinator begins to seize the device itself.
+fn seize_here(
+    cluster: &Cluster,
+    me: NodeId,
+    mut up: UpNode,
+    dev: DevId,
+    kind: SeizeKind,
+) -> Result<UpNode, AllocError>
+    ensures { IfOk result (λ after. after ≡ seizing_here cluster.now me up dev kind up.attempt) }
+{
+    let Some(attempt) = &up.attempt else {
+        return Ok(up);
+    };
+    let (epoch, members) = (attempt.epoch(), attempt.members());
+    if members.has(me) {
+        let valid = up.seat.valid().has(dev);
+        let seizing = Seize::begin(kind, epoch, members, me, cluster.id, valid);
+        up.tasks.seize(dev, seizing)?;
+    }
+    Ok(up)
+}
