@@ -4,6 +4,7 @@ ghost use Rattle.pgr_device.specs.Keys.{HasNoZeroKey};
 ghost use Rattle.node_model.specs.Devices.{before_command, on_answer_of_device};
 ghost use Rattle.node_model.specs.Plans.{Follows};
 
+use crate::writes::told_answer;
 use cl_base::{DevId, Epoch, NodeId};
 use device_queue::Progress;
 use node_attempts::{go_on, own_ready};
@@ -12,7 +13,7 @@ use node_model::{Cluster, Output, Stop, UpNode, keep, send, tell};
 use pgr_device::{Failed, PrAnswer};
 use record_disk::RecordDisk;
 use seize::{JoinResult, SeizeResult, told_result};
-use status_report::{DeviceAnswer, DeviceEntry, Entry};
+use status_report::{DeviceEntry, Entry};
 use std::alloc::Global;
 use wire::Body;
 
@@ -140,13 +141,6 @@ fn take_joined<K: RecordDisk>(
 /// The node that coordinates the attempt of this epoch.
 fn coordinator(epoch: Epoch) -> Option<NodeId> {
     NodeId::new(epoch.number() % 64).ok()
-}
-
-fn told_answer(answer: Result<PrAnswer, Failed>) -> DeviceAnswer {
-    match answer {
-        Ok(answer) => DeviceAnswer::Given(answer),
-        Err(_) => DeviceAnswer::Failed,
-    }
 }
 
 /// The word that the answer tells, or 0.

@@ -1,13 +1,13 @@
 // A node's writes.
 ghost use Rattle.std.specs.Prelude.{◌≡◌};
 ghost use Rattle.cmm_member.specs.Records.{NodeRecord};
-ghost use Rattle.node_model.specs.Devices.{may_write_as, wrote};
+ghost use Rattle.node_model.specs.Devices.{answer_told, may_write_as, write_ended, wrote};
 ghost use Rattle.node_model.specs.Plans.{Follows};
 
 use cl_base::{DevId, Epoch, NodeId, Panic};
 use node_model::{Cluster, Output, Seat, Stop, UpNode, tell};
-use pgr_device::{Failed, PrAnswer};
-use status_report::{DeviceEntry, DownCause, Entry, WriteRefusal};
+use pgr_device::{Failed, PrAnswer, PrCommand};
+use status_report::{DeviceAnswer, DeviceEntry, DownCause, Entry, WriteRefusal};
 
 /// The epoch under which the node may write to the device, or why it may not.
 pub fn may_write(
@@ -40,6 +40,26 @@ pub fn take_write_answer(
 ) -> Result<UpNode, Stop>
     ensures { (disk : NodeRecord) → Follows (wrote me up device value answer) out.old.items disk result out.new.items disk }
 {
+    let told = DeviceEntry::Command {
+        node: me,
+        device,
+        command: PrCommand::Write { value },
+        answer: told_answer(answer),
+    };
+    tell(out, Entry::Device(told))?;
+    end_write(me, up, device, value, answer, out)
+}
+
+fn end_write(
+    me: NodeId,
+    up: UpNode,
+    device: DevId,
+    value: u64,
+    answer: Result<PrAnswer, Failed>,
+    out: &mut Vec<Output>,
+) -> Result<UpNode, Stop>
+    ensures { (disk : NodeRecord) → Follows (write_ended me up device value answer) out.old.items disk result out.new.items disk }
+{
     match answer {
         Ok(PrAnswer::Good) => {
             let entry = DeviceEntry::Accepted {
@@ -69,4 +89,14 @@ fn refused(node: NodeId, device: DevId, value: u64, cause: WriteRefusal) -> Entr
         value,
         cause,
     })
+}
+
+/// The answer as the trace tells it.
+pub fn told_answer(answer: Result<PrAnswer, Failed>) -> DeviceAnswer
+    ensures { result ≡ answer_told answer }
+{
+    match answer {
+        Ok(answer) => DeviceAnswer::Given(answer),
+        Err(_) => DeviceAnswer::Failed,
+    }
 }

@@ -11,6 +11,7 @@ use Rattle.device_queue.specs.Queue.{after_answer, begins_plainly, due_device, j
 use Rattle.pgr_device.specs.declared.command.PrAnswer.{PrAnswer}
 use Rattle.pgr_device.specs.declared.command.PrAnswer.TheVariants as given
 use Rattle.pgr_device.specs.declared.command.PrCommand.{PrCommand}
+use Rattle.pgr_device.specs.declared.command.PrCommand.TheVariants as command
 use Rattle.seize.specs.Answers.{Answer}
 use Rattle.seize.specs.declared.kind.JoinResult.{JoinResult}
 use Rattle.seize.specs.declared.kind.JoinResult.TheVariants as join
@@ -19,6 +20,7 @@ use Rattle.status_report.specs.declared.device_entry.DeviceAnswer.TheVariants.{G
 use Rattle.status_report.specs.declared.device_entry.DeviceEntry.TheVariants as device
 use Rattle.status_report.specs.declared.device_entry.WriteRefusal.{WriteRefusal}
 use Rattle.status_report.specs.declared.device_entry.WriteRefusal.TheVariants.{NotMember, NoPath, NotHeld, Fenced, Fault}
+use Rattle.status_report.specs.declared.entry.Entry.{Entry}
 use Rattle.status_report.specs.declared.entry.Entry.TheVariants as entry
 use Rattle.status_report.specs.declared.node_entry.DownCause.TheVariants as down
 use Rattle.wire.specs.declared.message.Body.TheVariants as body
@@ -109,7 +111,14 @@ abbrev pub may_write_as : Cluster → ℕ → ℕ → Seat → Result ℕ WriteR
 may_write_as c me d (Forming s) = Err NotMember
 may_write_as c me d (Member s) = if has_path c.attached me d then (if has s.joined d then Ok s.session else Err NotHeld) else Err NoPath
 
+abbrev pub write_told : ℕ → ℕ → ℕ → Answer → Entry
+write_told me d value a = entry.Device (device.Command me d (command.Write value) (answer_told a))
+
+abbrev pub write_ended : ℕ → UpNode → ℕ → ℕ → Answer → Plan
+write_ended me x d value (Ok given.Good) = telling (entry.Device (device.Accepted (session_of x) me d value)) (Stays x)
+write_ended me x d value (Ok given.Conflict) = telling (entry.Device (device.Refused me d value Fenced)) (Falls (down.Panic (panic.Fenced d)))
+write_ended me x d value _ = telling (entry.Device (device.Refused me d value Fault)) (Stays x)
+
+-- the device's answer to a write, and what the write comes to: a node that is refused is fenced
 abbrev pub wrote : ℕ → UpNode → ℕ → ℕ → Answer → Plan
-wrote me x d value (Ok given.Good) = telling (entry.Device (device.Accepted (session_of x) me d value)) (Stays x)
-wrote me x d value (Ok given.Conflict) = telling (entry.Device (device.Refused me d value Fenced)) (Falls (down.Panic (panic.Fenced d)))
-wrote me x d value _ = telling (entry.Device (device.Refused me d value Fault)) (Stays x)
+wrote me x d value a = telling (write_told me d value a) (write_ended me x d value a)

@@ -18,6 +18,8 @@ pub struct Cluster {
     pub devices: DevSet,
     /// These devices, by number, and the nodes that have a path to each.
     pub attached: AttachedDevices,
+    /// The devices that are valid to each node before its first record: the quorum devices.
+    pub first_valid: DevSet,
     /// The votes at first.
     pub votes: Votes,
 }

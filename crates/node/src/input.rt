@@ -1,0 +1,34 @@
+use cl_base::{DevId, NodeId};
+use pgr_device::{Failed, PrAnswer};
+use wire::Message;
+
+/// What happens to a node.
+#[derive(Drop)]
+pub enum Input {
+    /// It starts from its record.
+    Boot,
+    /// It goes down and loses all but its record.
+    Crash,
+    /// Its clock ticks.
+    Tick,
+    /// A packet is delivered to it.
+    Packet {
+        /// The node that sent it.
+        from: NodeId,
+        /// The message that it holds.
+        message: Message,
+    },
+    /// The command of its tasks that is due is about to be done.
+    CommandDue,
+    /// That command is answered so.
+    Answered(Result<PrAnswer, Failed>),
+    /// Its write to a device is answered so.
+    Wrote {
+        /// The device.
+        device: DevId,
+        /// What it wrote.
+        value: u64,
+        /// The answer.
+        answer: Result<PrAnswer, Failed>,
+    },
+}
