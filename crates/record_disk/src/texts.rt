@@ -1,0 +1,98 @@
+// The text that a disk has for a record.
+ghost use Rattle.std.specs.Prelude.{◌≡◌, ◌↔◌, ◌≤◌, All, IfOk, IsTrue, MatchOption, option_copied};
+ghost use Rattle.ccr_commit.specs.Entries.{texts_of};
+ghost use Rattle.cmm_member.specs.Records.{IsRowText, first_record};
+ghost use Rattle.cmm_member.specs.Views.{kept};
+ghost use Rattle.record_disk.specs.Disks.{Fits};
+ghost use Rattle.record_disk.specs.Images.{IsTextFor};
+
+use ccr_commit::Entries;
+use ccr_text::print_table;
+use cl_base::{Bytes, DevSet, Epoch, NodeSet};
+use cmm_member::{Record, entries_from, record_rows, records_have_their_length, rows_are_a_table};
+use record_store::MOST_BYTES;
+use std::alloc::{AllocError, Global};
+
+/// The record that an empty disk stands for.
+pub fn first_record(alloc: Global, valid: DevSet) -> Record
+    ensures { kept result ≡ first_record valid }
+{
+    Record {
+        promised: Epoch::zero(),
+        installed: Epoch::zero(),
+        members: NodeSet::empty(),
+        valid,
+        entries: Entries::new(alloc),
+    }
+}
+
+/// The same record again.
+pub fn copy_record(alloc: Global, record: &Record) -> Result<Record, AllocError>
+    ensures { IfOk result (λ copy. kept copy ≡ kept record.now) }
+{
+    let pending = copy_text(alloc, record.entries.pending())?;
+    Ok(Record {
+        promised: record.promised,
+        installed: record.installed,
+        members: record.members,
+        valid: record.valid,
+        entries: entries_from(alloc, record.entries.committed(), &pending)?,
+    })
+}
+
+fn copy_text(alloc: Global, text: Option<&Bytes>) -> Result<Option<Bytes>, AllocError>
+    ensures { IfOk result (λ copy. copy ≡ option_copied text) }
+{
+    match text {
+        Some(text) => Ok(Some(Bytes::new(text.items().to_vec(alloc)?))),
+        None => Ok(None),
+    }
+}
+
+/// The text of the record's table, if a disk can hold it.
+pub fn text_for(alloc: Global, saves: u64, record: &Record) -> Result<Option<Vec<u8>>, AllocError>
+    ensures { IfOk result (λ found. MatchOption found (Fits saves (kept record.now) → ⊥) (λ text. Fits saves (kept record.now) × IsTextFor text.items saves (kept record.now))) }
+{
+    if record.installed > record.promised || !are_row_texts(&record.entries) {
+        return Ok(None);
+    }
+    let text = table_of(alloc, saves, record)?;
+    records_have_their_length();
+    if text.len() > MOST_BYTES {
+        return Ok(None);
+    }
+    Ok(Some(text))
+}
+
+/// The text of the record's table.
+pub fn table_of(alloc: Global, saves: u64, record: &Record) -> Result<Vec<u8>, AllocError>
+    requires order { record.now.installed ≤ record.now.promised }
+    requires texts { All IsRowText (texts_of record.now.entries) }
+    ensures { IfOk result (λ text. IsTextFor text.items saves (kept record.now)) }
+{
+    let rows = record_rows(alloc, record)?;
+    rows_are_a_table();
+    print_table(alloc, saves, &rows)
+}
+
+fn are_row_texts(entries: &Entries) -> bool
+    ensures { IsTrue result ↔ All IsRowText (texts_of entries.now) }
+{
+    let Some(last) = entries.pending() else {
+        return entries
+            .committed()
+            .iter()
+            .all(|text| is_row_text(text.items()));
+    };
+    is_row_text(last.items())
+        && entries
+            .committed()
+            .iter()
+            .all(|text| is_row_text(text.items()))
+}
+
+fn is_row_text(text: &[u8]) -> bool
+    ensures { IsTrue result ↔ IsRowText text.now }
+{
+    text.len() <= 65535 && text.iter().all(|b| *b != b'\t' && *b != b'\n')
+}
