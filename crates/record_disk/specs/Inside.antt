@@ -31,6 +31,6 @@ NoneTried (Some held) tried = tried ≡ None
 
 pub record IsTied (disk : State) (store : Option Held) (last : Saved) (tried : Option Saved) : Type 0 where
   pub settled : IsSettled disk
-  pub store : StandsIf disk store
+  pub ready : StandsIf disk store
   pub none_tried : NoneTried store tried
   pub text : (let s = standing (text_of disk.reads) last tried in StandsFor (text_of disk.reads) s.saves (kept s.record))

@@ -1,5 +1,5 @@
 // The disk calls of a mounting and of a save.
-ghost use Rattle.std.specs.Prelude.{◌≡◌, ◌⊎◌, ◌≤◌, true, false, length, IfOk, OnOk, IfErr, OnErr, IsErrOf, MatchResult, if◌then◌else◌};
+ghost use Rattle.std.specs.Prelude.{◌≡◌, ◌⊎◌, ◌≤◌, true, false, length, IfOk, OnOk, OnErr, IsErrOf, MatchResult, if◌then◌else◌};
 ghost use Rattle.local_disk.specs.LocalDisk.{Only};
 ghost use Rattle.local_disk.specs.Memory.{calls_of, has_stopped, still_armed};
 ghost use Rattle.record_store.specs.Images.{text_of};
@@ -22,13 +22,15 @@ pub fn read(alloc: Global, disk: &mut MemDisk) -> Result<(Store, Vec<u8>), DiskE
     ensures text { IfOk result (λ found. found.1.items ≡ text_of disk.old.reads) }
     ensures stands { IfOk result (λ found. Stands disk.new.reads (images disk.new) found.0) }
     ensures when { MatchResult result (λ found. stops_in_four (calls_of disk.old.stop) ≡ false) (λ e. (e ≡ NoMemory) ⊎ ((e ≡ Lost Stopped) × (stops_in_four (calls_of disk.old.stop) ≡ true))) }
-    ensures calls { IfErr result (λ e. e ≡ NoMemory) ⊎ (calls_of disk.new.stop ≡ after_four (calls_of disk.old.stop)) }
+    ensures calls { OnOk result (calls_of disk.new.stop ≡ after_four (calls_of disk.old.stop)) }
+    ensures stopped { IsErrOf result (Lost Stopped) → calls_of disk.new.stop ≡ after_four (calls_of disk.old.stop) }
     ensures no_memory { IsErrOf result NoMemory → disk.new ≡ disk.old }
 {
     match Store::mount(alloc, disk) {
         Ok(mounted) => Ok(mounted),
         Err(StoreError::NoMemory) => Err(DiskError::NoMemory),
-        Err(_) => Err(DiskError::Lost(crash(disk))),
+        Err(StoreError::DiskFault) => Err(DiskError::Lost(crash(disk))),
+        Err(StoreError::TooLong(_)) => unreachable!(),
     }
 }
 

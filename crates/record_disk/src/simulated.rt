@@ -102,18 +102,18 @@ impl RecordDisk for SimulatedDisk {
     }
 
     fn save(&mut self, alloc: Global, record: &Record) -> Result<(), DiskError>
-        ensures saved { OnOk result (self.new.kept ≡ record_of record.now) }
-        ensures lost { OnErr result ((self.new.kept ≡ self.old.kept) ⊎ (self.new.kept ≡ record_of record.now)) }
+        ensures saved { OnOk result (self.new.kept ≡ record_of «record».now) }
+        ensures lost { OnErr result ((self.new.kept ≡ self.old.kept) ⊎ (self.new.kept ≡ record_of «record».now)) }
         ensures no_memory { IsErrOf result NoMemory → self.new.kept ≡ self.old.kept }
-        ensures ok { OnOk result (self.new ≡ saved_by self.old (record_of record.now)) }
-        ensures fits { OnOk result (Fits (next_save self.old.saves) (record_of record.now)) }
+        ensures ok { OnOk result (self.new ≡ saved_by self.old (record_of «record».now)) }
+        ensures fits { OnOk result (Fits (next_save self.old.saves) (record_of «record».now)) }
         ensures mounted { OnOk result (self.old.mounted ≡ true) }
         ensures in_time { OnOk result (stops_in_four self.old.calls_left ≡ false) }
-        ensures stopped { IsErrOf result (Lost Stopped) → (self.new ≡ lost_by self.old) ⊎ (self.new ≡ saved_at_last_by self.old (record_of record.now)) }
-        ensures stopped_fits { IsErrOf result (Lost Stopped) → Fits (next_save self.old.saves) (record_of record.now) }
+        ensures stopped { IsErrOf result (Lost Stopped) → (self.new ≡ lost_by self.old) ⊎ (self.new ≡ saved_at_last_by self.old (record_of «record».now)) }
+        ensures stopped_fits { IsErrOf result (Lost Stopped) → Fits (next_save self.old.saves) (record_of «record».now) }
         ensures stopped_mounted { IsErrOf result (Lost Stopped) → self.old.mounted ≡ true }
         ensures in_four { IsErrOf result (Lost Stopped) → stops_in_four self.old.calls_left ≡ true }
-        ensures fault { IsErrOf result (Lost Fault) → (self.old.mounted ≡ false) ⊎ (Fits (next_save self.old.saves) (record_of record.now) → ⊥) }
+        ensures fault { IsErrOf result (Lost Fault) → (self.old.mounted ≡ false) ⊎ (Fits (next_save self.old.saves) (record_of «record».now) → ⊥) }
         ensures nothing { IsErrOf result (Lost Fault) → self.new ≡ self.old }
         ensures none_taken { IsErrOf result NoMemory → self.new ≡ self.old }
     {

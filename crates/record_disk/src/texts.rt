@@ -1,5 +1,5 @@
 // The text that a disk has for a record.
-ghost use Rattle.std.specs.Prelude.{◌≡◌, ◌↔◌, ◌≤◌, All, IfOk, IsTrue, MatchOption, option_copied};
+ghost use Rattle.std.specs.Prelude.{◌≡◌, ◌↔◌, ◌≤◌, All, IfOk, IfSome, IsTrue, MatchOption, length};
 ghost use Rattle.ccr_commit.specs.Entries.{texts_of};
 ghost use Rattle.cmm_member.specs.Records.{IsRowText, first_record};
 ghost use Rattle.cmm_member.specs.Views.{kept};
@@ -28,9 +28,12 @@ pub fn first_record(alloc: Global, valid: DevSet) -> Record
 
 /// The same record again.
 pub fn copy_record(alloc: Global, record: &Record) -> Result<Record, AllocError>
-    ensures { IfOk result (λ copy. kept copy ≡ kept record.now) }
+    ensures { IfOk result (λ copy. kept copy ≡ kept «record».now) }
 {
-    let pending = copy_text(alloc, record.entries.pending())?;
+    let pending = match record.entries.pending() {
+        Some(text) => Some(Bytes::new(text.items().to_vec(alloc)?)),
+        None => None,
+    };
     Ok(Record {
         promised: record.promised,
         installed: record.installed,
@@ -40,20 +43,13 @@ pub fn copy_record(alloc: Global, record: &Record) -> Result<Record, AllocError>
     })
 }
 
-fn copy_text(alloc: Global, text: Option<&Bytes>) -> Result<Option<Bytes>, AllocError>
-    ensures { IfOk result (λ copy. copy ≡ option_copied text) }
-{
-    match text {
-        Some(text) => Ok(Some(Bytes::new(text.items().to_vec(alloc)?))),
-        None => Ok(None),
-    }
-}
-
 /// The text of the record's table, if a disk can hold it.
 pub fn text_for(alloc: Global, saves: u64, record: &Record) -> Result<Option<Vec<u8>>, AllocError>
-    ensures { IfOk result (λ found. MatchOption found (Fits saves (kept record.now) → ⊥) (λ text. Fits saves (kept record.now) × IsTextFor text.items saves (kept record.now))) }
+    ensures fits { IfOk result (λ found. MatchOption found (Fits saves (kept «record».now) → ⊥) (λ text. Fits saves (kept «record».now))) }
+    ensures text { IfOk result (λ found. IfSome found (λ text. IsTextFor text.items saves (kept «record».now))) }
+    ensures most { IfOk result (λ found. IfSome found (λ text. length text.items ≤ 65536)) }
 {
-    if record.installed > record.promised || !are_row_texts(&record.entries) {
+    if record.installed > record.promised || !fit_rows(&record.entries) {
         return Ok(None);
     }
     let text = table_of(alloc, saves, record)?;
@@ -66,29 +62,28 @@ pub fn text_for(alloc: Global, saves: u64, record: &Record) -> Result<Option<Vec
 
 /// The text of the record's table.
 pub fn table_of(alloc: Global, saves: u64, record: &Record) -> Result<Vec<u8>, AllocError>
-    requires order { record.now.installed ≤ record.now.promised }
-    requires texts { All IsRowText (texts_of record.now.entries) }
-    ensures { IfOk result (λ text. IsTextFor text.items saves (kept record.now)) }
+    requires order { «record».now.installed ≤ «record».now.promised }
+    requires texts { All IsRowText (texts_of «record».now.entries) }
+    ensures { IfOk result (λ text. IsTextFor text.items saves (kept «record».now)) }
 {
     let rows = record_rows(alloc, record)?;
     rows_are_a_table();
     print_table(alloc, saves, &rows)
 }
 
-fn are_row_texts(entries: &Entries) -> bool
+fn fit_rows(entries: &Entries) -> bool
     ensures { IsTrue result ↔ All IsRowText (texts_of entries.now) }
 {
     let Some(last) = entries.pending() else {
-        return entries
-            .committed()
-            .iter()
-            .all(|text| is_row_text(text.items()));
+        return are_row_texts(entries.committed());
     };
-    is_row_text(last.items())
-        && entries
-            .committed()
-            .iter()
-            .all(|text| is_row_text(text.items()))
+    is_row_text(last.items()) && are_row_texts(entries.committed())
+}
+
+fn are_row_texts(texts: &[Bytes]) -> bool
+    ensures { IsTrue result ↔ All IsRowText texts.now }
+{
+    texts.iter().all(|text| is_row_text(text.items()))
 }
 
 fn is_row_text(text: &[u8]) -> bool
