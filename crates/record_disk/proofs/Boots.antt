@@ -1,5 +1,5 @@
 -- What a boot gives, with its two clauses in one.
-use Rattle.std.proofs.Common.{◌≡◌, ℕ, List, []}
+use Rattle.std.proofs.Common.{◌≡◌, ℕ, List}
 use Rattle.std.specs.Prelude.{Result, Ok, Err, IfOk}
 use Rattle.ccr_text.specs.TableText.{IsTable}
 use Rattle.cmm_member.specs.Records.{NodeRecord, IsRecord, rows_of}

@@ -1,6 +1,6 @@
 -- All texts of some entries fit rows where the committed ones do, and the pending one, if there is one.
-use Rattle.std.proofs.Common.{◌≡◌, ℕ, ◌↔◌, Bool, true, false, List, [], ◌∷◌, ◌++◌, length, take, drop, refl, sym, ◌∙◌, ap, subst, arith}
-use Rattle.std.specs.Prelude.{Option, Some, None, All, IsTrue}
+use Rattle.std.proofs.Common.{◌≡◌, ℕ, ◌↔◌, Bool, List, [], ◌∷◌, ◌++◌, length, sym, ap, subst}
+use Rattle.std.specs.Prelude.{Option, Some, All, IsTrue}
 use Rattle.std.proofs.lemmas.List.Elements.{All-push, All-take, All-drop, All-head}
 use Rattle.std.proofs.Math.Seq.{take-append_seam, drop-append_seam}
 use Rattle.ccr_commit.specs.Entries.{EntryList, listed, texts_of}

@@ -35,24 +35,24 @@ abbrev pub next_save : ℕ → ℕ
 next_save saves = min (saves + 1) (2 ^ 64 - 1)
 
 -- a mounting that succeeds
-abbrev pub mounted_by : DiskState → DiskState
-mounted_by d = record { kept = d.kept; saves = d.saves; mounted = true; calls_left = after_four d.calls_left }
+abbrev pub after_mounting : DiskState → DiskState
+after_mounting d = record { kept = d.kept; saves = d.saves; mounted = true; calls_left = after_four d.calls_left }
 
 -- a mounting that takes no call
-abbrev pub unmounted_by : DiskState → DiskState
-unmounted_by d = record { kept = d.kept; saves = d.saves; mounted = false; calls_left = d.calls_left }
+abbrev pub after_no_call : DiskState → DiskState
+after_no_call d = record { kept = d.kept; saves = d.saves; mounted = false; calls_left = d.calls_left }
 
 -- a mounting or a save that takes four calls, or fewer where the stop comes in one, and leaves what was kept
-abbrev pub lost_by : DiskState → DiskState
-lost_by d = record { kept = d.kept; saves = d.saves; mounted = false; calls_left = after_four d.calls_left }
+abbrev pub after_loss : DiskState → DiskState
+after_loss d = record { kept = d.kept; saves = d.saves; mounted = false; calls_left = after_four d.calls_left }
 
 -- a save that succeeds
-abbrev pub saved_by : DiskState → NodeRecord → DiskState
-saved_by d r = record { kept = r; saves = next_save d.saves; mounted = true; calls_left = after_four d.calls_left }
+abbrev pub after_save : DiskState → NodeRecord → DiskState
+after_save d r = record { kept = r; saves = next_save d.saves; mounted = true; calls_left = after_four d.calls_left }
 
 -- a save that stops and leaves the new record all the same
-abbrev pub saved_at_last_by : DiskState → NodeRecord → DiskState
-saved_at_last_by d r = record { kept = r; saves = next_save d.saves; mounted = false; calls_left = after_four d.calls_left }
+abbrev pub after_stopped_save : DiskState → NodeRecord → DiskState
+after_stopped_save d r = record { kept = r; saves = next_save d.saves; mounted = false; calls_left = after_four d.calls_left }
 
 -- a record that a disk can hold as the table of this number
 pub record Fits (saves : ℕ) (r : NodeRecord) : Type 0 where

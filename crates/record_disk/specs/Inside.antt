@@ -13,7 +13,7 @@ use Rattle.record_disk.specs.Images.{StandsFor, IsSettled, StandsIf}
 
 -- whether the text is that of the table
 unfoldable pub is_text_of : List ℕ → Saved → Bool
-is_text_of text s = pointwise nat_eq text (table_text s.saves (rows_of (kept s.record)))
+is_text_of text s = pointwise nat_eq text (table_text s.saves (rows_of (kept s.durable)))
 
 -- What stands on a disk with this text: what was tried after the last mounting or save, where the text is that of its
 -- table, and else the last.
@@ -22,7 +22,7 @@ standing text last None = last
 standing text last (Some tried) = if is_text_of text tried then tried else last
 
 abbrev pub seen : State → Option Held → Saved → DiskState
-seen disk store s = record { kept = kept s.record; saves = s.saves; mounted = is_some store; calls_left = calls_of disk.stop }
+seen disk store s = record { kept = kept s.durable; saves = s.saves; mounted = is_some store; calls_left = calls_of disk.stop }
 
 -- a mounted disk has the last record
 abbrev pub NoneTried : Option Held → Option Saved → Type 0
@@ -33,4 +33,4 @@ pub record IsTied (disk : State) (store : Option Held) (last : Saved) (tried : O
   pub settled : IsSettled disk
   pub ready : StandsIf disk store
   pub none_tried : NoneTried store tried
-  pub text : (let s = standing (text_of disk.reads) last tried in StandsFor (text_of disk.reads) s.saves (kept s.record))
+  pub text : (let s = standing (text_of disk.reads) last tried in StandsFor (text_of disk.reads) s.saves (kept s.durable))

@@ -18,10 +18,10 @@ pub trait RecordDisk {
         ensures up { IfOk result (λ up. up ≡ booted down (kept self.old)) }
         ensures kept { kept self.new ≡ kept self.old };
 
-    /// Saves a record in place of the one that the disk keeps. After `Lost` the old one is kept or the new one, and
-    /// the disk is to be mounted before the next save.
-    fn save(&mut self, alloc: Global, record: &Record) -> Result<(), DiskError>
-        ensures saved { OnOk result (kept self.new ≡ record_of «record».now) }
-        ensures lost { OnErr result ((kept self.new ≡ kept self.old) ⊎ (kept self.new ≡ record_of «record».now)) }
+    /// Saves a record in place of the one that the disk keeps. After `Lost` the old one is kept or the new one; the
+    /// disk is to be mounted before the next save.
+    fn save(&mut self, alloc: Global, durable: &Record) -> Result<(), DiskError>
+        ensures saved { OnOk result (kept self.new ≡ record_of durable.now) }
+        ensures lost { OnErr result ((kept self.new ≡ kept self.old) ⊎ (kept self.new ≡ record_of durable.now)) }
         ensures no_memory { IsErrOf result NoMemory → kept self.new ≡ kept self.old };
 }

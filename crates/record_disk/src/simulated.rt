@@ -5,7 +5,7 @@ ghost use Rattle.cmm_member.specs.Records.{NodeRecord, IsRecordText};
 ghost use Rattle.cmm_member.specs.Views.{kept as record_of};
 ghost use Rattle.record_disk.specs.declared.error.Loss.TheVariants.{Stopped, Fault};
 ghost use Rattle.record_disk.specs.declared.error.DiskError.TheVariants.{Lost, NoMemory};
-ghost use Rattle.record_disk.specs.Disks.{Fits, empty_disk, armed, stops_in_four, next_save, mounted_by, unmounted_by, lost_by, saved_by, saved_at_last_by};
+ghost use Rattle.record_disk.specs.Disks.{Fits, empty_disk, armed, stops_in_four, next_save, after_mounting, after_no_call, after_loss, after_save, after_stopped_save};
 ghost use Rattle.record_disk.specs.Images.{IsFirst, IsTextFor};
 
 use crate::calls::{read, write};
@@ -21,7 +21,7 @@ use std::marker::Model;
 // A record and the number of its save.
 #[derive(Drop)]
 struct Saved {
-    record: Record,
+    durable: Record,
     saves: u64,
 }
 
@@ -60,7 +60,7 @@ impl SimulatedDisk {
             disk: MemDisk::new(alloc)?,
             store: None,
             last: Saved {
-                record: first_record(alloc, first_valid),
+                durable: first_record(alloc, first_valid),
                 saves: 0,
             },
             tried: None,
@@ -83,54 +83,55 @@ impl RecordDisk for SimulatedDisk {
     fn mount(&mut self, alloc: Global, down: DownNode) -> Result<FormingNode, DiskError>
         ensures up { IfOk result (λ up. up ≡ booted down self.old.kept) }
         ensures kept { self.new.kept ≡ self.old.kept }
-        ensures ok { OnOk result (self.new ≡ mounted_by self.old) }
+        ensures ok { OnOk result (self.new ≡ after_mounting self.old) }
         ensures in_time { OnOk result (stops_in_four self.old.calls_left ≡ false) }
         ensures errors { IfErr result (λ e. (e ≡ NoMemory) ⊎ (e ≡ Lost Stopped)) }
-        ensures stopped { IsErrOf result (Lost Stopped) → self.new ≡ lost_by self.old }
+        ensures stopped { IsErrOf result (Lost Stopped) → self.new ≡ after_loss self.old }
         ensures in_four { IsErrOf result (Lost Stopped) → stops_in_four self.old.calls_left ≡ true }
         // memory ran out before the first call or after the last
-        ensures no_memory { IsErrOf result NoMemory → (self.new ≡ unmounted_by self.old) ⊎ (self.new ≡ lost_by self.old) }
+        ensures no_memory { IsErrOf result NoMemory → (self.new ≡ after_no_call self.old) ⊎ (self.new ≡ after_loss self.old) }
     {
         self.store = None;
         let (store, text) = read(alloc, &mut self.disk)?;
         let (node, saves) = boot(alloc, down, text, &self.last)?;
-        let record = copy_record(alloc, node.record())?;
+        let durable = copy_record(alloc, node.record())?;
         self.store = Some(store);
-        self.last = Saved { record, saves };
+        self.last = Saved { durable, saves };
         self.tried = None;
         Ok(node)
     }
 
-    fn save(&mut self, alloc: Global, record: &Record) -> Result<(), DiskError>
-        ensures saved { OnOk result (self.new.kept ≡ record_of «record».now) }
-        ensures lost { OnErr result ((self.new.kept ≡ self.old.kept) ⊎ (self.new.kept ≡ record_of «record».now)) }
+    fn save(&mut self, alloc: Global, durable: &Record) -> Result<(), DiskError>
+        ensures saved { OnOk result (self.new.kept ≡ record_of durable.now) }
+        ensures lost { OnErr result ((self.new.kept ≡ self.old.kept) ⊎ (self.new.kept ≡ record_of durable.now)) }
         ensures no_memory { IsErrOf result NoMemory → self.new.kept ≡ self.old.kept }
-        ensures ok { OnOk result (self.new ≡ saved_by self.old (record_of «record».now)) }
-        ensures fits { OnOk result (Fits (next_save self.old.saves) (record_of «record».now)) }
+        ensures ok { OnOk result (self.new ≡ after_save self.old (record_of durable.now)) }
+        ensures fits { OnOk result (Fits (next_save self.old.saves) (record_of durable.now)) }
         ensures mounted { OnOk result (self.old.mounted ≡ true) }
         ensures in_time { OnOk result (stops_in_four self.old.calls_left ≡ false) }
-        ensures stopped { IsErrOf result (Lost Stopped) → (self.new ≡ lost_by self.old) ⊎ (self.new ≡ saved_at_last_by self.old (record_of «record».now)) }
-        ensures stopped_fits { IsErrOf result (Lost Stopped) → Fits (next_save self.old.saves) (record_of «record».now) }
+        ensures stopped { IsErrOf result (Lost Stopped) → (self.new ≡ after_loss self.old) ⊎ (self.new ≡ after_stopped_save self.old (record_of durable.now)) }
+        ensures stopped_fits { IsErrOf result (Lost Stopped) → Fits (next_save self.old.saves) (record_of durable.now) }
         ensures stopped_mounted { IsErrOf result (Lost Stopped) → self.old.mounted ≡ true }
         ensures in_four { IsErrOf result (Lost Stopped) → stops_in_four self.old.calls_left ≡ true }
-        ensures fault { IsErrOf result (Lost Fault) → (self.old.mounted ≡ false) ⊎ (Fits (next_save self.old.saves) (record_of «record».now) → ⊥) }
+        ensures fault { IsErrOf result (Lost Fault) → (self.old.mounted ≡ false) ⊎ (Fits (next_save self.old.saves) (record_of durable.now) → ⊥) }
         ensures nothing { IsErrOf result (Lost Fault) → self.new ≡ self.old }
         ensures none_taken { IsErrOf result NoMemory → self.new ≡ self.old }
     {
         let saves = self.last.saves.saturating_add(1);
-        let Some(text) = text_for(alloc, saves, record)? else {
+        let Some(text) = text_for(alloc, saves, durable)? else {
             return Err(DiskError::Lost(Loss::Fault));
         };
-        let record = copy_record(alloc, record)?;
+        let durable = copy_record(alloc, durable)?;
+        let next = Saved { durable, saves };
         let Some(store) = &mut self.store else {
             return Err(DiskError::Lost(Loss::Fault));
         };
         if let Err(loss) = write(&mut self.disk, store, text.as_slice()) {
             self.store = None;
-            self.tried = Some(Saved { record, saves });
+            self.tried = Some(next);
             return Err(DiskError::Lost(loss));
         }
-        self.last = Saved { record, saves };
+        self.last = next;
         Ok(())
     }
 }
@@ -142,13 +143,13 @@ fn boot(
     text: Vec<u8>,
     last: &Saved,
 ) -> Result<(FormingNode, u64), AllocError>
-    requires first { text.items ≡ [] → IsFirst last.now.saves (record_of last.now.record) }
+    requires first { text.items ≡ [] → IsFirst last.now.saves (record_of last.now.durable) }
     requires table { text.items ≢ [] → IsRecordText text.items }
-    ensures first { IfOk result (λ up. text.items ≡ [] → (up.0 ≡ booted down (record_of last.now.record)) × (up.1 ≡ last.now.saves)) }
+    ensures first { IfOk result (λ up. text.items ≡ [] → (up.0 ≡ booted down (record_of last.now.durable)) × (up.1 ≡ last.now.saves)) }
     ensures table { IfOk result (λ up. (saves : ℕ) (r : NodeRecord) → IsTextFor text.items saves r → (up.0 ≡ booted down r) × (up.1 ≡ saves)) }
 {
     if text.is_empty() {
-        let first = table_of(alloc, last.saves, &last.record)?;
+        let first = table_of(alloc, last.saves, &last.durable)?;
         return down.boot(alloc, first.as_slice());
     }
     down.boot(alloc, text.as_slice())

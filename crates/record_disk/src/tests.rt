@@ -1,5 +1,6 @@
 // A record through saves, mountings and stops.
 ghost use Rattle.std.specs.Prelude.{◌≤◌};
+
 use crate::{DiskError, Loss, RecordDisk, SimulatedDisk};
 use cl_base::{DevSet, Epoch, NodeId};
 use cmm_member::{DownNode, FormingNode};
@@ -100,5 +101,18 @@ fn an_armed_stop_stays_through_a_mounting(rt: HostRuntime) -> Result<(), Fail> {
     assert_eq!(rt; stopped, STOPPED);
     let node = mounted(rt.alloc(), &mut disk)?;
     assert_eq!(rt; node.promised().number(), 65);
+    Ok(())
+}
+
+#[test]
+fn a_disk_that_is_not_mounted(rt: HostRuntime) -> Result<(), Fail> {
+    let (_, node) = with_promise(rt.alloc())?;
+    let mut disk = SimulatedDisk::new(rt.alloc(), DevSet::empty())?;
+    let Err(fault) = promised(rt.alloc(), &mut disk, node, 129)? else {
+        return Err("it is saved".into());
+    };
+    assert_eq!(rt; fault, DiskError::Lost(Loss::Fault));
+    let node = mounted(rt.alloc(), &mut disk)?;
+    assert_eq!(rt; node.promised().number(), 0);
     Ok(())
 }

@@ -27,32 +27,32 @@ pub fn first_record(alloc: Global, valid: DevSet) -> Record
 }
 
 /// The same record again.
-pub fn copy_record(alloc: Global, record: &Record) -> Result<Record, AllocError>
-    ensures { IfOk result (λ copy. kept copy ≡ kept «record».now) }
+pub fn copy_record(alloc: Global, durable: &Record) -> Result<Record, AllocError>
+    ensures { IfOk result (λ copy. kept copy ≡ kept durable.now) }
 {
-    let pending = match record.entries.pending() {
+    let pending = match durable.entries.pending() {
         Some(text) => Some(Bytes::new(text.items().to_vec(alloc)?)),
         None => None,
     };
     Ok(Record {
-        promised: record.promised,
-        installed: record.installed,
-        members: record.members,
-        valid: record.valid,
-        entries: entries_from(alloc, record.entries.committed(), &pending)?,
+        promised: durable.promised,
+        installed: durable.installed,
+        members: durable.members,
+        valid: durable.valid,
+        entries: entries_from(alloc, durable.entries.committed(), &pending)?,
     })
 }
 
 /// The text of the record's table, if a disk can hold it.
-pub fn text_for(alloc: Global, saves: u64, record: &Record) -> Result<Option<Vec<u8>>, AllocError>
-    ensures fits { IfOk result (λ found. MatchOption found (Fits saves (kept «record».now) → ⊥) (λ text. Fits saves (kept «record».now))) }
-    ensures text { IfOk result (λ found. IfSome found (λ text. IsTextFor text.items saves (kept «record».now))) }
+pub fn text_for(alloc: Global, saves: u64, durable: &Record) -> Result<Option<Vec<u8>>, AllocError>
+    ensures fits { IfOk result (λ found. MatchOption found (Fits saves (kept durable.now) → ⊥) (λ text. Fits saves (kept durable.now))) }
+    ensures text { IfOk result (λ found. IfSome found (λ text. IsTextFor text.items saves (kept durable.now))) }
     ensures most { IfOk result (λ found. IfSome found (λ text. length text.items ≤ 65536)) }
 {
-    if record.installed > record.promised || !fit_rows(&record.entries) {
+    if durable.installed > durable.promised || !fit_rows(&durable.entries) {
         return Ok(None);
     }
-    let text = table_of(alloc, saves, record)?;
+    let text = table_of(alloc, saves, durable)?;
     records_have_their_length();
     if text.len() > MOST_BYTES {
         return Ok(None);
@@ -61,12 +61,12 @@ pub fn text_for(alloc: Global, saves: u64, record: &Record) -> Result<Option<Vec
 }
 
 /// The text of the record's table.
-pub fn table_of(alloc: Global, saves: u64, record: &Record) -> Result<Vec<u8>, AllocError>
-    requires order { «record».now.installed ≤ «record».now.promised }
-    requires texts { All IsRowText (texts_of «record».now.entries) }
-    ensures { IfOk result (λ text. IsTextFor text.items saves (kept «record».now)) }
+pub fn table_of(alloc: Global, saves: u64, durable: &Record) -> Result<Vec<u8>, AllocError>
+    requires order { durable.now.installed ≤ durable.now.promised }
+    requires texts { All IsRowText (texts_of durable.now.entries) }
+    ensures { IfOk result (λ text. IsTextFor text.items saves (kept durable.now)) }
 {
-    let rows = record_rows(alloc, record)?;
+    let rows = record_rows(alloc, durable)?;
     rows_are_a_table();
     print_table(alloc, saves, &rows)
 }

@@ -1,4 +1,4 @@
-use Rattle.std.proofs.Common.{◌≡◌, Bool, inl, inr, sym, ◌∙◌, ap, subst}
+use Rattle.std.proofs.Common.{Bool, inl, inr, sym, ◌∙◌, ap}
 use Rattle.std.specs.Prelude.{if◌then◌else◌}
 use Rattle.local_disk.specs.Memory.{calls_of}
 use Rattle.record_disk.specs.declared.error.Loss.TheVariants.{Stopped, Fault}

@@ -1,9 +1,7 @@
-use Rattle.std.proofs.Common.{◌≡◌, inl, inr, sym, ◌∙◌, ap}
+use Rattle.std.proofs.Common.{inl, inr, sym, ◌∙◌, ap}
 use Rattle.std.specs.Prelude.{Err}
 use Rattle.record_store.specs.Images.{text_of}
 use Rattle.cmm_member.specs.Nodes.{NodeState, booted}
-use Rattle.cmm_member.specs.Views.{kept}
-use Rattle.record_disk.specs.declared.simulated.Saved.{Saved}
 use Rattle.record_disk.specs.Disks.{DiskState}
 use Rattle.record_disk.specs.Inside.{standing}
 use Rattle.record_disk.proofs.Tied.{Up, first_is, up_from_items, tied_unmounted, tied_mounted, seen_mounted, seen_lost, seen_unmounted}
@@ -31,8 +29,8 @@ invariant_of-self-2 c =
     let d = c.self.inside in
     let up : Up c.in_ok-node.node c.in_ok-node.saves c.args.down (standing (text_of d.disk.reads) d.last d.tried) =
     up_from_items (text_of d.disk.reads) c.in_ok-store.text.items d.last d.tried c.args.down c.in_ok-node.node c.in_ok-node.saves c.in_ok-store.ensures.text c.self.invariant.text c.in_ok-node.ensures.first c.in_ok-node.ensures.table in
-    tied_mounted d.disk c.read.new.disk d.store d.last d.tried c.in_ok-store.store (record { «record» = c.in_ok-record.record; saves = c.in_ok-node.saves }) c.self.invariant c.in_ok-store.ensures.settled c.in_ok-store.ensures.reads
-    c.in_ok-store.ensures.stands up.saves_are (c.in_ok-record.ensures ∙ c.record.ensures.value ∙ ap (λ (n : NodeState). n.saved) up.is)
+    tied_mounted d.disk c.read.new.disk d.store d.last d.tried c.in_ok-store.store (record { durable = c.in_ok-durable.durable; saves = c.in_ok-node.saves }) c.self.invariant c.in_ok-store.ensures.settled c.in_ok-store.ensures.reads
+    c.in_ok-store.ensures.stands up.saves_are (c.in_ok-durable.ensures ∙ c.record.ensures.value ∙ ap (λ (n : NodeState). n.saved) up.is)
 
 pub returns-clause-up : goal.returns-clause-up
 returns-clause-up c =
@@ -46,12 +44,12 @@ returns-clause-kept c =
     let d = c.self.inside in
     let up : Up c.in_ok-node.node c.in_ok-node.saves c.args.down (standing (text_of d.disk.reads) d.last d.tried) =
     up_from_items (text_of d.disk.reads) c.in_ok-store.text.items d.last d.tried c.args.down c.in_ok-node.node c.in_ok-node.saves c.in_ok-store.ensures.text c.self.invariant.text c.in_ok-node.ensures.first c.in_ok-node.ensures.table in
-    c.in_ok-record.ensures ∙ c.record.ensures.value ∙ ap (λ (n : NodeState). n.saved) up.is ∙ ap (λ (v : DiskState). v.kept) c.self.view_is
+    c.in_ok-durable.ensures ∙ c.record.ensures.value ∙ ap (λ (n : NodeState). n.saved) up.is ∙ ap (λ (v : DiskState). v.kept) c.self.view_is
 
 pub returns-clause-ok : goal.returns-clause-ok
 returns-clause-ok c =
     let d = c.self.inside in
     let up : Up c.in_ok-node.node c.in_ok-node.saves c.args.down (standing (text_of d.disk.reads) d.last d.tried) =
     up_from_items (text_of d.disk.reads) c.in_ok-store.text.items d.last d.tried c.args.down c.in_ok-node.node c.in_ok-node.saves c.in_ok-store.ensures.text c.self.invariant.text c.in_ok-node.ensures.first c.in_ok-node.ensures.table in
-    seen_mounted d.disk c.read.new.disk d.store c.in_ok-store.store (standing (text_of d.disk.reads) d.last d.tried) (record { «record» = c.in_ok-record.record; saves = c.in_ok-node.saves }) c.args.self.now c.self.view_is
-    c.in_ok-store.ensures.calls up.saves_are (c.in_ok-record.ensures ∙ c.record.ensures.value ∙ ap (λ (n : NodeState). n.saved) up.is)
+    seen_mounted d.disk c.read.new.disk d.store c.in_ok-store.store (standing (text_of d.disk.reads) d.last d.tried) (record { durable = c.in_ok-durable.durable; saves = c.in_ok-node.saves }) c.args.self.now c.self.view_is
+    c.in_ok-store.ensures.calls up.saves_are (c.in_ok-durable.ensures ∙ c.record.ensures.value ∙ ap (λ (n : NodeState). n.saved) up.is)
