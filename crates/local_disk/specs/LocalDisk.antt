@@ -45,8 +45,10 @@ pub record HasCause {T E : Type 0} (before now : ℕ) (result : Result T E) : Ty
   pub failed : OnErr result (Rose before now)
 
 -- What up to n calls do to the calls left before an armed stop, of a disk that tells them: where none failed, all n
--- were taken from them and some are left; where one failed, it was the one that took the last, among these n.
-abbrev pub TakesCalls : ℕ → Option ℕ → Option ℕ → Bool → Type 0
-TakesCalls n None after all_good = after ≡ None
-TakesCalls n (Some left) after true = (n < left) × (after ≡ Some (left - n))
-TakesCalls n (Some left) after false = (left ≤ n) × (after ≡ Some 0)
+-- were taken from them and some are left; where one failed, it was the one that took the last, among these n. Where no
+-- stop is armed, a call fails only of a disk that may fail of itself.
+abbrev pub TakesCalls : Bool → ℕ → Option ℕ → Option ℕ → Bool → Type 0
+TakesCalls of_itself n None after true = after ≡ None
+TakesCalls of_itself n None after false = (of_itself ≡ true) × (after ≡ None)
+TakesCalls of_itself n (Some left) after true = (n < left) × (after ≡ Some (left - n))
+TakesCalls of_itself n (Some left) after false = (left ≤ n) × (after ≡ Some 0)

@@ -1,5 +1,5 @@
 // What every local disk promises: a crash loses or spoils only what was not synced.
-ghost use Rattle.std.specs.Prelude.{◌≡◌, ◌≤◌, ◌+◌, List, ℕ, Option, OnOk, length, is_ok};
+ghost use Rattle.std.specs.Prelude.{◌≡◌, ◌≤◌, ◌+◌, Bool, List, ℕ, Option, OnOk, length, is_ok};
 ghost use Rattle.local_disk.specs.LocalDisk.{bytes_at, overwritten, SameOutside, FollowsBy, Keeps, Only, HasCause, TakesCalls};
 
 /// The number of bytes of a local disk.
@@ -21,6 +21,9 @@ pub trait LocalDisk {
     /// How often the disk has failed.
     ghost faults: { Self → ℕ };
 
+    /// Whether a call may fail where no stop is armed.
+    ghost fails_of_itself: { Bool };
+
     /// The calls left before an armed stop, of a disk that tells them. Such a disk fails for no other cause.
     ghost calls_left: { Self → Option ℕ };
 
@@ -31,7 +34,7 @@ pub trait LocalDisk {
         ensures reads { reads self.new ≡ reads self.old }
         ensures images { Keeps (leaves self.old) (leaves self.new) }
         ensures cause { HasCause (faults self.old) (faults self.new) result }
-        ensures calls { TakesCalls 1 (calls_left self.old) (calls_left self.new) (is_ok result) };
+        ensures calls { TakesCalls fails_of_itself 1 (calls_left self.old) (calls_left self.new) (is_ok result) };
 
     /// Writes bytes from a place on. Whether or not it succeeds, a crash may leave any bytes in the range from now
     /// on; after `Failed` a read may give any there.
@@ -41,7 +44,7 @@ pub trait LocalDisk {
         ensures outside { SameOutside place (length bytes.now) (reads self.old) (reads self.new) }
         ensures images { FollowsBy (SameOutside place (length bytes.now)) (leaves self.old) (leaves self.new) }
         ensures cause { HasCause (faults self.old) (faults self.new) result }
-        ensures calls { TakesCalls 1 (calls_left self.old) (calls_left self.new) (is_ok result) };
+        ensures calls { TakesCalls fails_of_itself 1 (calls_left self.old) (calls_left self.new) (is_ok result) };
 
     /// After it succeeds, a crash leaves what a read gives. Where it fails, nothing is synced by it.
     fn sync(&mut self) -> Result<(), Failed>
@@ -49,7 +52,7 @@ pub trait LocalDisk {
         ensures reads { reads self.new ≡ reads self.old }
         ensures images { Keeps (leaves self.old) (leaves self.new) }
         ensures cause { HasCause (faults self.old) (faults self.new) result }
-        ensures calls { TakesCalls 1 (calls_left self.old) (calls_left self.new) (is_ok result) };
+        ensures calls { TakesCalls fails_of_itself 1 (calls_left self.old) (calls_left self.new) (is_ok result) };
 
     /// The disk as it reads is one of the images that a crash may leave.
     ghost reads_is_left: { (disk : Self) → leaves disk (reads disk) };

@@ -165,6 +165,8 @@ impl LocalDisk for MemDisk {
 
     ghost faults = { λ d. d.faults };
 
+    ghost fails_of_itself = { false };
+
     ghost calls_left = { λ d. calls_of d.stop };
 
     #[tactic(auto, using(crate::specs::LocalDisk::disk_bytes_is))]
@@ -176,7 +178,7 @@ impl LocalDisk for MemDisk {
         ensures reads { self.new.reads ≡ self.old.reads }
         ensures images { Keeps (IsImage self.old.unsynced self.old.reads) (IsImage self.new.unsynced self.new.reads) }
         ensures cause { HasCause self.old.faults self.new.faults result }
-        ensures calls { TakesCalls 1 (calls_of self.old.stop) (calls_of self.new.stop) (is_ok result) }
+        ensures calls { TakesCalls false 1 (calls_of self.old.stop) (calls_of self.new.stop) (is_ok result) }
     {
         self.count()?;
         let place = place as usize;
@@ -192,7 +194,7 @@ impl LocalDisk for MemDisk {
         ensures outside { SameOutside place (length bytes.now) self.old.reads self.new.reads }
         ensures images { FollowsBy (SameOutside place (length bytes.now)) (IsImage self.old.unsynced self.old.reads) (IsImage self.new.unsynced self.new.reads) }
         ensures cause { HasCause self.old.faults self.new.faults result }
-        ensures calls { TakesCalls 1 (calls_of self.old.stop) (calls_of self.new.stop) (is_ok result) }
+        ensures calls { TakesCalls false 1 (calls_of self.old.stop) (calls_of self.new.stop) (is_ok result) }
     {
         if self.stopped() {
             return self.count();
@@ -208,7 +210,7 @@ impl LocalDisk for MemDisk {
         ensures reads { self.new.reads ≡ self.old.reads }
         ensures images { Keeps (IsImage self.old.unsynced self.old.reads) (IsImage self.new.unsynced self.new.reads) }
         ensures cause { HasCause self.old.faults self.new.faults result }
-        ensures calls { TakesCalls 1 (calls_of self.old.stop) (calls_of self.new.stop) (is_ok result) }
+        ensures calls { TakesCalls false 1 (calls_of self.old.stop) (calls_of self.new.stop) (is_ok result) }
     {
         self.count()?; // a sync that fails syncs nothing
         self.settle();

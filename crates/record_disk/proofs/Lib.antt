@@ -1,0 +1,4 @@
+pub mod Stops
+pub mod RowTexts
+pub mod Tied
+pub mod Boots

@@ -17,7 +17,7 @@ pub fn replace<D: LocalDisk>(disk: &mut D, slot: Slot, bytes: &[u8]) -> Result<(
     ensures ok { OnOk result (Stands (D.reads disk.new) (D.leaves disk.new) (record { slot = slot; text = drop 4 bytes.now })) }
     ensures stops { EachMountsToEither (text_of (D.reads disk.old)) (drop 4 bytes.now) (D.leaves disk.new) }
     ensures cause { HasCause (D.faults disk.old) (D.faults disk.new) result }
-    ensures calls { TakesCalls 4 (D.calls_left disk.old) (D.calls_left disk.new) (is_ok result) }
+    ensures calls { TakesCalls D.fails_of_itself 4 (D.calls_left disk.old) (D.calls_left disk.new) (is_ok result) }
 {
     disk.write_at(slot.place(), bytes)?;
     disk.sync()?;
@@ -37,7 +37,7 @@ pub fn read<D: LocalDisk>(disk: &mut D, room: &mut [u8]) -> Result<(Slot, usize)
     ensures reads { D.reads disk.new ≡ D.reads disk.old }
     ensures images { Keeps (D.leaves disk.old) (D.leaves disk.new) }
     ensures cause { HasCause (D.faults disk.old) (D.faults disk.new) result }
-    ensures calls { TakesCalls 4 (D.calls_left disk.old) (D.calls_left disk.new) (is_ok result) }
+    ensures calls { TakesCalls D.fails_of_itself 4 (D.calls_left disk.old) (D.calls_left disk.new) (is_ok result) }
 {
     disk.sync()?;
     let mut selector = [0];

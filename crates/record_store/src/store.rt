@@ -84,8 +84,8 @@ impl Store {
         ensures no_memory { IsErrOf result NoMemory → disk.new ≡ disk.old }
         ensures fault { IsErrOf result DiskFault → Rose (D.faults disk.old) (D.faults disk.new) }
         ensures later { D.faults disk.old ≤ D.faults disk.new }
-        ensures calls { OnOk result (TakesCalls 4 (D.calls_left disk.old) (D.calls_left disk.new) true) }
-        ensures calls_fault { IsErrOf result DiskFault → TakesCalls 4 (D.calls_left disk.old) (D.calls_left disk.new) false }
+        ensures calls { OnOk result (TakesCalls D.fails_of_itself 4 (D.calls_left disk.old) (D.calls_left disk.new) true) }
+        ensures calls_fault { IsErrOf result DiskFault → TakesCalls D.fails_of_itself 4 (D.calls_left disk.old) (D.calls_left disk.new) false }
     {
         let mut buffer = Vec::with_capacity(alloc, SLOT_BYTES)?;
         let mut text = zeros(alloc, MOST_BYTES)?;
@@ -111,7 +111,7 @@ impl Store {
         ensures nothing { 65536 < length text.now → (self.new ≡ self.old) × (disk.new ≡ disk.old) }
         ensures fault { IsErrOf result DiskFault → Rose (D.faults disk.old) (D.faults disk.new) }
         ensures later { D.faults disk.old ≤ D.faults disk.new }
-        ensures calls { length text.now ≤ 65536 → TakesCalls 4 (D.calls_left disk.old) (D.calls_left disk.new) (is_ok result) }
+        ensures calls { length text.now ≤ 65536 → TakesCalls D.fails_of_itself 4 (D.calls_left disk.old) (D.calls_left disk.new) (is_ok result) }
     {
         if text.len() > MOST_BYTES {
             return Err(StoreError::TooLong(text.len() as u64));
