@@ -95,15 +95,31 @@ abbrev pub choice_of : Option Stop → Choice
 choice_of None = Old
 choice_of (Some stop) = stop.choice
 
+-- an image with what a choice makes of bytes that are written to it from a place on, and not synced
+abbrev pub spoiled : Choice → ℕ → List ℕ → List ℕ → List ℕ
+spoiled Old place bytes image = image
+spoiled New place bytes image = overwritten image place bytes
+spoiled Zero place bytes image = overwritten image place (replicate (length bytes) 0)
+
+-- What a write makes of the image that a crash would leave, of a disk that tells the calls left before its stop: nothing
+-- after the stop.
+abbrev pub Spoils : Option ℕ → Choice → ℕ → List ℕ → List ℕ → List ℕ → Type 0
+Spoils None choice place bytes old new = Unit {0}
+Spoils (Some calls) choice place bytes old new = new ≡ (if calls == 0 then old else spoiled choice place bytes old)
+
 -- a stop that has come is over
 abbrev pub still_armed : Option Stop → Option Stop
 still_armed None = None
 still_armed (Some stop) = if stop.calls == 0 then None else Some stop
 
+-- the image that a crash leaves now
+abbrev pub left_now : State → List ℕ
+left_now d = left_by (choice_of d.stop) d.unsynced d.synced d.reads
+
 abbrev pub crashed : State → State
 crashed d = record {
-  synced = left_by (choice_of d.stop) d.unsynced d.synced d.reads;
-  reads = left_by (choice_of d.stop) d.unsynced d.synced d.reads;
+  synced = left_now d;
+  reads = left_now d;
   unsynced = replicate disk_bytes false;
   stop = still_armed d.stop;
   faults = d.faults;

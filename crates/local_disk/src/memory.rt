@@ -1,7 +1,7 @@
 // A disk in memory, which can be stopped in any of its calls and crashed.
-ghost use Rattle.std.specs.Prelude.{◌↔◌, Some, IsTrue, ◌≡◌, ◌≤◌, ◌<◌, ◌+◌, ℕ, List, OnOk, IfOk, length, replicate, true, false, is_ok, refl};
+ghost use Rattle.std.specs.Prelude.{◌↔◌, Some, IsTrue, ◌≡◌, ◌≤◌, ◌<◌, ◌+◌, ℕ, List, OnOk, OnErr, IfOk, length, replicate, true, false, is_ok, refl};
 ghost use Rattle.local_disk.specs.LocalDisk.{bytes_at, overwritten, SameOutside, FollowsBy, Keeps, Only, HasCause, TakesCalls, disk_bytes};
-ghost use Rattle.local_disk.specs.Memory.{empty_disk, armed, has_stopped, crashed, counted, passes, with_range, settled, written, after_sync, IsImage, IsWithin, next_stop, next_faults, calls_of, zeroed, left_by, choice_of, still_armed};
+ghost use Rattle.local_disk.specs.Memory.{empty_disk, armed, has_stopped, crashed, counted, passes, with_range, settled, written, after_sync, IsImage, IsWithin, next_stop, next_faults, calls_of, zeroed, left_by, choice_of, still_armed, left_now, spoiled, Spoils};
 
 use crate::parts::{leave, mark, put, settle};
 use crate::{DISK_BYTES, Failed, LocalDisk};
@@ -124,6 +124,7 @@ impl MemDisk {
         ensures after { self.new ≡ counted self.old }
         ensures outcome { is_ok result ≡ passes self.old.stop }
         ensures cause { HasCause self.old.faults self.new.faults result }
+        ensures one { IsImage self.old.unsynced self.old.reads (left_now self.old) }
     {
         count_call(&mut self.stop, &mut self.faults)
     }
@@ -134,6 +135,8 @@ impl MemDisk {
         ensures after { self.new ≡ with_range self.old place bytes.now }
         ensures outside { SameOutside place (length bytes.now) self.old.reads self.new.reads }
         ensures images { FollowsBy (SameOutside place (length bytes.now)) (IsImage self.old.unsynced self.old.reads) (IsImage self.new.unsynced self.new.reads) }
+        ensures one { IsImage self.old.unsynced self.old.reads (left_now self.old) }
+        ensures left { left_now self.new ≡ spoiled (choice_of self.old.stop) place bytes.now (left_now self.old) }
     {
         put(&mut self.reads, place, bytes);
         mark(&mut self.unsynced, place, bytes.len());
@@ -169,6 +172,10 @@ impl LocalDisk for MemDisk {
 
     ghost calls_left = { λ d. calls_of d.stop };
 
+    ghost choice = { λ d. choice_of d.stop };
+
+    ghost left = { left_now };
+
     #[tactic(auto, using(crate::specs::LocalDisk::disk_bytes_is))]
     fn read_at(&mut self, place: u64, buf: &mut [u8]) -> Result<(), Failed>
         requires { place + length buf.old ≤ DISK_BYTES }
@@ -177,6 +184,7 @@ impl LocalDisk for MemDisk {
         ensures bytes { OnOk result (buf.new ≡ bytes_at place (length buf.old) self.old.reads) }
         ensures reads { self.new.reads ≡ self.old.reads }
         ensures images { Keeps (IsImage self.old.unsynced self.old.reads) (IsImage self.new.unsynced self.new.reads) }
+        ensures choice { choice_of self.new.stop ≡ choice_of self.old.stop }
         ensures cause { HasCause self.old.faults self.new.faults result }
         ensures calls { TakesCalls false 1 (calls_of self.old.stop) (calls_of self.new.stop) (is_ok result) }
     {
@@ -193,6 +201,9 @@ impl LocalDisk for MemDisk {
         ensures written { OnOk result (self.new.reads ≡ overwritten self.old.reads place bytes.now) }
         ensures outside { SameOutside place (length bytes.now) self.old.reads self.new.reads }
         ensures images { FollowsBy (SameOutside place (length bytes.now)) (IsImage self.old.unsynced self.old.reads) (IsImage self.new.unsynced self.new.reads) }
+        ensures choice { choice_of self.new.stop ≡ choice_of self.old.stop }
+        ensures one { IsImage self.old.unsynced self.old.reads (left_now self.old) }
+        ensures left { Spoils (calls_of self.old.stop) (choice_of self.old.stop) place bytes.now (left_now self.old) (left_now self.new) }
         ensures cause { HasCause self.old.faults self.new.faults result }
         ensures calls { TakesCalls false 1 (calls_of self.old.stop) (calls_of self.new.stop) (is_ok result) }
     {
@@ -209,6 +220,8 @@ impl LocalDisk for MemDisk {
         ensures synced { OnOk result (Only self.new.reads (IsImage self.new.unsynced self.new.reads)) }
         ensures reads { self.new.reads ≡ self.old.reads }
         ensures images { Keeps (IsImage self.old.unsynced self.old.reads) (IsImage self.new.unsynced self.new.reads) }
+        ensures choice { choice_of self.new.stop ≡ choice_of self.old.stop }
+        ensures left { OnErr result (left_now self.new ≡ left_now self.old) }
         ensures cause { HasCause self.old.faults self.new.faults result }
         ensures calls { TakesCalls false 1 (calls_of self.old.stop) (calls_of self.new.stop) (is_ok result) }
     {

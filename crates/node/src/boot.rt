@@ -1,4 +1,11 @@
 // A node boots.
+ghost use Rattle.std.specs.Prelude.{◌≡◌, ◌++◌, ◌∷◌, [], None, IfOk, OnOk, IfErr};
+ghost use Rattle.status_report.specs.declared.entry.Entry.TheVariants as trace;
+ghost use Rattle.status_report.specs.declared.node_entry.NodeEntry.TheVariants as note;
+ghost use Rattle.node_model.specs.declared.output.Output.TheVariants.{Tells};
+ghost use Rattle.node_model.specs.Plans.{KeepFails};
+ghost use Rattle.node_model.specs.Seats.{up_with};
+
 use cl_base::NodeId;
 use cmm_member::DownNode;
 use device_queue::DeviceQueue;
@@ -15,7 +22,13 @@ pub fn boot<K: RecordDisk>(
     me: NodeId,
     disk: &mut K,
     out: &mut Vec<Output>,
-) -> Result<UpNode, Stop> {
+) -> Result<UpNode, Stop>
+    ensures up { IfOk result (λ up. up ≡ up_with me cluster.now.first_valid (K.kept disk.old)) }
+    ensures told { OnOk result (out.new.items ≡ out.old.items ++ Tells (trace.Node me note.Up) ∷ []) }
+    ensures mounted { OnOk result ((K.mounting disk.old).lost ≡ None) }
+    ensures left { OnOk result (disk.new ≡ (K.mounting disk.old).after) }
+    ensures lost { IfErr result (KeepFails (K.mounting disk.old) (out.old.items ++ Tells (trace.Node me note.Up) ∷ []) out.new.items disk.new) }
+{
     tell_of(out, me, NodeEntry::Up)?;
     match disk.mount(alloc, DownNode::new(me, cluster.first_valid)) {
         Ok(node) => Ok(UpNode {

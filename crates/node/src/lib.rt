@@ -2,11 +2,10 @@
 #![tactic(auto)]
 
 mod boot;
-mod input;
 mod packet;
-mod step;
+mod stepping;
 mod tick;
 
-pub use input::Input;
 pub use node_devices::may_write;
-pub use step::step;
+pub use node_model::Input;
+pub use stepping::step;

@@ -1,8 +1,8 @@
 // A packet that is delivered.
-ghost use Rattle.std.specs.Prelude.{◌≡◌};
-ghost use Rattle.cmm_member.specs.Records.{NodeRecord};
-ghost use Rattle.node_model.specs.Members.{on_answer, on_body, on_heartbeat, on_packet, hearing};
-ghost use Rattle.node_model.specs.Plans.{Follows};
+ghost use Rattle.std.specs.Prelude.{◌≡◌, false, List};
+ghost use Rattle.cmm_attempt.specs.Attempts.{HasFewKeys};
+ghost use Rattle.node_model.specs.Members.{beat_in, is_foreign, on_answer, on_body, on_excluded, on_heartbeat, on_packet};
+ghost use Rattle.node_model.specs.Plans.{Follows, Gives};
 
 use cl_base::{Epoch, NodeId, Panic};
 use heartbeats::Beat;
@@ -26,7 +26,7 @@ pub fn take_packet<K: RecordDisk>(
     m: &Message,
     out: &mut Vec<Output>,
 ) -> Result<UpNode, Stop>
-    ensures { Follows (on_packet cluster.now me up from m.now) out.old.items (K.kept disk.old) result out.new.items (K.kept disk.new) }
+    ensures { Follows K.saving (on_packet cluster.now me up from m.now) out.old.items disk.old result out.new.items disk.new }
 {
     if is_foreign(cluster, me, &m.body) {
         return Ok(up);
@@ -36,6 +36,7 @@ pub fn take_packet<K: RecordDisk>(
     take_message(alloc, cluster, me, disk, up, from, m, out)
 }
 
+#[tactic(auto, using(node_model::proofs::Plans::gives_follows))]
 fn take_message<K: RecordDisk>(
     alloc: Global,
     cluster: &Cluster,
@@ -45,7 +46,10 @@ fn take_message<K: RecordDisk>(
     from: NodeId,
     m: &Message,
     out: &mut Vec<Output>,
-) -> Result<UpNode, Stop> {
+) -> Result<UpNode, Stop>
+    requires own { is_foreign cluster.now me m.now.body ≡ false }
+    ensures { Follows K.saving (on_body cluster.now me up from m.now m.now.body) out.old.items disk.old result out.new.items disk.new }
+{
     match &m.body {
         Body::Heartbeat {
             session, member, ..
@@ -97,7 +101,10 @@ fn take_answer<K: RecordDisk>(
     from: NodeId,
     m: &Message,
     out: &mut Vec<Output>,
-) -> Result<UpNode, Stop> {
+) -> Result<UpNode, Stop>
+    requires few { HasFewKeys m.now.body }
+    ensures { Follows K.saving (on_answer cluster.now me up from m.now up.attempt) out.old.items disk.old result out.new.items disk.new }
+{
     let Some(mut attempt) = up.attempt.take() else {
         return Ok(up);
     };
@@ -113,7 +120,9 @@ fn take_heartbeat(
     session: Epoch,
     member: bool,
     out: &mut Vec<Output>,
-) -> Result<UpNode, Stop> {
+) -> Result<UpNode, Stop>
+    ensures { Gives (on_heartbeat me up from session member) out.old.items result out.new.items }
+{
     let own = up.seat.session();
     let leads = own.number() % 64 == me.number();
     if up.seat.is_member() && leads && session == own && !member && up.seat.members().has(from) {
@@ -123,14 +132,18 @@ fn take_heartbeat(
 }
 
 /// The attempt of the node's session leaves it out.
-fn take_excluded(up: UpNode, epoch: Epoch, newest: Epoch) -> Result<UpNode, Stop> {
+fn take_excluded(up: UpNode, epoch: Epoch, newest: Epoch) -> Result<UpNode, Stop>
+    ensures { (given : List Output) → Gives (on_excluded up epoch newest) given result given }
+{
     if epoch != Epoch::zero() && up.seat.session() == epoch {
         return Err(Stop::Down(DownCause::Panic(Panic::Excluded(newest))));
     }
     Ok(up)
 }
 
-fn beat_in(body: &Body) -> Option<Beat> {
+fn beat_in(body: &Body) -> Option<Beat>
+    ensures { result ≡ beat_in body.now }
+{
     match body {
         Body::Heartbeat {
             promised,

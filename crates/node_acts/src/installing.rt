@@ -1,5 +1,5 @@
 // Installing, and the joinings that follow.
-ghost use Rattle.std.specs.Prelude.{◌≡◌, ◌++◌, ◌∷◌, [], OnOk, IfOk, IfErr};
+ghost use Rattle.std.specs.Prelude.{◌≡◌, ◌++◌, ◌∷◌, [], None, OnOk, IfOk, IfErr};
 ghost use Rattle.status_report.specs.declared.entry.Entry.TheVariants as trace;
 ghost use Rattle.status_report.specs.declared.node_entry.NodeEntry.TheVariants as note;
 ghost use Rattle.node_model.specs.declared.output.Output.TheVariants.{Tells};
@@ -41,9 +41,10 @@ pub fn save_install<K: RecordDisk>(
     epoch: Epoch,
     out: &mut Vec<Output>,
 ) -> Result<(), Stop>
-    ensures saved { OnOk result (K.kept disk.new ≡ (state_of seat.now).saved) }
+    ensures saved { OnOk result ((K.saving disk.old (state_of seat.now).saved).lost ≡ None) }
+    ensures left { OnOk result (disk.new ≡ (K.saving disk.old (state_of seat.now).saved).after) }
     ensures told { OnOk result (out.new.items ≡ (out.old.items ++ Tells (trace.Node me note.Saved) ∷ []) ++ Tells (trace.Node me (note.Installed epoch)) ∷ []) }
-    ensures lost { IfErr result (KeepFails (state_of seat.now).saved out.old.items (K.kept disk.old) out.new.items (K.kept disk.new)) }
+    ensures lost { IfErr result (KeepFails (K.saving disk.old (state_of seat.now).saved) out.old.items out.new.items disk.new) }
 {
     keep(alloc, me, disk, seat, out)?;
     tell_of(out, me, NodeEntry::Installed(epoch))

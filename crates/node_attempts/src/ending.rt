@@ -1,8 +1,7 @@
 // How an attempt ends.
 ghost use Rattle.std.specs.Prelude.{◌≡◌};
 ghost use Rattle.node_model.specs.Attempts.{ended_entry, ending, excluding, left_out_by};
-ghost use Rattle.cmm_member.specs.Records.{NodeRecord};
-ghost use Rattle.node_model.specs.Plans.{Follows};
+ghost use Rattle.node_model.specs.Plans.{Gives};
 
 use cl_base::{Epoch, NodeId, Panic};
 use cmm_attempt::AttemptEnd;
@@ -17,7 +16,7 @@ pub fn end_attempt(
     end: AttemptEnd,
     out: &mut Vec<Output>,
 ) -> Result<UpNode, Stop>
-    ensures { (disk : NodeRecord) → Follows (ending me up end up.attempt) out.old.items disk result out.new.items disk }
+    ensures { Gives (ending me up end up.attempt) out.old.items result out.new.items }
 {
     let Some(attempt) = up.attempt.take() else {
         return Ok(up);
@@ -39,7 +38,7 @@ fn exclude(
     left_out: Option<NodeId>,
     out: &mut Vec<Output>,
 ) -> Result<UpNode, Stop>
-    ensures { (disk : NodeRecord) → Follows (excluding me up epoch newest left_out) out.old.items disk result out.new.items disk }
+    ensures { Gives (excluding me up epoch newest left_out) out.old.items result out.new.items }
 {
     match left_out {
         None => Ok(up),

@@ -16,30 +16,26 @@ pub fn install_here<K: RecordDisk>(
     cluster: &Cluster,
     me: NodeId,
     disk: &mut K,
-    up: UpNode,
+    mut up: UpNode,
     i: Install,
     out: &mut Vec<Output>,
 ) -> Result<UpNode, Stop>
-    ensures { Follows (installing_here cluster.now me up i up.seat) out.old.items (K.kept disk.old) result out.new.items (K.kept disk.new) }
+    ensures { Follows K.saving (installing_here cluster.now me up i up.seat) out.old.items disk.old result out.new.items disk.new }
 {
-    let UpNode {
-        seat,
-        greatest,
-        beats,
-        mut tasks,
-        attempt,
-    } = up;
-    let (seat, changed) = install(alloc, seat, &i)?;
+    let (seat, changed) = install(alloc, up.seat, &i)?;
+    up.seat = seat;
     if changed {
-        tasks.clear();
-        begin_joins(cluster, me, i.epoch, seat.joined_devices(), &mut tasks, i.readings.items())?;
-        save_install(alloc, me, disk, &seat, i.epoch, out)?;
+        let joined = up.seat.joined_devices();
+        up.tasks.clear();
+        begin_joins(
+            cluster,
+            me,
+            i.epoch,
+            joined,
+            &mut up.tasks,
+            i.readings.items(),
+        )?;
+        save_install(alloc, me, disk, &up.seat, i.epoch, out)?;
     }
-    Ok(UpNode {
-        seat,
-        greatest,
-        beats,
-        tasks,
-        attempt,
-    })
+    Ok(up)
 }

@@ -21,39 +21,32 @@ pub fn lead<K: RecordDisk>(
     cluster: &Cluster,
     me: NodeId,
     disk: &mut K,
-    up: UpNode,
+    mut up: UpNode,
     members: NodeSet,
     out: &mut Vec<Output>,
 ) -> Result<UpNode, Stop>
     requires count { up.greatest / 64 < 2 ^ 56 }
     requires member { has members me ≡ true }
-    ensures { Follows (leading cluster.now me up members) out.old.items (K.kept disk.old) result out.new.items (K.kept disk.new) }
+    ensures { Follows K.saving (leading cluster.now me up members) out.old.items disk.old result out.new.items disk.new }
 {
     let epoch = up.greatest.next_above(me);
-    let UpNode {
-        seat,
-        greatest,
-        beats,
-        mut tasks,
-        attempt,
-    } = up;
-    match seat.promise(epoch) {
+    match up.seat.promise(epoch) {
         Ok(node) => {
-            tasks.clear();
-            let up = UpNode {
-                seat: Seat::Forming(node),
-                greatest: epoch,
-                beats,
-                tasks,
-                attempt: None,
-            };
+            up.seat = Seat::Forming(node);
+            up.greatest = epoch;
+            up.tasks.clear();
+            up.attempt = None;
             begin_attempt(alloc, cluster, me, disk, up, epoch, members, out)
         }
         // The greatest epoch seen is never below the promise.
-        Err(seat) => Ok(UpNode { seat, greatest, beats, tasks, attempt }),
+        Err(seat) => {
+            up.seat = seat;
+            Ok(up)
+        }
     }
 }
 
+#[tactic(auto, using(node_model::proofs::Plans::follows_saves, node_model::proofs::Plans::follows_says))]
 fn begin_attempt<K: RecordDisk>(
     alloc: Global,
     cluster: &Cluster,
@@ -66,7 +59,7 @@ fn begin_attempt<K: RecordDisk>(
 ) -> Result<UpNode, Stop>
     requires coordinator { epoch % 64 ≡ me }
     requires member { has members me ≡ true }
-    ensures { Follows (led cluster.now me up epoch members) out.old.items (K.kept disk.old) result out.new.items (K.kept disk.new) }
+    ensures { Follows K.saving (led cluster.now me up epoch members) out.old.items disk.old result out.new.items disk.new }
 {
     keep(alloc, me, disk, &up.seat, out)?;
     tell(out, Entry::Attempt(AttemptEntry::Begun { epoch, members }))?;

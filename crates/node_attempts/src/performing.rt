@@ -1,7 +1,8 @@
 // The steps that an attempt gives are carried out, one after another.
-ghost use Rattle.std.specs.Prelude.{◌≡◌, IfOk};
+ghost use Rattle.std.specs.Prelude.{◌≡◌, IfOk, OnOk};
+ghost use Rattle.device_queue.specs.Queue.{after_seize};
 ghost use Rattle.cmm_attempt.specs.Attempts.{with_steps};
-ghost use Rattle.node_model.specs.Attempts.{going_on, own_ready, performed, performing, seizing_here, step_plan};
+ghost use Rattle.node_model.specs.Attempts.{begins_install, going_on, own_ready, performed, performing, seizing_here, step_plan};
 ghost use Rattle.node_model.specs.Plans.{Follows};
 
 use crate::ending::end_attempt;
@@ -9,6 +10,7 @@ use crate::installing::install_here;
 use crate::starting::start_here;
 use cl_base::{DevId, NodeId};
 use cmm_attempt::{Attempt, Step, Steps};
+use device_queue::DeviceQueue;
 use node_model::{Cluster, Output, Stop, UpNode, send};
 use record_disk::RecordDisk;
 use seize::{Seize, SeizeKind};
@@ -26,7 +28,7 @@ pub fn go_on<K: RecordDisk>(
     steps: Steps,
     out: &mut Vec<Output>,
 ) -> Result<UpNode, Stop>
-    ensures { Follows (going_on cluster.now me up (with_steps attempt steps)) out.old.items (K.kept disk.old) result out.new.items (K.kept disk.new) }
+    ensures { Follows K.saving (going_on cluster.now me up (with_steps attempt steps)) out.old.items disk.old result out.new.items disk.new }
 {
     if !attempt.needs_votes() {
         up.attempt = Some(attempt);
@@ -39,6 +41,7 @@ pub fn go_on<K: RecordDisk>(
 }
 
 /// The steps are carried out, and the coordinator's own part of an install where nothing is to be joined.
+#[tactic(auto, using(node_model::proofs::Plans::done_then, node_model::proofs::Plans::done_and_stays, node_model::proofs::Plans::stopped_then))]
 fn perform<K: RecordDisk>(
     alloc: Global,
     cluster: &Cluster,
@@ -48,15 +51,21 @@ fn perform<K: RecordDisk>(
     steps: Steps,
     out: &mut Vec<Output>,
 ) -> Result<UpNode, Stop>
-    ensures { Follows (performed cluster.now me up steps) out.old.items (K.kept disk.old) result out.new.items (K.kept disk.new) }
+    ensures { Follows K.saving (performed cluster.now me up steps) out.old.items disk.old result out.new.items disk.new }
 {
-    let installs = matches!(steps.items().first(), Some(Step::InstallHere(_)));
+    let installs = begins_install(steps.items());
     let up = do_steps(alloc, cluster, me, disk, up, steps, out)?;
     if installs {
         own_ready(alloc, cluster, me, disk, up, out)
     } else {
         Ok(up)
     }
+}
+
+fn begins_install(steps: &[Step]) -> bool
+    ensures { result ≡ begins_install steps.now }
+{
+    matches!(steps, [Step::InstallHere(_), ..])
 }
 
 /// The coordinator has installed the membership: where it has no device left to join, its own part is
@@ -69,7 +78,7 @@ pub fn own_ready<K: RecordDisk>(
     mut up: UpNode,
     out: &mut Vec<Output>,
 ) -> Result<UpNode, Stop>
-    ensures { Follows (own_ready cluster.now me up) out.old.items (K.kept disk.old) result out.new.items (K.kept disk.new) }
+    ensures { Follows K.saving (own_ready cluster.now me up) out.old.items disk.old result out.new.items disk.new }
 {
     if up.tasks.joins() {
         return Ok(up);
@@ -91,7 +100,7 @@ fn do_steps<K: RecordDisk>(
     steps: Steps,
     out: &mut Vec<Output>,
 ) -> Result<UpNode, Stop>
-    ensures { Follows (performing cluster.now me up steps) out.old.items (K.kept disk.old) result out.new.items (K.kept disk.new) }
+    ensures { Follows K.saving (performing cluster.now me up steps) out.old.items disk.old result out.new.items disk.new }
 {
     for step in steps.into_items() {
         up = do_step(alloc, cluster, me, disk, up, step, out)?;
@@ -99,6 +108,7 @@ fn do_steps<K: RecordDisk>(
     Ok(up)
 }
 
+#[tactic(auto, using(node_model::proofs::Plans::gives_follows))]
 fn do_step<K: RecordDisk>(
     alloc: Global,
     cluster: &Cluster,
@@ -108,7 +118,7 @@ fn do_step<K: RecordDisk>(
     step: Step,
     out: &mut Vec<Output>,
 ) -> Result<UpNode, Stop>
-    ensures { Follows (step_plan cluster.now me up step) out.old.items (K.kept disk.old) result out.new.items (K.kept disk.new) }
+    ensures { Follows K.saving (step_plan cluster.now me up step) out.old.items disk.old result out.new.items disk.new }
 {
     match step {
         Step::Send { to, message } => {
@@ -140,7 +150,17 @@ fn seize_here(
     if members.has(me) {
         let valid = up.seat.valid().has(dev);
         let seizing = Seize::begin(kind, epoch, members, me, cluster.id, valid);
-        up.tasks.seize(dev, seizing)?;
+        queue_seizing(&mut up.tasks, dev, seizing)?;
     }
     Ok(up)
+}
+
+/// The queue has a seizing of the device after it: the one that it had, or this one.
+fn queue_seizing(tasks: &mut DeviceQueue, dev: DevId, seizing: Seize) -> Result<(), AllocError>
+    ensures { OnOk result (tasks.new ≡ after_seize tasks.old dev seizing) }
+{
+    match tasks.seize(dev, seizing) {
+        Ok(_) => Ok(()),
+        Err(failed) => Err(failed),
+    }
 }

@@ -24,7 +24,7 @@ pub fn start_here<K: RecordDisk>(
     mut up: UpNode,
     out: &mut Vec<Output>,
 ) -> Result<UpNode, Stop>
-    ensures { Follows (starting_here me up up.attempt) out.old.items (K.kept disk.old) result out.new.items (K.kept disk.new) }
+    ensures { Follows K.saving (starting_here me up up.attempt) out.old.items disk.old result out.new.items disk.new }
 {
     let Some(attempt) = up.attempt.take() else {
         return Ok(up);
@@ -36,44 +36,29 @@ fn start_attempt<K: RecordDisk>(
     alloc: Global,
     me: NodeId,
     disk: &mut K,
-    up: UpNode,
+    mut up: UpNode,
     attempt: Attempt,
     out: &mut Vec<Output>,
 ) -> Result<UpNode, Stop>
-    ensures { Follows (starting_with me (record up { attempt = Some attempt }) attempt up.seat) out.old.items (K.kept disk.old) result out.new.items (K.kept disk.new) }
+    ensures { Follows K.saving (starting_with me (record up { attempt = Some attempt }) attempt up.seat) out.old.items disk.old result out.new.items disk.new }
 {
     let epoch = attempt.epoch();
-    let UpNode {
-        seat,
-        greatest,
-        beats,
-        tasks,
-        ..
-    } = up;
-    match become_member(seat, epoch) {
+    match become_member(up.seat, epoch) {
         Ok(Started { node, changed }) => {
-            let seat = Seat::Member(node);
+            up.seat = Seat::Member(node);
+            up.attempt = None;
             if changed {
-                keep(alloc, me, disk, &seat, out)?;
+                keep(alloc, me, disk, &up.seat, out)?;
             }
-            tell_start(alloc, &attempt, seat.entries().committed(), out)?;
+            tell_start(alloc, &attempt, up.seat.entries().committed(), out)?;
             tell_of(out, me, NodeEntry::Member(epoch))?;
-            Ok(UpNode {
-                seat,
-                greatest,
-                beats,
-                tasks,
-                attempt: None,
-            })
         }
-        Err(seat) => Ok(UpNode {
-            seat,
-            greatest,
-            beats,
-            tasks,
-            attempt: Some(attempt),
-        }),
+        Err(seat) => {
+            up.seat = seat;
+            up.attempt = Some(attempt);
+        }
     }
+    Ok(up)
 }
 
 /// The membership with its members, its devices and the updates of its base.

@@ -1,42 +1,20 @@
-// The commands of a node's tasks.
-ghost use Rattle.std.specs.Prelude.{◌≡◌, IfOk};
+// The answers to the commands of a node's tasks.
+ghost use Rattle.std.specs.Prelude.{IfOk};
 ghost use Rattle.pgr_device.specs.Keys.{HasNoZeroKey};
-ghost use Rattle.node_model.specs.Devices.{before_command, on_answer_of_device};
+ghost use Rattle.node_model.specs.Devices.{joined_all, joined_here, on_answer_of_device, on_progress, seized_here};
 ghost use Rattle.node_model.specs.Plans.{Follows};
 
-use crate::writes::told_answer;
-use cl_base::{DevId, Epoch, NodeId};
+use crate::told::{coordinator, told_answer, word_in};
+use cl_base::{DevId, NodeId};
 use device_queue::Progress;
 use node_attempts::{go_on, own_ready};
-use node_members::ready;
-use node_model::{Cluster, Output, Stop, UpNode, keep, send, tell};
+use node_members::{ready, send_seized};
+use node_model::{Cluster, Output, Stop, UpNode, keep, tell};
 use pgr_device::{Failed, PrAnswer};
 use record_disk::RecordDisk;
 use seize::{JoinResult, SeizeResult, told_result};
 use status_report::{DeviceEntry, Entry};
 use std::alloc::Global;
-use wire::Body;
-
-/// The command that is due is about to be done. Where it is the first of a plain seizing, the record
-/// says from now on that the node's key on the device is not validated.
-pub fn before_command<K: RecordDisk>(
-    alloc: Global,
-    me: NodeId,
-    disk: &mut K,
-    mut up: UpNode,
-    out: &mut Vec<Output>,
-) -> Result<UpNode, Stop>
-    ensures { Follows (before_command me up) out.old.items (K.kept disk.old) result out.new.items (K.kept disk.new) }
-{
-    let Some(d) = up.tasks.begins_plainly() else {
-        return Ok(up);
-    };
-    if up.seat.valid().has(d) {
-        up.seat.invalidate(d);
-        keep(alloc, me, disk, &up.seat, out)?;
-    }
-    Ok(up)
-}
 
 /// The command that was due is answered so.
 pub fn take_device_answer<K: RecordDisk>(
@@ -49,7 +27,7 @@ pub fn take_device_answer<K: RecordDisk>(
     out: &mut Vec<Output>,
 ) -> Result<UpNode, Stop>
     requires keys { IfOk answer HasNoZeroKey }
-    ensures { Follows (on_answer_of_device cluster.now me up answer) out.old.items (K.kept disk.old) result out.new.items (K.kept disk.new) }
+    ensures { Follows K.saving (on_answer_of_device cluster.now me up answer) out.old.items disk.old result out.new.items disk.new }
 {
     let (Some(device), Some(command)) = (up.tasks.due_device(), up.tasks.next_command()) else {
         return Ok(up);
@@ -58,10 +36,10 @@ pub fn take_device_answer<K: RecordDisk>(
         node: me,
         device,
         command,
-        answer: told_answer(answer),
+        answer: told_answer(&answer),
     };
     tell(out, Entry::Device(entry))?;
-    up.greatest = up.greatest.max(word_in(answer));
+    up.greatest = up.greatest.max(word_in(&answer));
     let progress = up.tasks.take_answer(answer);
     take_progress(alloc, cluster, me, disk, up, progress, out)
 }
@@ -74,15 +52,19 @@ fn take_progress<K: RecordDisk>(
     up: UpNode,
     progress: Progress,
     out: &mut Vec<Output>,
-) -> Result<UpNode, Stop> {
+) -> Result<UpNode, Stop>
+    ensures { Follows K.saving (on_progress cluster.now me up progress) out.old.items disk.old result out.new.items disk.new }
+{
     match progress {
         Progress::GoesOn => Ok(up),
-        Progress::Seized { device, result } => {
-            take_seized(alloc, cluster, me, disk, up, device, result, out)
-        }
-        Progress::Joined { device, result } => {
-            take_joined(alloc, cluster, me, disk, up, device, result, out)
-        }
+        Progress::Seized {
+            device,
+            result: ended,
+        } => { take_seized(alloc, cluster, me, disk, up, device, ended, out) }
+        Progress::Joined {
+            device,
+            result: ended,
+        } => { take_joined(alloc, cluster, me, disk, up, device, ended, out) }
     }
 }
 
@@ -94,26 +76,28 @@ fn take_seized<K: RecordDisk>(
     disk: &mut K,
     mut up: UpNode,
     device: DevId,
-    result: SeizeResult,
+    ended: SeizeResult,
     out: &mut Vec<Output>,
-) -> Result<UpNode, Stop> {
+) -> Result<UpNode, Stop>
+    ensures { Follows K.saving (seized_here cluster.now me up device ended) out.old.items disk.old result out.new.items disk.new }
+{
     let epoch = up.seat.session();
     let Some(coordinator) = coordinator(epoch) else {
         return Ok(up);
     };
     if coordinator != me {
-        let outcome = told_result(alloc, &result)?;
-        send(out, coordinator, Body::Seized { epoch, device, outcome })?;
+        let outcome = told_result(alloc, &ended)?;
+        send_seized(out, coordinator, epoch, device, outcome)?;
         return Ok(up);
     }
     let Some(mut attempt) = up.attempt.take() else {
         return Ok(up);
     };
-    let steps = attempt.own_seized(device, result)?;
+    let steps = attempt.own_seized(device, ended)?;
     go_on(alloc, cluster, me, disk, up, attempt, steps, out)
 }
 
-/// A joining has ended. With the last one the coordinator's own part is done, or a member is ready.
+/// A joining has ended: where the device is joined, the node saves that first.
 fn take_joined<K: RecordDisk>(
     alloc: Global,
     cluster: &Cluster,
@@ -121,13 +105,31 @@ fn take_joined<K: RecordDisk>(
     disk: &mut K,
     mut up: UpNode,
     device: DevId,
-    result: JoinResult,
+    ended: JoinResult,
     out: &mut Vec<Output>,
-) -> Result<UpNode, Stop> {
-    if let JoinResult::Joined = result {
-        up.seat.joined(device);
-        keep(alloc, me, disk, &up.seat, out)?;
-    }
+) -> Result<UpNode, Stop>
+    ensures { Follows K.saving (joined_here cluster.now me up device ended) out.old.items disk.old result out.new.items disk.new }
+{
+    let JoinResult::Joined = ended else {
+        return joined_all(alloc, cluster, me, disk, up, out);
+    };
+    up.seat.joined(device);
+    keep(alloc, me, disk, &up.seat, out)?;
+    joined_all(alloc, cluster, me, disk, up, out)
+}
+
+/// With the last joining the coordinator's own part is done, or a member is ready.
+#[tactic(auto, using(node_model::proofs::Plans::gives_follows))]
+fn joined_all<K: RecordDisk>(
+    alloc: Global,
+    cluster: &Cluster,
+    me: NodeId,
+    disk: &mut K,
+    up: UpNode,
+    out: &mut Vec<Output>,
+) -> Result<UpNode, Stop>
+    ensures { Follows K.saving (joined_all cluster.now me up) out.old.items disk.old result out.new.items disk.new }
+{
     let Some(coordinator) = coordinator(up.seat.session()) else {
         return Ok(up);
     };
@@ -135,18 +137,5 @@ fn take_joined<K: RecordDisk>(
         own_ready(alloc, cluster, me, disk, up, out)
     } else {
         ready(alloc, up, coordinator, out)
-    }
-}
-
-/// The node that coordinates the attempt of this epoch.
-fn coordinator(epoch: Epoch) -> Option<NodeId> {
-    NodeId::new(epoch.number() % 64).ok()
-}
-
-/// The word that the answer tells, or 0.
-fn word_in(answer: Result<PrAnswer, Failed>) -> Epoch {
-    match answer {
-        Ok(PrAnswer::Word(word) | PrAnswer::Miscompare(word)) => Epoch::from_number(word),
-        _ => Epoch::zero(),
     }
 }

@@ -3,7 +3,10 @@
 #![tactic(auto)]
 
 mod answers;
+mod before;
+mod told;
 mod writes;
 
-pub use answers::{before_command, take_device_answer};
+pub use answers::take_device_answer;
+pub use before::before_command;
 pub use writes::{may_write, take_write_answer};

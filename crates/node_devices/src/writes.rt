@@ -1,13 +1,15 @@
 // A node's writes.
 ghost use Rattle.std.specs.Prelude.{◌≡◌};
-ghost use Rattle.cmm_member.specs.Records.{NodeRecord};
-ghost use Rattle.node_model.specs.Devices.{answer_told, may_write_as, write_ended, wrote};
-ghost use Rattle.node_model.specs.Plans.{Follows};
+ghost use Rattle.status_report.specs.declared.device_entry.DeviceEntry.TheVariants as entry;
+ghost use Rattle.status_report.specs.declared.entry.Entry.TheVariants as trace;
+ghost use Rattle.node_model.specs.Devices.{may_write_as, write_ended, wrote};
+ghost use Rattle.node_model.specs.Plans.{Gives};
 
+use crate::told::told_answer;
 use cl_base::{DevId, Epoch, NodeId, Panic};
 use node_model::{Cluster, Output, Seat, Stop, UpNode, tell};
 use pgr_device::{Failed, PrAnswer, PrCommand};
-use status_report::{DeviceAnswer, DeviceEntry, DownCause, Entry, WriteRefusal};
+use status_report::{DeviceEntry, DownCause, Entry, WriteRefusal};
 
 /// The epoch under which the node may write to the device, or why it may not.
 pub fn may_write(
@@ -38,13 +40,13 @@ pub fn take_write_answer(
     answer: Result<PrAnswer, Failed>,
     out: &mut Vec<Output>,
 ) -> Result<UpNode, Stop>
-    ensures { (disk : NodeRecord) → Follows (wrote me up device value answer) out.old.items disk result out.new.items disk }
+    ensures { Gives (wrote me up device value answer) out.old.items result out.new.items }
 {
     let told = DeviceEntry::Command {
         node: me,
         device,
         command: PrCommand::Write { value },
-        answer: told_answer(answer),
+        answer: told_answer(&answer),
     };
     tell(out, Entry::Device(told))?;
     end_write(me, up, device, value, answer, out)
@@ -58,7 +60,7 @@ fn end_write(
     answer: Result<PrAnswer, Failed>,
     out: &mut Vec<Output>,
 ) -> Result<UpNode, Stop>
-    ensures { (disk : NodeRecord) → Follows (write_ended me up device value answer) out.old.items disk result out.new.items disk }
+    ensures { Gives (write_ended me up device value answer) out.old.items result out.new.items }
 {
     match answer {
         Ok(PrAnswer::Good) => {
@@ -82,21 +84,13 @@ fn end_write(
     }
 }
 
-fn refused(node: NodeId, device: DevId, value: u64, cause: WriteRefusal) -> Entry {
+fn refused(node: NodeId, device: DevId, value: u64, cause: WriteRefusal) -> Entry
+    ensures { result ≡ trace.Device (entry.Refused node device value cause) }
+{
     Entry::Device(DeviceEntry::Refused {
         node,
         device,
         value,
         cause,
     })
-}
-
-/// The answer as the trace tells it.
-pub fn told_answer(answer: Result<PrAnswer, Failed>) -> DeviceAnswer
-    ensures { result ≡ answer_told answer }
-{
-    match answer {
-        Ok(answer) => DeviceAnswer::Given(answer),
-        Err(_) => DeviceAnswer::Failed,
-    }
 }

@@ -1,5 +1,6 @@
 // Packets that no node of the cluster sends.
 ghost use Rattle.std.specs.Prelude.{◌≡◌};
+ghost use Rattle.std.specs.List.{list_all};
 ghost use Rattle.node_model.specs.Members.{has_many_keys, has_texts, is_foreign, is_foreign_install, is_foreign_seizing, is_known_reading};
 
 use cl_base::{Bytes, DevId, NodeId, NodeSet};
@@ -28,13 +29,19 @@ pub fn is_foreign(cluster: &Cluster, me: NodeId, body: &Body) -> bool
                 || has_texts(committed, pending)
         }
         Body::SeizeQuorum {
-            members, device, ..
+            members,
+            device,
+            ..
         }
         | Body::SeizeData {
-            members, device, ..
+            members,
+            device,
+            ..
         } => is_foreign_seizing(cluster, me, *members, *device),
         Body::Seized {
-            device, outcome, ..
+            device,
+            outcome,
+            ..
         } => !cluster.devices.has(*device) || has_many_keys(outcome),
         Body::Install(i) => is_foreign_install(cluster, me, i),
         Body::Ready { joined, .. } => !cluster.has_devices(*joined),
@@ -56,7 +63,13 @@ fn is_foreign_install(cluster: &Cluster, me: NodeId, i: &Install) -> bool
     !i.members.has(me)
         || !cluster.has_nodes(i.members)
         || has_texts(&i.committed, &i.pending)
-        || !i.readings.items().iter().all(|r| is_known_reading(cluster, r))
+        || !knows_readings(cluster, i.readings.items())
+}
+
+fn knows_readings(cluster: &Cluster, readings: &[Reading]) -> bool
+    ensures { result ≡ list_all (is_known_reading cluster.now) readings.now }
+{
+    readings.iter().all(|r| is_known_reading(cluster, r))
 }
 
 fn is_known_reading(cluster: &Cluster, r: &Reading) -> bool

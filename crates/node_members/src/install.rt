@@ -1,8 +1,7 @@
 // An Install, and the Ready that answers it.
-ghost use Rattle.std.specs.Prelude.{◌≡◌};
-ghost use Rattle.cmm_member.specs.Records.{NodeRecord};
 ghost use Rattle.node_model.specs.Members.{on_install, readying};
-ghost use Rattle.node_model.specs.Plans.{Follows};
+ghost use Rattle.node_model.specs.Plans.{Follows, Gives};
+ghost use Rattle.node_members.specs.Installs.{installing_members};
 
 use cl_base::{Epoch, NodeId};
 use node_acts::{begin_joins, install, save_install};
@@ -12,6 +11,7 @@ use std::alloc::Global;
 use wire::{Body, GroupReports, Install, Report, ResourceReports};
 
 /// The node is to install a membership of its session.
+#[tactic(auto, using(crate::proofs::Installs::install_fails))]
 pub fn take_install<K: RecordDisk>(
     alloc: Global,
     cluster: &Cluster,
@@ -22,7 +22,7 @@ pub fn take_install<K: RecordDisk>(
     i: &Install,
     out: &mut Vec<Output>,
 ) -> Result<UpNode, Stop>
-    ensures { Follows (on_install cluster.now me up from i.now) out.old.items (K.kept disk.old) result out.new.items (K.kept disk.new) }
+    ensures { Follows K.saving (on_install cluster.now me up from i.now) out.old.items disk.old result out.new.items disk.new }
 {
     if i.epoch == Epoch::zero() || up.seat.session() != i.epoch {
         let body = Body::Nack {
@@ -45,7 +45,9 @@ fn install_members<K: RecordDisk>(
     up: UpNode,
     i: &Install,
     out: &mut Vec<Output>,
-) -> Result<UpNode, Stop> {
+) -> Result<UpNode, Stop>
+    ensures { Follows K.saving (installing_members cluster.now me up i.now up.seat) out.old.items disk.old result out.new.items disk.new }
+{
     let UpNode {
         seat,
         greatest,
@@ -55,7 +57,14 @@ fn install_members<K: RecordDisk>(
     } = up;
     let (seat, changed) = install(alloc, seat, i)?;
     if changed {
-        begin_joins(cluster, me, i.epoch, seat.joined_devices(), &mut tasks, i.readings.items())?;
+        begin_joins(
+            cluster,
+            me,
+            i.epoch,
+            seat.joined_devices(),
+            &mut tasks,
+            i.readings.items(),
+        )?;
         save_install(alloc, me, disk, &seat, i.epoch, out)?;
     }
     Ok(UpNode {
@@ -68,13 +77,8 @@ fn install_members<K: RecordDisk>(
 }
 
 /// The node is ready where it has no device left to join.
-pub fn ready(
-    alloc: Global,
-    up: UpNode,
-    to: NodeId,
-    out: &mut Vec<Output>,
-) -> Result<UpNode, Stop>
-    ensures { (disk : NodeRecord) → Follows (readying up to) out.old.items disk result out.new.items disk }
+pub fn ready(alloc: Global, up: UpNode, to: NodeId, out: &mut Vec<Output>) -> Result<UpNode, Stop>
+    ensures { Gives (readying up to) out.old.items result out.new.items }
 {
     if up.tasks.joins() {
         return Ok(up);

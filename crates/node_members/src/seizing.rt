@@ -1,15 +1,17 @@
 // A request to seize a device.
-ghost use Rattle.std.specs.Prelude.{◌≡◌, true};
+ghost use Rattle.std.specs.Prelude.{◌≡◌, ◌++◌, ◌∷◌, [], true, OnOk, IfErr};
 ghost use Rattle.cl_base.specs.Sets.{has};
-ghost use Rattle.cmm_member.specs.Records.{NodeRecord};
-ghost use Rattle.node_model.specs.Members.{on_seizing};
-ghost use Rattle.node_model.specs.Plans.{Follows};
+ghost use Rattle.wire.specs.declared.message.Body.TheVariants as body;
+ghost use Rattle.node_model.specs.declared.output.Output.TheVariants.{Sends};
+ghost use Rattle.node_model.specs.declared.stop.Stop.TheVariants.{NoMemory};
+ghost use Rattle.node_model.specs.Members.{on_request, on_seizing};
+ghost use Rattle.node_model.specs.Plans.{Gives};
 
 use cl_base::{DevId, Epoch, NodeId, NodeSet, SeizeEnd};
 use node_model::{Cluster, Output, Stop, UpNode, send};
-use seize::{Seize, SeizeKind, told_result};
+use seize::{Seize, SeizeKind, SeizeResult, told_result};
 use std::alloc::Global;
-use wire::Body;
+use wire::{Body, SeizedResult};
 
 /// What is to be seized.
 #[derive(Clone, Copy)]
@@ -29,13 +31,35 @@ pub fn seize(
     alloc: Global,
     cluster: &Cluster,
     me: NodeId,
-    mut up: UpNode,
+    up: UpNode,
     from: NodeId,
     request: Request,
     out: &mut Vec<Output>,
 ) -> Result<UpNode, Stop>
     requires member { has request.members me ≡ true }
-    ensures { (disk : NodeRecord) → Follows (on_seizing cluster.now me up from request.kind request.epoch request.members request.device) out.old.items disk result out.new.items disk }
+    ensures { Gives (on_seizing cluster.now me up from request.kind request.epoch request.members request.device) out.old.items result out.new.items }
+{
+    let (epoch, device) = (request.epoch, request.device);
+    if epoch == Epoch::zero() || up.seat.session() != epoch {
+        return Ok(up);
+    }
+    let kept = up.tasks.seized(device);
+    take_request(alloc, cluster, me, up, from, request, kept, out)
+}
+
+/// The same in its session, where this is kept of the device's seizing.
+fn take_request(
+    alloc: Global,
+    cluster: &Cluster,
+    me: NodeId,
+    mut up: UpNode,
+    from: NodeId,
+    request: Request,
+    kept: Option<SeizeResult>,
+    out: &mut Vec<Output>,
+) -> Result<UpNode, Stop>
+    requires member { has request.members me ≡ true }
+    ensures { Gives (on_request cluster.now me up from request.kind request.epoch request.members request.device kept) out.old.items result out.new.items }
 {
     let Request {
         kind,
@@ -43,21 +67,36 @@ pub fn seize(
         members,
         device,
     } = request;
-    if epoch == Epoch::zero() || up.seat.session() != epoch {
-        return Ok(up);
-    }
-    if let Some(result) = up.tasks.seized(device) {
-        let outcome = told_result(alloc, &result)?;
-        send(out, from, Body::Seized { epoch, device, outcome })?;
+    if let Some(ended) = kept {
+        let outcome = told_result(alloc, &ended)?;
+        send_seized(out, from, epoch, device, outcome)?;
         return Ok(up);
     }
     if up.seat.installed() == epoch {
-        let outcome = SeizeEnd::Fault;
-        send(out, from, Body::Seized { epoch, device, outcome })?;
+        send_seized(out, from, epoch, device, SeizeEnd::Fault)?;
         return Ok(up);
     }
     let valid = up.seat.valid().has(device);
     let seizing = Seize::begin(kind, epoch, members, me, cluster.id, valid);
     up.tasks.seize(device, seizing)?;
     Ok(up)
+}
+
+/// The node tells the coordinator how its seizing of the device has ended.
+pub fn send_seized(
+    out: &mut Vec<Output>,
+    to: NodeId,
+    epoch: Epoch,
+    device: DevId,
+    outcome: SeizedResult,
+) -> Result<(), Stop>
+    ensures sent { OnOk result (out.new.items ≡ out.old.items ++ Sends to (body.Seized epoch device outcome) ∷ []) }
+    ensures only { IfErr result (λ e. e ≡ NoMemory) }
+{
+    let body = Body::Seized {
+        epoch,
+        device,
+        outcome,
+    };
+    send(out, to, body)
 }

@@ -6,3 +6,5 @@ pub mod Attempts
 pub mod Members
 pub mod Devices
 pub mod Ticks
+pub mod Steps
+pub mod Inputs

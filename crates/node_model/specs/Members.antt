@@ -156,6 +156,11 @@ on_start_as me x e (Forming s) =
     then keeping_if (is_some s.saved.entries.pending) me (sitting x s) (telling_of me (node.Member e) (Stays (sitting x s)))
     else Stays x
 
+-- A notice that the attempt of its session leaves it out.
+
+abbrev pub on_excluded : UpNode → ℕ → ℕ → Plan
+on_excluded x e newest = if is_in x e then Falls (down.Panic (panic.Excluded newest)) else Stays x
+
 -- The answers to its own attempt.
 
 abbrev pub on_answer : Cluster → ℕ → UpNode → ℕ → Message → Option AttemptState → Plan
@@ -173,7 +178,7 @@ on_body c me x from m (body.Seized e d outcome) = on_answer c me x from m x.atte
 on_body c me x from m (body.Install i) = on_install c me x from i
 on_body c me x from m (body.Ready e joined report) = on_answer c me x from m x.attempt
 on_body c me x from m (body.Start e) = on_start_as me x e x.seat
-on_body c me x from m (body.Excluded e newest) = if is_in x e then Falls (down.Panic (panic.Excluded newest)) else Stays x
+on_body c me x from m (body.Excluded e newest) = on_excluded x e newest
 on_body c me x from m _ = Stays x
 
 -- a packet that was delivered: its sender is heard, and the epochs that it shows are seen

@@ -1,7 +1,11 @@
 -- What a node does in one step: what it gives and saves, in order, and how it ends. Each save may be lost.
-use Rattle.std.specs.Prelude.{◌≡◌, ◌⊎◌, List, [], ◌∷◌, ◌++◌, Result, Ok, Err}
+use Rattle.std.specs.Prelude.{◌≡◌, ◌⊎◌, List, [], ◌∷◌, ◌++◌, Option, None, Some, Result, Ok, Err}
+use Rattle.std.specs.Option.{option_map}
 use Rattle.cl_base.specs.declared.panic.Panic.TheVariants as panic
 use Rattle.cmm_member.specs.Records.{NodeRecord}
+use Rattle.record_disk.specs.Savings.{Saving}
+use Rattle.record_disk.specs.declared.error.Loss.{Loss}
+use Rattle.record_disk.specs.declared.error.Loss.TheVariants.{Stopped, Fault}
 use Rattle.status_report.specs.declared.node_entry.DownCause.{DownCause}
 use Rattle.status_report.specs.declared.node_entry.DownCause.TheVariants as down
 use Rattle.node_model.specs.declared.node.UpNode.{UpNode}
@@ -22,34 +26,50 @@ and_then (Falls why) next = Falls why
 and_then (Says os rest) next = Says os (and_then rest next)
 and_then (Saves r rest) next = Saves r (and_then rest next)
 
--- a save is lost by a stop in a call of the disk, or by a disk that failed
-abbrev pub IsLost : DownCause → Type 0
-IsLost (down.Stopped) = Unit {0}
-IsLost (down.Panic panic.Disk) = Unit {0}
-IsLost _ = ⊥
+-- why a node goes down whose save is lost, or that cannot read its record
+abbrev pub cause_of : Loss → DownCause
+cause_of Stopped = down.Stopped
+cause_of Fault = down.Panic panic.Disk
 
--- The plan is carried out with each save done: given before and after, the record on the disk before and after, the node after.
-abbrev pub IsDone : Plan → List Output → NodeRecord → UpNode → List Output → NodeRecord → Type 0
-IsDone (Stays x) given disk up after left = (up ≡ x) × (after ≡ given) × (left ≡ disk)
-IsDone (Falls why) given disk up after left = ⊥
-IsDone (Says os rest) given disk up after left = IsDone rest (given ++ os) disk up after left
-IsDone (Saves r rest) given disk up after left = IsDone rest given r up after left
+-- A save that came to this is lost: the node goes down for this cause, has given no more, and leaves this disk.
+pub record IsLost {K : Type 0} (s : Saving K) (given : List Output) (why : DownCause) (after : List Output) (left : K) : Type 0 where
+  pub cause : option_map cause_of s.lost ≡ Some why
+  pub given_so : after ≡ given
+  pub left_so : left ≡ s.after
 
--- The node has gone down in it: by the plan, or since a save was lost, which leaves the old record or the new one.
-abbrev pub HasFallen : Plan → List Output → NodeRecord → DownCause → List Output → NodeRecord → Type 0
-HasFallen (Stays x) given disk why after left = ⊥
-HasFallen (Falls cause) given disk why after left = (why ≡ cause) × (after ≡ given) × (left ≡ disk)
-HasFallen (Says os rest) given disk why after left = HasFallen rest (given ++ os) disk why after left
-HasFallen (Saves r rest) given disk why after left =
-    HasFallen rest given r why after left ⊎ (IsLost why × (after ≡ given) × ((left ≡ disk) ⊎ (left ≡ r)))
+-- The plan is carried out with each save done: given before and after, the disk before and after, the node after.
+abbrev pub IsDone : {K : Type 0} → (K → NodeRecord → Saving K) → Plan → List Output → K → UpNode → List Output → K → Type 0
+IsDone saving (Stays x) given disk up after left = (up ≡ x) × (after ≡ given) × (left ≡ disk)
+IsDone saving (Falls why) given disk up after left = ⊥
+IsDone saving (Says os rest) given disk up after left = IsDone saving rest (given ++ os) disk up after left
+IsDone saving (Saves r rest) given disk up after left = ((saving disk r).lost ≡ None) × IsDone saving rest given (saving disk r).after up after left
+
+-- The node has gone down in it: by the plan, or since a save was lost.
+abbrev pub HasFallen : {K : Type 0} → (K → NodeRecord → Saving K) → Plan → List Output → K → DownCause → List Output → K → Type 0
+HasFallen saving (Stays x) given disk why after left = ⊥
+HasFallen saving (Falls cause) given disk why after left = (why ≡ cause) × (after ≡ given) × (left ≡ disk)
+HasFallen saving (Says os rest) given disk why after left = HasFallen saving rest (given ++ os) disk why after left
+HasFallen saving (Saves r rest) given disk why after left =
+    (((saving disk r).lost ≡ None) × HasFallen saving rest given (saving disk r).after why after left) ⊎ IsLost (saving disk r) given why after left
 
 -- What a call that follows the plan comes to. Where memory runs out, the run ends there.
-abbrev pub Follows : Plan → List Output → NodeRecord → Result UpNode Stop → List Output → NodeRecord → Type 0
-Follows plan given disk (Ok up) after left = IsDone plan given disk up after left
-Follows plan given disk (Err (Down why)) after left = HasFallen plan given disk why after left
-Follows plan given disk (Err NoMemory) after left = Unit {0}
+abbrev pub Follows : {K : Type 0} → (K → NodeRecord → Saving K) → Plan → List Output → K → Result UpNode Stop → List Output → K → Type 0
+Follows saving plan given disk (Ok up) after left = IsDone saving plan given disk up after left
+Follows saving plan given disk (Err (Down why)) after left = HasFallen saving plan given disk why after left
+Follows saving plan given disk (Err NoMemory) after left = Unit {0}
 
--- A save that is not done: it is lost, with the old record left or the new one, or memory ran out.
-abbrev pub KeepFails : NodeRecord → List Output → NodeRecord → List Output → NodeRecord → Stop → Type 0
-KeepFails r given disk after left (Down why) = IsLost why × (after ≡ given) × ((left ≡ disk) ⊎ (left ≡ r))
-KeepFails r given disk after left NoMemory = Unit {0}
+-- The same of a plan that saves nothing.
+abbrev pub Gives : Plan → List Output → Result UpNode Stop → List Output → Type 0
+Gives (Stays x) given (Ok up) after = (up ≡ x) × (after ≡ given)
+Gives (Stays x) given (Err (Down why)) after = ⊥
+Gives (Falls cause) given (Ok up) after = ⊥
+Gives (Falls cause) given (Err (Down why)) after = (why ≡ cause) × (after ≡ given)
+Gives (Says os rest) given result after = Gives rest (given ++ os) result after
+Gives (Saves r rest) given (Ok up) after = ⊥
+Gives (Saves r rest) given (Err (Down why)) after = ⊥
+Gives _ given (Err NoMemory) after = Unit {0}
+
+-- A save that is not done: it is lost, or memory ran out.
+abbrev pub KeepFails : {K : Type 0} → Saving K → List Output → List Output → K → Stop → Type 0
+KeepFails s given after left (Down why) = IsLost s given why after left
+KeepFails s given after left NoMemory = Unit {0}

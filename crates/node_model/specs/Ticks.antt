@@ -1,6 +1,5 @@
 -- What a node does at a tick, and at its boot.
 use Rattle.std.specs.Prelude.{ℕ, zero, suc, ◌-◌, ◌==◌, ◌&&◌, nat_le, Bool, true, false, List, [], ◌∷◌, map, Option, None, Some, if◌then◌else◌}
-use Rattle.std.specs.Option.{unwrap_or}
 use Rattle.cl_base.specs.Limits.{most_nodes}
 use Rattle.cl_base.specs.Numbers.{numbers_to}
 use Rattle.cl_base.specs.Sets.{has}
@@ -25,9 +24,9 @@ use Rattle.node_model.specs.Plans.{Plan}
 use Rattle.node_model.specs.Plans.Plan.{Stays, Says}
 use Rattle.node_model.specs.Seats.{is_member, promised_of, record_of, session_of}
 
-abbrev pub membership_of : UpNode → Seat → Option Membership
-membership_of x (Forming s) = None
-membership_of x (Member s) = Some (record { epoch = s.session; members = s.saved.members })
+abbrev pub membership_of : Seat → Option Membership
+membership_of (Forming s) = None
+membership_of (Member s) = Some (record { epoch = s.session; members = s.saved.members })
 
 abbrev pub heartbeat_of : UpNode → Body
 heartbeat_of x = body.Heartbeat (promised_of x) (session_of x) (is_member x.seat)
@@ -36,9 +35,17 @@ heartbeat_of x = body.Heartbeat (promised_of x) (session_of x) (is_member x.seat
 unfoldable pub heartbeats_to : UpNode → ℕ → List Output
 heartbeats_to x receivers = map (λ n. Sends n (heartbeat_of x)) (numbers_to receivers most_nodes)
 
--- whether an attempt begins where none is under way and the node does not wait
-abbrev pub may_begin : Cluster → ℕ → UpNode → Bool
-may_begin c me x = may_count_on x.greatest && begins x.beats c.configured (membership_of x x.seat) && has (unwrap_or x.beats.view 0) me
+-- the members of the attempt that the node is to begin where none is under way and it does not wait: its view, if one is to begin
+abbrev pub to_form_in : Cluster → ℕ → UpNode → Option ℕ → Option ℕ
+to_form_in c me x None = None
+to_form_in c me x (Some view) = if may_count_on x.greatest && begins x.beats c.configured (membership_of x.seat) && has view me then Some view else None
+
+abbrev pub members_to_form : Cluster → ℕ → UpNode → Option ℕ
+members_to_form c me x = to_form_in c me x x.beats.view
+
+abbrev pub forming : Cluster → ℕ → UpNode → Option ℕ → Plan
+forming c me x None = Stays x
+forming c me x (Some members) = leading c me x members
 
 abbrev pub waiting_less : UpNode → UpNode
 waiting_less x = record x { beats = record x.beats { wait = x.beats.wait - 1 } }
@@ -48,7 +55,7 @@ abbrev pub attempt_ticked : Cluster → ℕ → UpNode → Option AttemptState �
 attempt_ticked c me x (Some a) = going_on c me x (ticking a)
 attempt_ticked c me x None =
     if nat_le 1 x.beats.wait then Stays (waiting_less x)
-    else (if may_begin c me (waiting_less x) then leading c me (waiting_less x) (unwrap_or x.beats.view 0) else Stays (waiting_less x))
+    else forming c me (waiting_less x) (members_to_form c me (waiting_less x))
 
 abbrev pub later : Cluster → UpNode → UpNode
 later c x = record x { beats = ticked x.beats c.configured }

@@ -3,12 +3,14 @@
 #![tactic(auto)]
 
 mod cluster;
+mod input;
 mod node;
 mod output;
 mod seat;
 mod stop;
 
 pub use cluster::Cluster;
+pub use input::Input;
 pub use node::{Node, UpNode};
 pub use output::{Output, cause_of, keep, send, tell, tell_of};
 pub use seat::Seat;

@@ -1,9 +1,9 @@
-ghost use Rattle.std.specs.Prelude.{◌≡◌, ◌⊎◌, ◌++◌, ◌∷◌, [], OnOk, IfErr};
+ghost use Rattle.std.specs.Prelude.{◌≡◌, ◌⊎◌, ◌++◌, ◌∷◌, [], None, OnOk, IfErr};
 ghost use Rattle.status_report.specs.declared.entry.Entry.TheVariants as trace;
 ghost use Rattle.status_report.specs.declared.node_entry.NodeEntry.TheVariants as note;
 ghost use Rattle.node_model.specs.declared.output.Output.TheVariants.{Tells, Sends};
 ghost use Rattle.node_model.specs.declared.stop.Stop.TheVariants.{NoMemory};
-ghost use Rattle.node_model.specs.Plans.{IsLost, KeepFails};
+ghost use Rattle.node_model.specs.Plans.{KeepFails, cause_of};
 ghost use Rattle.node_model.specs.Seats.{state_of};
 
 use crate::seat::Seat;
@@ -62,9 +62,10 @@ pub fn keep<K: RecordDisk>(
     seat: &Seat,
     out: &mut Vec<Output>,
 ) -> Result<(), Stop>
-    ensures saved { OnOk result (K.kept disk.new ≡ (state_of seat.now).saved) }
+    ensures saved { OnOk result ((K.saving disk.old (state_of seat.now).saved).lost ≡ None) }
+    ensures left { OnOk result (disk.new ≡ (K.saving disk.old (state_of seat.now).saved).after) }
     ensures told { OnOk result (out.new.items ≡ out.old.items ++ Tells (trace.Node me note.Saved) ∷ []) }
-    ensures lost { IfErr result (KeepFails (state_of seat.now).saved out.old.items (K.kept disk.old) out.new.items (K.kept disk.new)) }
+    ensures lost { IfErr result (KeepFails (K.saving disk.old (state_of seat.now).saved) out.old.items out.new.items disk.new) }
 {
     match disk.save(alloc, seat.record()) {
         Ok(()) => tell_of(out, me, NodeEntry::Saved),
@@ -75,7 +76,7 @@ pub fn keep<K: RecordDisk>(
 
 /// Why a node goes down whose disk lost a save, or did not let it read its record.
 pub fn cause_of(loss: Loss) -> DownCause
-    ensures lost { IsLost result }
+    ensures value { result ≡ cause_of loss }
 {
     match loss {
         Loss::Stopped => DownCause::Stopped,

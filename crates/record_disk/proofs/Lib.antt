@@ -1,4 +1,5 @@
 pub mod Stops
-pub mod RowTexts
+pub mod Fits
+mod Outcomes
 pub mod Tied
 pub mod Boots

@@ -1,3 +1,5 @@
 pub mod Disks
-pub mod Inside
 pub mod Images
+pub mod Inside
+pub mod Laws
+pub mod Savings

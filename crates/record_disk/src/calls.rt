@@ -1,12 +1,12 @@
 // The disk calls of a mounting and of a save.
 ghost use Rattle.std.specs.Prelude.{◌≡◌, ◌⊎◌, ◌≤◌, true, false, length, IfOk, OnOk, OnErr, IsErrOf, MatchResult, if◌then◌else◌};
 ghost use Rattle.local_disk.specs.LocalDisk.{Only};
-ghost use Rattle.local_disk.specs.Memory.{calls_of, has_stopped, still_armed};
-ghost use Rattle.record_store.specs.Images.{text_of};
-ghost use Rattle.record_store.specs.Store.{Stands};
+ghost use Rattle.local_disk.specs.Memory.{has_stopped, left_now, still_armed};
+ghost use Rattle.record_store.specs.Images.{text_of, other_slot};
+ghost use Rattle.record_store.specs.Store.{Stands, Gives, replaced};
 ghost use Rattle.record_disk.specs.declared.error.Loss.TheVariants.{Stopped, Fault};
 ghost use Rattle.record_disk.specs.declared.error.DiskError.TheVariants.{Lost, NoMemory};
-ghost use Rattle.record_disk.specs.Disks.{after_four, stops_in_four};
+ghost use Rattle.record_disk.specs.Disks.{after_four, stops_in_four, stands_after};
 ghost use Rattle.record_disk.specs.Images.{IsSettled, images};
 
 use crate::{DiskError, Loss};
@@ -21,10 +21,9 @@ pub fn read(alloc: Global, disk: &mut MemDisk) -> Result<(Store, Vec<u8>), DiskE
     ensures reads { disk.new.reads ≡ disk.old.reads }
     ensures text { IfOk result (λ found. found.1.items ≡ text_of disk.old.reads) }
     ensures stands { IfOk result (λ found. Stands disk.new.reads (images disk.new) found.0) }
-    ensures when { MatchResult result (λ found. stops_in_four (calls_of disk.old.stop) ≡ false) (λ e. (e ≡ NoMemory) ⊎ ((e ≡ Lost Stopped) × (stops_in_four (calls_of disk.old.stop) ≡ true))) }
-    ensures calls { OnOk result (calls_of disk.new.stop ≡ after_four (calls_of disk.old.stop)) }
-    ensures stopped { IsErrOf result (Lost Stopped) → calls_of disk.new.stop ≡ after_four (calls_of disk.old.stop) }
-    ensures no_memory { IsErrOf result NoMemory → disk.new ≡ disk.old }
+    ensures when { MatchResult result (λ found. stops_in_four disk.old.stop ≡ false) (λ e. (e ≡ NoMemory) ⊎ ((e ≡ Lost Stopped) × (stops_in_four disk.old.stop ≡ true))) }
+    ensures stop { OnOk result (disk.new.stop ≡ after_four disk.old.stop) }
+    ensures stopped { IsErrOf result (Lost Stopped) → disk.new.stop ≡ after_four disk.old.stop }
 {
     match Store::mount(alloc, disk) {
         Ok(mounted) => Ok(mounted),
@@ -40,10 +39,10 @@ pub fn write(disk: &mut MemDisk, store: &mut Store, text: &[u8]) -> Result<(), L
     requires most { length text.now ≤ 65536 }
     ensures settled { IsSettled disk.new }
     ensures stands { OnOk result (Stands disk.new.reads (images disk.new) store.new) }
-    ensures text { OnOk result (text_of disk.new.reads ≡ text.now) }
-    ensures either { OnErr result ((text_of disk.new.reads ≡ text_of disk.old.reads) ⊎ (text_of disk.new.reads ≡ text.now)) }
-    ensures when { MatchResult result (λ _. stops_in_four (calls_of disk.old.stop) ≡ false) (λ loss. (loss ≡ Stopped) × (stops_in_four (calls_of disk.old.stop) ≡ true)) }
-    ensures calls { calls_of disk.new.stop ≡ after_four (calls_of disk.old.stop) }
+    ensures held { OnOk result (store.new ≡ replaced store.old text.now) }
+    ensures left { OnErr result (Gives (if stands_after disk.old.stop (other_slot store.old.slot) then replaced store.old text.now else store.old) disk.new.reads) }
+    ensures when { MatchResult result (λ _. stops_in_four disk.old.stop ≡ false) (λ loss. (loss ≡ Stopped) × (stops_in_four disk.old.stop ≡ true)) }
+    ensures stop { disk.new.stop ≡ after_four disk.old.stop }
 {
     match store.save(disk, text) {
         Ok(()) => Ok(()),
@@ -55,6 +54,7 @@ pub fn write(disk: &mut MemDisk, store: &mut Store, text: &[u8]) -> Result<(), L
 fn crash(disk: &mut MemDisk) -> Loss
     ensures loss { result ≡ (if has_stopped disk.old.stop then Stopped else Fault) }
     ensures stop { disk.new.stop ≡ still_armed disk.old.stop }
+    ensures left { disk.new.reads ≡ left_now disk.old }
     ensures allowed { images disk.old disk.new.reads }
     ensures only { Only disk.new.reads (images disk.new) }
 {

@@ -1,12 +1,12 @@
 // A record on a local disk in memory.
-ghost use Rattle.std.specs.Prelude.{◌≡◌, ◌≢◌, ◌⊎◌, ◌≤◌, ℕ, [], true, false, IfOk, OnOk, IfErr, OnErr, IsErrOf};
+ghost use Rattle.std.specs.Prelude.{◌≡◌, ◌≢◌, ◌≤◌, ℕ, [], None, IfOk, OnOk, IfErr};
 ghost use Rattle.cmm_member.specs.Nodes.{booted};
 ghost use Rattle.cmm_member.specs.Records.{NodeRecord, IsRecordText};
 ghost use Rattle.cmm_member.specs.Views.{kept as record_of};
-ghost use Rattle.record_disk.specs.declared.error.Loss.TheVariants.{Stopped, Fault};
-ghost use Rattle.record_disk.specs.declared.error.DiskError.TheVariants.{Lost, NoMemory};
-ghost use Rattle.record_disk.specs.Disks.{Fits, empty_disk, armed, stops_in_four, next_save, after_mounting, after_no_call, after_loss, after_save, after_stopped_save};
+ghost use Rattle.record_disk.specs.Disks.{empty_disk, armed, mounting, saving};
 ghost use Rattle.record_disk.specs.Images.{IsFirst, IsTextFor};
+ghost use Rattle.record_disk.specs.Laws.{done_keeps, lost_keeps, mount_keeps};
+ghost use Rattle.record_disk.specs.Savings.{IsLostBy};
 
 use crate::calls::{read, write};
 use crate::texts::{copy_record, first_record, table_of, text_for};
@@ -14,7 +14,7 @@ use crate::{DiskError, Loss, RecordDisk};
 use cl_base::DevSet;
 use cmm_member::{DownNode, FormingNode, Record};
 use local_disk::{Choice, MemDisk};
-use record_store::{Store, empty_disk_mounts};
+use record_store::{Slot, Store, empty_disk_mounts};
 use std::alloc::{AllocError, Global};
 use std::marker::Model;
 
@@ -23,6 +23,13 @@ use std::marker::Model;
 struct Saved {
     durable: Record,
     saves: u64,
+}
+
+// A record that was to be saved to a slot.
+#[derive(Drop)]
+struct Tried {
+    saved: Saved,
+    slot: Slot,
 }
 
 /// A simulated local disk with a node's record on it. Contracts see it as a `DiskState`.
@@ -34,7 +41,7 @@ pub struct SimulatedDisk {
     // what was read or saved last
     last: Saved,
     // what was to be saved after it and may stand on the disk, since a call failed
-    tried: Option<Saved>,
+    tried: Option<Tried>,
 }
 
 impl Model for SimulatedDisk {
@@ -42,10 +49,10 @@ impl Model for SimulatedDisk {
 
     ghost Value = { DiskState };
 
-    ghost use Rattle.record_store.specs.Images.{text_of};
+    ghost use Rattle.record_store.specs.Images.{selected};
     ghost use Rattle.record_disk.specs.Inside.{IsTied, seen, standing};
 
-    ghost view = { λ d. seen d.disk d.store (standing (text_of d.disk.reads) d.last d.tried) };
+    ghost view = { λ d. seen d.disk d.store (standing (selected d.disk.reads) d.last d.tried) };
 
     ghost invariant = { λ d. IsTied d.disk d.store d.last d.tried };
 }
@@ -71,7 +78,7 @@ impl SimulatedDisk {
     /// and the choice says what is left of what was not synced.
     pub fn stop_after(&mut self, calls: u64, choice: Choice)
         requires { 1 ≤ calls }
-        ensures after { self.new ≡ armed self.old calls }
+        ensures after { self.new ≡ armed self.old calls choice }
     {
         self.disk.stop_after(calls, choice);
     }
@@ -80,17 +87,11 @@ impl SimulatedDisk {
 impl RecordDisk for SimulatedDisk {
     ghost kept = { λ d. d.kept };
 
-    fn mount(&mut self, alloc: Global, down: DownNode) -> Result<FormingNode, DiskError>
-        ensures up { IfOk result (λ up. up ≡ booted down self.old.kept) }
-        ensures kept { self.new.kept ≡ self.old.kept }
-        ensures ok { OnOk result (self.new ≡ after_mounting self.old) }
-        ensures in_time { OnOk result (stops_in_four self.old.calls_left ≡ false) }
-        ensures errors { IfErr result (λ e. (e ≡ NoMemory) ⊎ (e ≡ Lost Stopped)) }
-        ensures stopped { IsErrOf result (Lost Stopped) → self.new ≡ after_loss self.old }
-        ensures in_four { IsErrOf result (Lost Stopped) → stops_in_four self.old.calls_left ≡ true }
-        // memory ran out before the first call or after the last
-        ensures no_memory { IsErrOf result NoMemory → (self.new ≡ after_no_call self.old) ⊎ (self.new ≡ after_loss self.old) }
-    {
+    ghost saving = { saving };
+
+    ghost mounting = { mounting };
+
+    fn mount(&mut self, alloc: Global, down: DownNode) -> Result<FormingNode, DiskError> {
         self.store = None;
         let (store, text) = read(alloc, &mut self.disk)?;
         let (node, saves) = boot(alloc, down, text, &self.last)?;
@@ -101,22 +102,7 @@ impl RecordDisk for SimulatedDisk {
         Ok(node)
     }
 
-    fn save(&mut self, alloc: Global, durable: &Record) -> Result<(), DiskError>
-        ensures saved { OnOk result (self.new.kept ≡ record_of durable.now) }
-        ensures lost { OnErr result ((self.new.kept ≡ self.old.kept) ⊎ (self.new.kept ≡ record_of durable.now)) }
-        ensures no_memory { IsErrOf result NoMemory → self.new.kept ≡ self.old.kept }
-        ensures ok { OnOk result (self.new ≡ after_save self.old (record_of durable.now)) }
-        ensures fits { OnOk result (Fits (next_save self.old.saves) (record_of durable.now)) }
-        ensures mounted { OnOk result (self.old.mounted ≡ true) }
-        ensures in_time { OnOk result (stops_in_four self.old.calls_left ≡ false) }
-        ensures stopped { IsErrOf result (Lost Stopped) → (self.new ≡ after_loss self.old) ⊎ (self.new ≡ after_stopped_save self.old (record_of durable.now)) }
-        ensures stopped_fits { IsErrOf result (Lost Stopped) → Fits (next_save self.old.saves) (record_of durable.now) }
-        ensures stopped_mounted { IsErrOf result (Lost Stopped) → self.old.mounted ≡ true }
-        ensures in_four { IsErrOf result (Lost Stopped) → stops_in_four self.old.calls_left ≡ true }
-        ensures fault { IsErrOf result (Lost Fault) → (self.old.mounted ≡ false) ⊎ (Fits (next_save self.old.saves) (record_of durable.now) → ⊥) }
-        ensures nothing { IsErrOf result (Lost Fault) → self.new ≡ self.old }
-        ensures none_taken { IsErrOf result NoMemory → self.new ≡ self.old }
-    {
+    fn save(&mut self, alloc: Global, durable: &Record) -> Result<(), DiskError> {
         let saves = self.last.saves.saturating_add(1);
         let Some(text) = text_for(alloc, saves, durable)? else {
             return Err(DiskError::Lost(Loss::Fault));
@@ -126,17 +112,25 @@ impl RecordDisk for SimulatedDisk {
         let Some(store) = &mut self.store else {
             return Err(DiskError::Lost(Loss::Fault));
         };
+        let slot = store.slot().other();
         if let Err(loss) = write(&mut self.disk, store, text.as_slice()) {
             self.store = None;
-            self.tried = Some(next);
+            self.tried = Some(Tried { saved: next, slot });
             return Err(DiskError::Lost(loss));
         }
         self.last = next;
         Ok(())
     }
+
+    ghost done_keeps = { done_keeps };
+
+    ghost lost_keeps = { lost_keeps };
+
+    ghost mount_keeps = { mount_keeps };
 }
 
-// The node comes up from the text. No text stands for the first record, which is the last one then.
+// The node comes up from the text. Where there is none, the disk keeps its first record, which is the last one. It is
+// read off its table, for the node's own first record may be another.
 fn boot(
     alloc: Global,
     down: DownNode,

@@ -86,7 +86,25 @@ fn stops_in_a_save(rt: HostRuntime) -> Result<(), Fail> {
     expect_stopped_save(&rt, rt.alloc(), 1, Choice::New, 65)?;
     expect_stopped_save(&rt, rt.alloc(), 2, Choice::Zero, 65)?;
     expect_stopped_save(&rt, rt.alloc(), 3, Choice::Old, 65)?;
+    expect_stopped_save(&rt, rt.alloc(), 3, Choice::Zero, 129)?;
     expect_stopped_save(&rt, rt.alloc(), 4, Choice::New, 129)?;
+    Ok(())
+}
+
+// Zeros name the first slot, and this save is to the second.
+#[test]
+fn zeros_in_a_save_to_the_second_slot(rt: HostRuntime) -> Result<(), Fail> {
+    let (mut disk, node) = with_promise(rt.alloc())?;
+    let Ok(node) = promised(rt.alloc(), &mut disk, node, 129)? else {
+        return Err("it is not saved".into());
+    };
+    disk.stop_after(3, Choice::Zero);
+    let Err(stopped) = promised(rt.alloc(), &mut disk, node, 193)? else {
+        return Err("it is saved".into());
+    };
+    assert_eq!(rt; stopped, STOPPED);
+    let node = mounted(rt.alloc(), &mut disk)?;
+    assert_eq!(rt; node.promised().number(), 129);
     Ok(())
 }
 

@@ -1,9 +1,10 @@
 // The text that a disk has for a record.
-ghost use Rattle.std.specs.Prelude.{◌≡◌, ◌↔◌, ◌≤◌, All, IfOk, IfSome, IsTrue, MatchOption, length};
+ghost use Rattle.std.specs.Prelude.{◌≡◌, ◌≤◌, IfOk, IfSome, is_some, length, true};
+ghost use Rattle.std.specs.List.{list_all};
 ghost use Rattle.ccr_commit.specs.Entries.{texts_of};
-ghost use Rattle.cmm_member.specs.Records.{IsRowText, first_record};
+ghost use Rattle.cmm_member.specs.Records.{first_record};
 ghost use Rattle.cmm_member.specs.Views.{kept};
-ghost use Rattle.record_disk.specs.Disks.{Fits};
+ghost use Rattle.record_disk.specs.Disks.{fits, is_plain_byte, is_row_text};
 ghost use Rattle.record_disk.specs.Images.{IsTextFor};
 
 use ccr_commit::Entries;
@@ -45,7 +46,7 @@ pub fn copy_record(alloc: Global, durable: &Record) -> Result<Record, AllocError
 
 /// The text of the record's table, if a disk can hold it.
 pub fn text_for(alloc: Global, saves: u64, durable: &Record) -> Result<Option<Vec<u8>>, AllocError>
-    ensures fits { IfOk result (λ found. MatchOption found (Fits saves (kept durable.now) → ⊥) (λ text. Fits saves (kept durable.now))) }
+    ensures fits { IfOk result (λ found. is_some found ≡ fits saves (kept durable.now)) }
     ensures text { IfOk result (λ found. IfSome found (λ text. IsTextFor text.items saves (kept durable.now))) }
     ensures most { IfOk result (λ found. IfSome found (λ text. length text.items ≤ 65536)) }
 {
@@ -63,7 +64,7 @@ pub fn text_for(alloc: Global, saves: u64, durable: &Record) -> Result<Option<Ve
 /// The text of the record's table.
 pub fn table_of(alloc: Global, saves: u64, durable: &Record) -> Result<Vec<u8>, AllocError>
     requires order { durable.now.installed ≤ durable.now.promised }
-    requires texts { All IsRowText (texts_of durable.now.entries) }
+    requires texts { list_all is_row_text (texts_of durable.now.entries) ≡ true }
     ensures { IfOk result (λ text. IsTextFor text.items saves (kept durable.now)) }
 {
     let rows = record_rows(alloc, durable)?;
@@ -72,22 +73,28 @@ pub fn table_of(alloc: Global, saves: u64, durable: &Record) -> Result<Vec<u8>, 
 }
 
 fn fit_rows(entries: &Entries) -> bool
-    ensures { IsTrue result ↔ All IsRowText (texts_of entries.now) }
+    ensures { result ≡ list_all is_row_text (texts_of entries.now) }
 {
     let Some(last) = entries.pending() else {
         return are_row_texts(entries.committed());
     };
-    is_row_text(last.items()) && are_row_texts(entries.committed())
+    are_row_texts(entries.committed()) && is_row_text(last.items())
 }
 
 fn are_row_texts(texts: &[Bytes]) -> bool
-    ensures { IsTrue result ↔ All IsRowText texts.now }
+    ensures { result ≡ list_all is_row_text texts.now }
 {
     texts.iter().all(|text| is_row_text(text.items()))
 }
 
 fn is_row_text(text: &[u8]) -> bool
-    ensures { IsTrue result ↔ IsRowText text.now }
+    ensures { result ≡ is_row_text text.now }
 {
-    text.len() <= 65535 && text.iter().all(|b| *b != b'\t' && *b != b'\n')
+    text.len() <= 65535 && is_plain(text)
+}
+
+fn is_plain(text: &[u8]) -> bool
+    ensures { result ≡ list_all is_plain_byte text.now }
+{
+    text.iter().all(|b| *b != b'\t' && *b != b'\n')
 }

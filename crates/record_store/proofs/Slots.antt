@@ -85,6 +85,7 @@ part_written p m disk bytes fits le =
 -- how a disk with a new text in one slot stands to the one before
 pub record IsStaged (slot : Slot) (text old new : List ℕ) : Type 0 where
   pub size : length new ≡ disk_bytes
+  pub selector : selected new ≡ selected old
   pub other : slot_bytes new (other_slot slot) ≡ slot_bytes old (other_slot slot)
   pub length_told : length_in (slot_bytes new slot) ≤ 65536
   pub gives : text_in (slot_bytes new slot) ≡ text
@@ -103,6 +104,7 @@ staged slot text old new size fits is same =
     ap (λ (l : List ℕ). slot_bytes l slot) is ∙ written_slot slot old (spelling text) size (omega (arith, long, fits)) in
     record {
       size = same.size ∙ size;
+      selector = same_selected slot (length (spelling text)) old new same;
       other = same_other slot (length (spelling text)) old new (omega (arith, long, fits)) same;
       length_told = subst (λ (l : List ℕ). length_in l ≤ 65536) (sym there) (subst (λ (n : ℕ). n ≤ 65536) (sym (length_spelled text rest fits)) fits);
       gives = ap text_in there ∙ text_spelled text rest fits;
@@ -207,11 +209,14 @@ zeros_first =
 none_first : length_in (slot_bytes (replicate disk_bytes 0) First) ≡ 0
 none_first = ap (from_be_bytes w32) zeros_first
 
+pub zero_selects : selected (replicate disk_bytes 0) ≡ First
+zero_selects = ap slot_named (get_or-replicate disk_bytes 0 0 0 some_places)
+
 -- all zero
 pub zero_mounts : MountsTo [] (replicate disk_bytes 0)
 zero_mounts =
     mounts_by (replicate disk_bytes 0) First [] (slot_bytes (replicate disk_bytes 0) First) (length-replicate disk_bytes 0)
-    (ap slot_named (get_or-replicate disk_bytes 0 0 0 some_places)) refl (subst (λ (n : ℕ). n ≤ 65536) (sym none_first) (lit≤ tt))
+    zero_selects refl (subst (λ (n : ℕ). n ≤ 65536) (sym none_first) (lit≤ tt))
     (ap (λ (n : ℕ). take n (drop 4 (slot_bytes (replicate disk_bytes 0) First))) none_first)
 
 -- an image of either text can be mounted

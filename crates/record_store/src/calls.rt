@@ -1,8 +1,8 @@
 // The disk calls of a save and of a mounting.
-ghost use Rattle.std.specs.Prelude.{◌≡◌, ◌≤◌, ◌+◌, length, take, drop, IfOk, OnOk, is_ok};
+ghost use Rattle.std.specs.Prelude.{◌≡◌, ◌≤◌, ◌+◌, length, take, drop, IfOk, OnOk, OnErr, is_ok};
 ghost use Rattle.local_disk.specs.LocalDisk.{HasCause, Keeps, Only, TakesCalls};
 ghost use Rattle.record_store.specs.Images.{selected, text_of, spelling, other_slot, MountsTo};
-ghost use Rattle.record_store.specs.Store.{EachMountsToEither, Mountable, Stands};
+ghost use Rattle.record_store.specs.Store.{EachMountsToEither, LeavesBy, Mountable, Stands};
 
 use crate::Slot;
 use local_disk::{Failed, LocalDisk};
@@ -16,6 +16,8 @@ pub fn replace<D: LocalDisk>(disk: &mut D, slot: Slot, bytes: &[u8]) -> Result<(
     requires most { length bytes.now ≤ 65540 }
     ensures ok { OnOk result (Stands (D.reads disk.new) (D.leaves disk.new) (record { slot = slot; text = drop 4 bytes.now })) }
     ensures stops { EachMountsToEither (text_of (D.reads disk.old)) (drop 4 bytes.now) (D.leaves disk.new) }
+    ensures left { OnErr result (LeavesBy (D.calls_left disk.old) (D.choice disk.old) (record { slot = other_slot slot; text = text_of (D.reads disk.old) }) (record { slot = slot; text = drop 4 bytes.now }) (D.left disk.new)) }
+    ensures choice { D.choice disk.new ≡ D.choice disk.old }
     ensures cause { HasCause (D.faults disk.old) (D.faults disk.new) result }
     ensures calls { TakesCalls D.fails_of_itself 4 (D.calls_left disk.old) (D.calls_left disk.new) (is_ok result) }
 {
@@ -36,6 +38,7 @@ pub fn read<D: LocalDisk>(disk: &mut D, room: &mut [u8]) -> Result<(Slot, usize)
     ensures synced { OnOk result (Only (D.reads disk.new) (D.leaves disk.new)) }
     ensures reads { D.reads disk.new ≡ D.reads disk.old }
     ensures images { Keeps (D.leaves disk.old) (D.leaves disk.new) }
+    ensures choice { D.choice disk.new ≡ D.choice disk.old }
     ensures cause { HasCause (D.faults disk.old) (D.faults disk.new) result }
     ensures calls { TakesCalls D.fails_of_itself 4 (D.calls_left disk.old) (D.calls_left disk.new) (is_ok result) }
 {

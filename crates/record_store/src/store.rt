@@ -1,9 +1,9 @@
 // A store keeps the text that it holds, and saves another in its place.
-ghost use Rattle.std.specs.Prelude.{◌≡◌, ◌⊎◌, ◌↔◌, ◌≤◌, ◌<◌, ◌+◌, ◌++◌, length, IfOk, OnOk, IfErr, IsErrOf, is_ok, true, false, vec_capacity, vec_len};
+ghost use Rattle.std.specs.Prelude.{◌≡◌, ◌⊎◌, ◌↔◌, ◌≤◌, ◌<◌, ◌+◌, ◌++◌, length, IfOk, OnOk, IfErr, OnErr, IsErrOf, is_ok, true, false, vec_capacity, vec_len};
 ghost use Rattle.std.specs.Int.{to_be_bytes, w32};
 ghost use Rattle.local_disk.specs.LocalDisk.{Keeps, Rose, TakesCalls};
 ghost use Rattle.record_store.specs.Images.{selected, text_of, spelling};
-ghost use Rattle.record_store.specs.Store.{EachMountsTo, EachMountsToEither, Mountable, Stands};
+ghost use Rattle.record_store.specs.Store.{EachMountsTo, EachMountsToEither, LeavesBy, Mountable, Stands, replaced};
 ghost use Rattle.record_store.specs.declared.store.StoreError.TheVariants.{DiskFault, TooLong, NoMemory};
 
 use crate::Slot;
@@ -69,6 +69,13 @@ impl Model for Store {
 }
 
 impl Store {
+    /// The slot that has the text.
+    pub fn slot(&self) -> Slot
+        ensures { result ≡ self.now.slot }
+    {
+        self.slot
+    }
+
     /// Mounts a disk that is empty or that stores alone have written, also after stops and crashes, by four calls:
     /// sync, the selector, the length, the text. All memory is taken before the first.
     pub fn mount<D: LocalDisk>(alloc: Global, disk: &mut D) -> Result<(Store, Vec<u8>), StoreError>
@@ -84,6 +91,7 @@ impl Store {
         ensures no_memory { IsErrOf result NoMemory → disk.new ≡ disk.old }
         ensures fault { IsErrOf result DiskFault → Rose (D.faults disk.old) (D.faults disk.new) }
         ensures later { D.faults disk.old ≤ D.faults disk.new }
+        ensures choice { D.choice disk.new ≡ D.choice disk.old }
         ensures calls { OnOk result (TakesCalls D.fails_of_itself 4 (D.calls_left disk.old) (D.calls_left disk.new) true) }
         ensures calls_fault { IsErrOf result DiskFault → TakesCalls D.fails_of_itself 4 (D.calls_left disk.old) (D.calls_left disk.new) false }
     {
@@ -101,16 +109,19 @@ impl Store {
     pub fn save<D: LocalDisk>(&mut self, disk: &mut D, text: &[u8]) -> Result<(), StoreError>
         requires { Stands (D.reads disk.old) (D.leaves disk.old) self.old }
         ensures stands { OnOk result (Stands (D.reads disk.new) (D.leaves disk.new) self.new) }
-        ensures text { OnOk result (self.new.text ≡ text.now) }
+        ensures held { OnOk result (self.new ≡ replaced self.old text.now) }
         ensures each { OnOk result (EachMountsTo text.now (D.leaves disk.new)) }
         // a stop at any moment of the call is an exit from it, after which the disk can be mounted
         ensures stops { EachMountsToEither self.old.text text.now (D.leaves disk.new) }
+        // and of a disk that tells its stop, what is left is known
+        ensures left { length text.now ≤ 65536 → OnErr result (LeavesBy (D.calls_left disk.old) (D.choice disk.old) self.old (replaced self.old text.now) (D.left disk.new)) }
         ensures mountable { Mountable (D.leaves disk.new) }
         ensures errors { IfErr result (λ e. (e ≡ DiskFault) ⊎ (e ≡ TooLong (length text.now))) }
         ensures too_long { IsErrOf result (TooLong (length text.now)) ↔ (65536 < length text.now) }
         ensures nothing { 65536 < length text.now → (self.new ≡ self.old) × (disk.new ≡ disk.old) }
         ensures fault { IsErrOf result DiskFault → Rose (D.faults disk.old) (D.faults disk.new) }
         ensures later { D.faults disk.old ≤ D.faults disk.new }
+        ensures choice { D.choice disk.new ≡ D.choice disk.old }
         ensures calls { length text.now ≤ 65536 → TakesCalls D.fails_of_itself 4 (D.calls_left disk.old) (D.calls_left disk.new) (is_ok result) }
     {
         if text.len() > MOST_BYTES {

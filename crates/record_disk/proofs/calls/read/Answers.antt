@@ -1,11 +1,10 @@
 use Rattle.std.proofs.Common.{◌≡◌, Bool, inr, sym, ◌∙◌, ap, subst}
 use Rattle.std.specs.Prelude.{Err, if◌then◌else◌}
-use Rattle.local_disk.specs.Memory.{calls_of}
 use Rattle.record_store.specs.Images.{IsMountable}
 use Rattle.record_store.specs.declared.store.StoreError.TheVariants.{DiskFault}
 use Rattle.record_disk.specs.declared.error.DiskError.TheVariants.{Lost}
 use Rattle.record_disk.specs.declared.error.Loss.TheVariants.{Stopped, Fault}
-use Rattle.record_disk.proofs.Stops.{Bad, bad}
+use Rattle.record_disk.proofs.Stops.{Bad, bad, good}
 use Rattle.record_disk.proofs.calls.read.Goals as goal
 
 pub returns-in-Err-DiskFault-clause-settled : goal.returns-in-Err-DiskFault-clause-settled
@@ -16,11 +15,17 @@ returns-in-Err-DiskFault-clause-settled c =
 pub returns-in-Err-DiskFault-clause-when : goal.returns-in-Err-DiskFault-clause-when
 returns-in-Err-DiskFault-clause-when c =
     let fault : c.mount.result ≡ Err DiskFault = cc (c.in-Err-DiskFault.is, c.in-Err-DiskFault.field-0-is) in
-    let b : Bad (calls_of c.args.disk.now.stop) c.mount.new.disk.stop = bad (calls_of c.args.disk.now.stop) c.mount.new.disk.stop (c.mount.ensures.calls_fault fault) in
+    let b : Bad c.args.disk.now.stop c.mount.new.disk.stop = bad c.args.disk.now.stop c.mount.new.disk.stop (c.mount.ensures.calls_fault fault) in
     inr (ap Lost (c.crash.ensures.loss ∙ ap (λ (b : Bool). if b then Stopped else Fault) b.stopped), b.comes)
 
 pub returns-in-Err-DiskFault-clause-stopped : goal.returns-in-Err-DiskFault-clause-stopped
 returns-in-Err-DiskFault-clause-stopped c = λ told.
     let fault : c.mount.result ≡ Err DiskFault = cc (c.in-Err-DiskFault.is, c.in-Err-DiskFault.field-0-is) in
-    let b : Bad (calls_of c.args.disk.now.stop) c.mount.new.disk.stop = bad (calls_of c.args.disk.now.stop) c.mount.new.disk.stop (c.mount.ensures.calls_fault fault) in
-    ap calls_of c.crash.ensures.stop ∙ b.left
+    let b : Bad c.args.disk.now.stop c.mount.new.disk.stop = bad c.args.disk.now.stop c.mount.new.disk.stop (c.mount.ensures.calls_fault fault) in
+    c.crash.ensures.stop ∙ b.left
+
+pub returns-in-Ok-clause-when : goal.returns-in-Ok-clause-when
+returns-in-Ok-clause-when c = (good c.args.disk.now.stop c.mount.new.disk.stop c.in-Ok.ensures.calls c.mount.ensures.choice).none
+
+pub returns-in-Ok-clause-stop : goal.returns-in-Ok-clause-stop
+returns-in-Ok-clause-stop c = (good c.args.disk.now.stop c.mount.new.disk.stop c.in-Ok.ensures.calls c.mount.ensures.choice).left

@@ -1,5 +1,5 @@
-use Rattle.record_store.proofs.Slots.{zero_mounts}
+use Rattle.record_store.proofs.Slots.{zero_mounts, zero_selects}
 use Rattle.record_store.proofs.laws.empty_disk_mounts.Goals as goal
 
 pub returns : goal.returns
-returns c = zero_mounts
+returns c = record { mounts = zero_mounts; slot = zero_selects }

@@ -1,6 +1,6 @@
 use Rattle.std.proofs.Common.{sym, ◌∙◌, ap, subst}
 use Rattle.local_disk.specs.Memory.{State}
-use Rattle.record_store.specs.Images.{text_of}
+use Rattle.record_store.specs.Images.{selected}
 use Rattle.record_disk.specs.Disks.{DiskState, armed}
 use Rattle.record_disk.specs.Inside.{IsTied, seen, standing}
 use Rattle.record_disk.proofs.Tied.{tied_armed}
@@ -16,6 +16,6 @@ returns c =
     let d = c.self.inside in
     record {
       after =
-          ap (λ (disk : State). seen disk d.store (standing (text_of disk.reads) d.last d.tried)) c.stop_after.ensures
-          ∙ ap (λ (now : DiskState). armed now c.args.calls) c.self.view_is;
+          ap (λ (disk : State). seen disk d.store (standing (selected disk.reads) d.last d.tried)) c.stop_after.ensures
+          ∙ ap (λ (now : DiskState). armed now c.args.calls c.args.choice) c.self.view_is;
     }

@@ -1,0 +1,29 @@
+// What the record says before a command.
+ghost use Rattle.node_model.specs.Devices.{before_command};
+ghost use Rattle.node_model.specs.Plans.{Follows};
+
+use cl_base::NodeId;
+use node_model::{Output, Stop, UpNode, keep};
+use record_disk::RecordDisk;
+use std::alloc::Global;
+
+/// The command that is due is about to be done. Where it is the first of a plain seizing, the record
+/// says from now on that the node's key on the device is not validated.
+pub fn before_command<K: RecordDisk>(
+    alloc: Global,
+    me: NodeId,
+    disk: &mut K,
+    mut up: UpNode,
+    out: &mut Vec<Output>,
+) -> Result<UpNode, Stop>
+    ensures { Follows K.saving (before_command me up) out.old.items disk.old result out.new.items disk.new }
+{
+    let Some(d) = up.tasks.begins_plainly() else {
+        return Ok(up);
+    };
+    if up.seat.valid().has(d) {
+        up.seat.invalidate(d);
+        keep(alloc, me, disk, &up.seat, out)?;
+    }
+    Ok(up)
+}
