@@ -52,7 +52,7 @@ stopped A stop.NoMemory s rest read now old new h = tt
 
 -- a line that is too long, or one too many
 too_large_stops : (A : Type 0) (task : Task) (ended : Bool) (more : List ℕ) (result : Result A Stop) (read : ℕ) (old : List ℕ) (new : reader.Reader)
-    → result ≡ Err stop.TooLarge → (string_bytes new.text) ≡ old → new.lines ≡ read + 1 → Tells task ended more result (after old (silent (TooLarge (read + 1)))) new
+    → result ≡ Err stop.TooLarge → new.text.items ≡ old → new.lines ≡ read + 1 → Tells task ended more result (after old (silent (TooLarge (read + 1)))) new
 too_large_stops A task ended more result read old new is text lines =
     subst (λ (r : Result A Stop). Tells task ended more r (after old (silent (TooLarge (read + 1)))) new) (sym is) (rw (text, lines) (after_silent old (TooLarge (read + 1))))
 
@@ -61,18 +61,18 @@ abbrev IsHeldEmpty : {A : Type 0} → Result A Stop → reader.Reader → Type 0
 IsHeldEmpty result new = OnOk result (new.held.items ≡ [])
 
 small_tells : (A : Type 0) (task : Task) (ended : Bool) (more : List ℕ) (old : reader.Reader) (s : Step) (result : Result A Stop) (new : reader.Reader)
-    → Answers result s new.state (string_bytes old.text) (string_bytes new.text) → new.lines ≡ old.lines + 1 → IsHeldEmpty result new
-    → Tells task ended more result (after (string_bytes old.text) (onward s old.lines (λ next. outcome task ended (pieces more) next (old.lines + 1)))) new
+    → Answers result s new.state old.text.items new.text.items → new.lines ≡ old.lines + 1 → IsHeldEmpty result new
+    → Tells task ended more result (after old.text.items (onward s old.lines (λ next. outcome task ended (pieces more) next (old.lines + 1)))) new
 small_tells A task ended more old s (Ok done) new h lines held =
-    rw (lines, held) (answered A done s (λ next. outcome task ended (pieces more) next (old.lines + 1)) old.lines new.state (string_bytes old.text) (string_bytes new.text) h)
+    rw (lines, held) (answered A done s (λ next. outcome task ended (pieces more) next (old.lines + 1)) old.lines new.state old.text.items new.text.items h)
 small_tells A task ended more old s (Err why) new h lines held =
-    rw lines (stopped A why s (λ next. outcome task ended (pieces more) next (old.lines + 1)) old.lines new.state (string_bytes old.text) (string_bytes new.text) h)
+    rw lines (stopped A why s (λ next. outcome task ended (pieces more) next (old.lines + 1)) old.lines new.state old.text.items new.text.items h)
 
 line_tells : (A : Type 0) (task : Task) (ended : Bool) (more : List ℕ) (old : reader.Reader) (line : List ℕ) (result : Result A Stop) (new : reader.Reader) (large : Bool)
     → is_too_large old.lines line ≡ large → TakesLine task old line result new
-    → Tells task ended more result (after (string_bytes old.text) (if is_too_large old.lines line then silent (TooLarge (old.lines + 1)) else onward (step task old.state line) old.lines (λ next. outcome task ended (pieces more) next (old.lines + 1)))) new
+    → Tells task ended more result (after old.text.items (if is_too_large old.lines line then silent (TooLarge (old.lines + 1)) else onward (step task old.state line) old.lines (λ next. outcome task ended (pieces more) next (old.lines + 1)))) new
 line_tells A task ended more old line result new true is takes =
-    rw is (too_large_stops A task ended more result old.lines (string_bytes old.text) new (takes.large is).0 (takes.large is).1 takes.lines)
+    rw is (too_large_stops A task ended more result old.lines old.text.items new (takes.large is).0 (takes.large is).1 takes.lines)
 line_tells A task ended more old line result new false is takes =
     rw is (small_tells A task ended more old (step task old.state line) result new (takes.small is) takes.lines takes.held)
 
@@ -93,7 +93,7 @@ bytes_then A B done task old mid new xs ys result h k = λ ended more.
 -- a stop stands whatever comes
 pub stop_more : (A : Type 0) (task : Task) (old new : reader.Reader) (bytes rest : List ℕ) (why : Stop) → TakesBytes {A = A} task old bytes (Err why) new → TakesBytes {A = A} task old (bytes ++ rest) (Err why) new
 stop_more A task old new bytes rest why h = λ ended more.
-    subst (λ (xs : List ℕ). Stops why (with_more task ended old xs) new.lines (string_bytes new.text)) (sym (append_assoc bytes rest more)) (h ended (rest ++ more))
+    subst (λ (xs : List ℕ). Stops why (with_more task ended old xs) new.lines new.text.items) (sym (append_assoc bytes rest more)) (h ended (rest ++ more))
 
 -- a line that is too long already, or one too many
 

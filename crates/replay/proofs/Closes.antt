@@ -140,15 +140,15 @@ closed_run task left left' left'' held held' held'' reads reads' writes writes' 
 -- in a piece
 pub closed_in : (A : Type 0) (task : Task) (left left' left'' held held' held'' : Option (List ℕ)) (reads reads' writes writes' writes'' : ℕ) (now last : reader.Reader) (piece : List ℕ) (why : Stop) (result : Status)
     → ReadsOn task left left' held held' now → IsReader now → Consumes left' left'' piece → length piece ≤ 4096
-    → TakesBytes {A = A} task now piece (Err why) last → reads' ≡ reads → writes' ≡ writes → Closed task why last.lines (string_bytes last.text) result held' held'' writes' writes''
+    → TakesBytes {A = A} task now piece (Err why) last → reads' ≡ reads → writes' ≡ writes → Closed task why last.lines last.text.items result held' held'' writes' writes''
     → IsRun task left left'' held held'' reads reads' writes writes'' result
 closed_in A task left left' left'' held held' held'' reads reads' writes writes' writes'' now last piece why result on whole consumed few taken same kept closed =
-    closed_run task left left' left'' held held' held'' reads reads' writes writes' writes'' now piece false why last.lines (string_bytes last.text) result on whole consumed few (λ e. absurd (cc))
-    (subst (λ (xs : List ℕ). Stops why (with_more task false now xs) last.lines (string_bytes last.text)) (append-nil piece) (taken false [])) same kept closed
+    closed_run task left left' left'' held held' held'' reads reads' writes writes' writes'' now piece false why last.lines last.text.items result on whole consumed few (λ e. absurd (cc))
+    (subst (λ (xs : List ℕ). Stops why (with_more task false now xs) last.lines last.text.items) (append-nil piece) (taken false [])) same kept closed
 
 -- the source failed
 pub read_failed : (task : Task) (left left' left'' held held' : Option (List ℕ)) (reads reads' writes writes' : ℕ) (now : reader.Reader)
-    → ReadsOn task left left' held held' now → IsReader now → (string_bytes now.text) ≡ [] → Keeps left' left'' → Rose reads reads' → writes' ≡ writes
+    → ReadsOn task left left' held held' now → IsReader now → now.text.items ≡ [] → Keeps left' left'' → Rose reads reads' → writes' ≡ writes
     → IsRun task left left'' held held' reads reads' writes writes' status.ReadFault
 read_failed task left left' left'' held held' reads reads' writes writes' now on whole none keeps rose same =
     let all : outcome_of task false (on.taken ++ []) ≡ record { text = on.written; ending = Open } =
@@ -169,7 +169,7 @@ read_failed task left left' left'' held held' reads reads' writes writes' now on
 -- the sink failed at what a piece was answered
 pub write_failed : (A : Type 0) (done : A) (task : Task) (left left' left'' held held' held'' : Option (List ℕ)) (reads reads' writes writes' : ℕ) (now new : reader.Reader) (piece : List ℕ)
     → ReadsOn task left left' held held' now → IsReader now → Consumes left' left'' piece → length piece ≤ 4096
-    → TakesBytes {A = A} task now piece (Ok done) new → reads' ≡ reads → AppendsFront held' held'' (string_bytes new.text) → Rose writes writes'
+    → TakesBytes {A = A} task now piece (Ok done) new → reads' ≡ reads → AppendsFront held' held'' new.text.items → Rose writes writes'
     → IsRun task left left'' held held'' reads reads' writes writes' status.WriteFault
 write_failed A done task left left' left'' held held' held'' reads reads' writes writes' now new piece on whole consumed few taken same front rose =
     let all : outcome_of task false (on.taken ++ piece) ≡ after on.written (with_more task false new []) =
@@ -181,32 +181,32 @@ write_failed A done task left left' left'' held held' held'' reads reads' writes
       ended = false;
       at_end = λ e. absurd (cc);
       says = tt;
-      written = on.written ++ take front.count (string_bytes new.text);
-      appended = appends_then held held' held'' on.written (take front.count (string_bytes new.text)) on.appended front.appended;
-      writes_text = subst (λ (x : Outcome). StartsWith (whole_text task x) (on.written ++ take front.count (string_bytes new.text))) (sym all)
-          (starts_with_more _ _ _ (starts_with_behind on.written _ (take front.count (string_bytes new.text))
-          (starts_with_more (string_bytes new.text) _ (take front.count (string_bytes new.text)) (starts_with_front (string_bytes new.text) front.count))));
+      written = on.written ++ take front.count new.text.items;
+      appended = appends_then held held' held'' on.written (take front.count new.text.items) on.appended front.appended;
+      writes_text = subst (λ (x : Outcome). StartsWith (whole_text task x) (on.written ++ take front.count new.text.items)) (sym all)
+          (starts_with_more _ _ _ (starts_with_behind on.written _ (take front.count new.text.items)
+          (starts_with_more new.text.items _ (take front.count new.text.items) (starts_with_front new.text.items front.count))));
       caused = (same, rose);
     }
 
 -- a piece was taken, and what it was answered is written
 pub read_more : (A : Type 0) (done : A) (task : Task) (left left' left'' held held' held'' : Option (List ℕ)) (now new next : reader.Reader) (piece : List ℕ)
-    → ReadsOn task left left' held held' now → Consumes left' left'' piece → TakesBytes {A = A} task now piece (Ok done) new → Appends held' held'' (string_bytes new.text)
-    → ((ended : Bool) (more : List ℕ) → with_more task ended new more ≡ after (string_bytes new.text) (with_more task ended next more)) → ReadsOn task left left'' held held'' next
+    → ReadsOn task left left' held held' now → Consumes left' left'' piece → TakesBytes {A = A} task now piece (Ok done) new → Appends held' held'' new.text.items
+    → ((ended : Bool) (more : List ℕ) → with_more task ended new more ≡ after new.text.items (with_more task ended next more)) → ReadsOn task left left'' held held'' next
 read_more A done task left left' left'' held held' held'' now new next piece on consumed taken wrote flushed = record {
   taken = on.taken ++ piece;
   consumed = consumes_then left left' left'' on.taken piece on.consumed consumed;
-  written = on.written ++ (string_bytes new.text);
-  appended = appends_then held held' held'' on.written (string_bytes new.text) on.appended wrote;
+  written = on.written ++ new.text.items;
+  appended = appends_then held held' held'' on.written new.text.items on.appended wrote;
   goes_on = λ ended more.
       ap (λ (xs : List ℕ). outcome_of task ended xs) (append_assoc on.taken piece more)
       ∙ (on.goes_on ended (piece ++ more)
       ∙ (ap (λ (o : Outcome). after on.written o) (taken ended more ∙ flushed ended more)
-      ∙ after_after on.written (string_bytes new.text) (with_more task ended next more)));
+      ∙ after_after on.written new.text.items (with_more task ended next more)));
 }
 
 -- nothing was read
-pub reads_nothing : (task : Task) (left held : Option (List ℕ)) (now : reader.Reader) → now.state ≡ start → now.lines ≡ 0 → now.held.items ≡ [] → (string_bytes now.text) ≡ [] → ReadsOn task left left held held now
+pub reads_nothing : (task : Task) (left held : Option (List ℕ)) (now : reader.Reader) → now.state ≡ start → now.lines ≡ 0 → now.held.items ≡ [] → now.text.items ≡ [] → ReadsOn task left left held held now
 reads_nothing task left held now state lines none text = record {
   taken = [];
   consumed = same_consumes left;
@@ -230,8 +230,8 @@ no_memory task left held reads writes = record {
 }
 
 -- what was written is let go
-pub flushed : (task : Task) (new next : reader.Reader) → next.state ≡ new.state → next.lines ≡ new.lines → next.held.items ≡ new.held.items → string_bytes next.text ≡ []
-    → (ended : Bool) (more : List ℕ) → with_more task ended new more ≡ after (string_bytes new.text) (with_more task ended next more)
+pub flushed : (task : Task) (new next : reader.Reader) → next.state ≡ new.state → next.lines ≡ new.lines → next.held.items ≡ new.held.items → next.text.items ≡ []
+    → (ended : Bool) (more : List ℕ) → with_more task ended new more ≡ after new.text.items (with_more task ended next more)
 flushed task new next state lines held none ended more = rw (state, lines, held, none) refl
 
 pub short_take : (count most : ℕ) (xs : List ℕ) → length xs ≡ most → length (take count xs) ≤ most

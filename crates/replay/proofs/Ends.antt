@@ -4,6 +4,7 @@ use Rattle.std.specs.String.{string_bytes}
 use Rattle.std.proofs.lemmas.List.Splits.{slice_split_none}
 use Rattle.schedule_text.specs.declared.kind.Kind.{Kind}
 use Rattle.replay.specs.declared.stop.Stop.{Stop}
+use Rattle.replay.specs.declared.stop.Stop.TheVariants as stop
 use Rattle.replay.specs.declared.reader.Reader as reader
 use Rattle.replay.specs.declared.session.Body.{Body}
 use Rattle.replay.specs.declared.task.Task.{Task}
@@ -21,27 +22,27 @@ waits : (task : Task) (now : reader.Reader) → IsReader now → (none : Bool) �
 waits task now whole true is = rw is refl
 waits task now whole false is = rw (is, not_large now.lines now.held.items (whole.3 (some_bytes now.held.items is)) whole.1) refl
 
-pub is_open : (task : Task) (now : reader.Reader) → IsReader now → with_more task false now [] ≡ record { text = (string_bytes now.text); ending = Open }
+pub is_open : (task : Task) (now : reader.Reader) → IsReader now → with_more task false now [] ≡ record { text = now.text.items; ending = Open }
 is_open task now whole =
     let is : outcome task false (pieces (now.held.items ++ [])) now.state now.lines ≡ silent Open =
     ap (λ (parts : List (List ℕ)). outcome task false parts now.state now.lines) (one_piece now whole) ∙ waits task now whole (length now.held.items == 0) refl in
-    ap (λ (o : Outcome). after (string_bytes now.text) o) is ∙ after_silent (string_bytes now.text) Open
+    ap (λ (o : Outcome). after now.text.items o) is ∙ after_silent now.text.items Open
 
 -- the end of the input behind a whole line
 pub last_empty : (A : Type 0) (done : A) (task : Task) (now : reader.Reader) → IsReader now → (length now.held.items == 0) ≡ true → TakesLast {A = A} task now (Ok done) now
 last_empty A done task now whole none =
     let is : outcome task true (pieces (now.held.items ++ [])) now.state now.lines ≡ end_of (at_end task now.state) now.lines =
     ap (λ (parts : List (List ℕ)). outcome task true parts now.state now.lines) (one_piece now whole) ∙ rw none refl in
-    (ap (λ (o : Outcome). after (string_bytes now.text) o) is, whole.0)
+    (ap (λ (o : Outcome). after now.text.items o) is, whole.0)
 
 -- the last line, which no newline ends
 last_line_is : (task : Task) (old : reader.Reader) → IsReader old → (length old.held.items == 0) ≡ false
-    → with_more task true old [] ≡ after (string_bytes old.text) (onward (step task old.state old.held.items) old.lines (λ next. end_of (at_end task next) (old.lines + 1)))
+    → with_more task true old [] ≡ after old.text.items (onward (step task old.state old.held.items) old.lines (λ next. end_of (at_end task next) (old.lines + 1)))
 last_line_is task old whole some =
     let is : outcome task true (pieces (old.held.items ++ [])) old.state old.lines ≡ onward (step task old.state old.held.items) old.lines (λ next. end_of (at_end task next) (old.lines + 1)) =
     ap (λ (parts : List (List ℕ)). outcome task true parts old.state old.lines) (one_piece old whole)
     ∙ rw (some, not_large old.lines old.held.items (whole.3 (some_bytes old.held.items some)) whole.1) refl in
-    ap (λ (o : Outcome). after (string_bytes old.text) o) is
+    ap (λ (o : Outcome). after old.text.items o) is
 
 pub last_taken : (A : Type 0) (task : Task) (old new : reader.Reader) (result : Result A Stop) → IsReader old → (length old.held.items == 0) ≡ false
     → TakesLine task old (old.held.items ++ []) result new → OnOk result (IsReader new) → TakesLast task old result new
@@ -55,20 +56,23 @@ last_taken A task old new result whole some takes few = taken A task old new res
         → TakesLine task old old.held.items result new → OnOk result (IsReader new) → TakesLast task old result new
     taken A task old new (Ok done) whole some takes few = (
       last_line_is task old whole some
-          ∙ (answered A done (step task old.state old.held.items) (λ next. end_of (at_end task next) (old.lines + 1)) old.lines new.state (string_bytes old.text) (string_bytes new.text) (takes.small (small old whole some))
-          ∙ ap (λ n. after (string_bytes new.text) (end_of (at_end task new.state) n)) (sym takes.lines)),
+          ∙ (answered A done (step task old.state old.held.items) (λ next. end_of (at_end task next) (old.lines + 1)) old.lines new.state old.text.items new.text.items (takes.small (small old whole some))
+          ∙ ap (λ n. after new.text.items (end_of (at_end task new.state) n)) (sym takes.lines)),
       few.0,
     )
     taken A task old new (Err why) whole some takes few =
-        subst (λ n. Stops why (with_more task true old []) n (string_bytes new.text)) (sym takes.lines)
-        (subst (λ (o : Outcome). Stops why o (old.lines + 1) (string_bytes new.text)) (sym (last_line_is task old whole some))
-        (stopped A why (step task old.state old.held.items) (λ next. end_of (at_end task next) (old.lines + 1)) old.lines new.state (string_bytes old.text) (string_bytes new.text) (takes.small (small old whole some))))
+        subst (λ n. Stops why (with_more task true old []) n new.text.items) (sym takes.lines)
+        (subst (λ (o : Outcome). Stops why o (old.lines + 1) new.text.items) (sym (last_line_is task old whole some))
+        (stopped A why (step task old.state old.held.items) (λ next. end_of (at_end task next) (old.lines + 1)) old.lines new.state old.text.items new.text.items (takes.small (small old whole some))))
 
 pub ends : (A : Type 0) (done : A) (is : Result Body Kind) (o : Outcome) (text : List ℕ) (lines : ℕ) → EndsWith {A = A} (Ok done) is → o ≡ after text (end_of is lines) → o ≡ record { text = text; ending = Ended lines }
 ends A done (Ok body) o text lines h is = is ∙ after_silent text (Ended lines)
 ends A done (Err kind) o text lines h is = absurd h
 
-pub ends_missing : (A : Type 0) (kind : Kind) (is : Result Body Kind) (o : Outcome) (text : List ℕ) (lines : ℕ) → EndsWith {A = A} (Err kind) is → o ≡ after text (end_of is lines)
-    → o ≡ record { text = text; ending = Refused (lines + 1) kind }
-ends_missing A kind is o text lines h e =
+pub ends_missing : (A : Type 0) (why : Stop) (is : Result Body Kind) (o : Outcome) (text : List ℕ) (lines : ℕ) → EndsWith {A = A} (Err why) is → o ≡ after text (end_of is lines)
+    → Stops why o (lines + 1) text
+ends_missing A (stop.Refused kind) is o text lines h e =
     subst (λ (r : Result Body Kind). o ≡ after text (end_of r lines)) h e ∙ after_silent text (Refused (lines + 1) kind)
+ends_missing A stop.NoMemory is o text lines h e = tt
+ends_missing A stop.Ended is o text lines h e = absurd h
+ends_missing A stop.TooLarge is o text lines h e = absurd h

@@ -7,6 +7,17 @@ use Rattle.pgr_device.specs.Runs.{run_answers}
 use Rattle.pgr_device.specs.Spc as spc
 use Rattle.pgr_device.specs.declared.run.Step.{Step}
 use Rattle.pgr_device.specs.declared.run.Step.TheVariants.{Command, PowerLoss}
+use Rattle.cl_base.specs.declared.header.Header.{Header}
+use Rattle.cl_base.specs.declared.header.Version.{Version}
+use Rattle.cl_base.specs.declared.header.Version.TheVariants.{One, Two}
+use Rattle.schedule_text.specs.declared.event.Event.{Event}
+use Rattle.schedule_text.specs.declared.kind.Kind.TheVariants as kind
+use Rattle.schedule_text.specs.declared.line.ClusterLine.{ClusterLine}
+use Rattle.schedule_text.specs.declared.line.ClusterLine.TheVariants as cluster
+use Rattle.schedule_text.specs.declared.line.SoFar.{SoFar}
+use Rattle.world.specs.First.{first_world}
+use Rattle.world.specs.Lines.{line_on}
+use Rattle.world.specs.Worlds.{WorldState, play}
 use Rattle.schedule_text.specs.declared.header.Head.{Head}
 use Rattle.schedule_text.specs.declared.header.Head.TheVariants.{Pr, Cluster}
 use Rattle.schedule_text.specs.declared.header.HeaderState.{HeaderState}
@@ -15,16 +26,16 @@ use Rattle.schedule_text.specs.declared.kind.Kind.{Kind}
 use Rattle.schedule_text.specs.declared.line.PrLine.{PrLine}
 use Rattle.schedule_text.specs.declared.line.PrLine.TheVariants as line
 use Rattle.schedule_text.specs.Headers.{HeaderStep, More, Over, Bad, header_step, head_of}
-use Rattle.schedule_text.specs.Lines.{pr_line_of}
+use Rattle.schedule_text.specs.Lines.{cluster_line_of, pr_line_of, so_far_after_event}
 use Rattle.status_report.specs.declared.entry.Entry.TheVariants.{Answered, Powered}
 use Rattle.status_report.specs.Lines.{printed}
-use Rattle.replay.specs.declared.session.Body.TheVariants.{Replaying}
+use Rattle.replay.specs.declared.session.Body.TheVariants.{Clustering, Replaying}
 use Rattle.replay.specs.declared.session.State.{State}
 use Rattle.replay.specs.declared.session.State.TheVariants.{Heading, Reading}
 use Rattle.replay.specs.declared.task.Task.TheVariants.{Run}
-use Rattle.replay.specs.Sessions.{replayed, entered, body_of, is_not_built, heading, step, Goes, Refuses}
+use Rattle.replay.specs.Sessions.{cluster_of, clustered, clustered_by, first_so_far, is_later, moved, replayed, entered, body_of, is_not_built, heading, step, Goes, Refuses}
 use Rattle.replay.specs.Outcomes.{Open, TooLarge, Outcome, outcome, silent, onward, is_too_large, at_end, end_of}
-use Rattle.replay.specs.Replays.{Schedule, Completes, TellsSchedule, entries, answers_among, steps_of, with_line, schedule_of, stepped, behind}
+use Rattle.replay.specs.Replays.{Schedule, Completes, TellsSchedule, events_of, texts_of, with_event, entries, answers_among, steps_of, with_line, schedule_of, stepped, behind}
 
 pub answers_are : (d : Device) (steps : List Step) → answers_among (entries d steps) ≡ run_answers d steps
 answers_are d [] = refl
@@ -93,19 +104,67 @@ body_completes ended (bytes ∷ next ∷ lines) d read h =
     (line_completes d (pr_line_of bytes) read (λ now. outcome Run ended (next ∷ lines) now (read + 1)) (steps_of (next ∷ lines))
     (λ after k. body_completes ended (next ∷ lines) after (read + 1) k))) h
 
+-- a line of a cluster schedule that is replayed, and what follows
+event_completes : (later : Bool) (h : Header) (s : SoFar) (w : WorldState) (e : Event) (read : ℕ) (rest : State → Outcome) (events : SoFar → List Event)
+    → ((next : SoFar) (now : WorldState) → Completes (rest (Reading (Clustering h next now))).ending → (rest (Reading (Clustering h next now))).text ≡ texts_of now (events next))
+    → Completes (onward (if later then Refuses kind.NotBuilt else moved h s e (line_on e (play w []))) read rest).ending
+    → (onward (if later then Refuses kind.NotBuilt else moved h s e (line_on e (play w []))) read rest).text ≡ texts_of w (e ∷ events (so_far_after_event s e))
+event_completes true h s w e read rest events follows done = absurd done
+event_completes false h s w e read rest events follows done =
+    ap (λ (t : List ℕ). (line_on e (play w [])).text ++ t) (follows (so_far_after_event s e) (line_on e (play w [])).world done)
+
+cluster_completes : (h : Header) (s : SoFar) (w : WorldState) (bytes : List ℕ) (r : Result ClusterLine Kind) (read : ℕ) (rest : State → Outcome) (events : SoFar → List Event)
+    → ((next : SoFar) (now : WorldState) → Completes (rest (Reading (Clustering h next now))).ending → (rest (Reading (Clustering h next now))).text ≡ texts_of now (events next))
+    → Completes (onward (clustered_by h s w bytes r) read rest).ending → (onward (clustered_by h s w bytes r) read rest).text ≡ texts_of w (with_event r s events)
+cluster_completes h s w bytes (Err kind) read rest events follows done = absurd done
+cluster_completes h s w bytes (Ok cluster.End) read rest events follows done = refl
+cluster_completes h s w bytes (Ok cluster.Blank) read rest events follows done = follows s w done
+cluster_completes h s w bytes (Ok (cluster.Event e)) read rest events follows done = event_completes (is_later e) h s w e read rest events follows done
+
+world_completes : (ended : Bool) (lines : List (List ℕ)) (h : Header) (s : SoFar) (w : WorldState) (read : ℕ) → Completes (outcome Run ended lines (Reading (Clustering h s w)) read).ending
+    → (outcome Run ended lines (Reading (Clustering h s w)) read).text ≡ texts_of w (events_of h s lines)
+world_completes ended [] h s w read done = absurd done
+world_completes true ([] ∷ []) h s w read done = refl
+world_completes false ([] ∷ []) h s w read done = absurd done
+world_completes ended ((b ∷ bytes) ∷ []) h s w read done =
+    at_outcome (outcome Run ended ((b ∷ bytes) ∷ []) (Reading (Clustering h s w)) read) _ (λ (t : List ℕ). t ≡ texts_of w (events_of h s ((b ∷ bytes) ∷ [])))
+    (last_outcome ended b bytes (Reading (Clustering h s w)) read)
+    (ended_chosen (is_too_large read (b ∷ bytes)) ended (read + 1) (onward (clustered h s w (b ∷ bytes)) read (λ now. end_of (at_end Run now) (read + 1)))
+    (λ (t : List ℕ). t ≡ texts_of w (events_of h s ((b ∷ bytes) ∷ [])))
+    (cluster_completes h s w (b ∷ bytes) (cluster_line_of h s (b ∷ bytes)) read (λ now. end_of (at_end Run now) (read + 1)) (λ next. []) (λ next now k. refl))) done
+world_completes ended (bytes ∷ next ∷ lines) h s w read done =
+    at_outcome (outcome Run ended (bytes ∷ next ∷ lines) (Reading (Clustering h s w)) read) _ (λ (t : List ℕ). t ≡ texts_of w (events_of h s (bytes ∷ next ∷ lines)))
+    (line_outcome ended bytes next lines (Reading (Clustering h s w)) read)
+    (chosen (is_too_large read bytes) (read + 1) (onward (clustered h s w bytes) read (λ now. outcome Run ended (next ∷ lines) now (read + 1)))
+    (λ (t : List ℕ). t ≡ texts_of w (events_of h s (bytes ∷ next ∷ lines)))
+    (cluster_completes h s w bytes (cluster_line_of h s bytes) read (λ now. outcome Run ended (next ∷ lines) now (read + 1)) (λ after. events_of h after (next ∷ lines))
+    (λ after now k. world_completes ended (next ∷ lines) h after now (read + 1) k))) done
+
+cluster_ends : (v : Version) (h : Header) (read : ℕ) → Completes (end_of (cluster_of v h) read).ending → (end_of (cluster_of v h) read).text ≡ []
+cluster_ends One h read done = refl
+cluster_ends Two h read done = absurd done
+
+cluster_enters : (v : Version) (h : Header) (bytes : List ℕ) (lines : List (List ℕ)) (read : ℕ) (rest : State → Outcome)
+    → ((next : SoFar) (now : WorldState) → Completes (rest (Reading (Clustering h next now))).ending → (rest (Reading (Clustering h next now))).text ≡ texts_of now (events_of h next lines))
+    → Completes (onward (entered (cluster_of v h) bytes) read rest).ending
+    → (onward (entered (cluster_of v h) bytes) read rest).text ≡ texts_of (first_world h 65536) (events_of h first_so_far (bytes ∷ lines))
+cluster_enters One h bytes lines read rest follows done = cluster_completes h first_so_far (first_world h 65536) bytes (cluster_line_of h first_so_far bytes) read rest (λ next. events_of h next lines) follows done
+cluster_enters Two h bytes lines read rest follows done = absurd done
+
 -- the header ends at the end of the input
 end_completes : (head : Option Head) (read : ℕ) → Completes (end_of (body_of Run head) read).ending → TellsSchedule (behind head []) (end_of (body_of Run head) read).text
 end_completes None read h = absurd h
 end_completes (Some (Pr senders)) read h = refl
-end_completes (Some (Cluster header)) read h = absurd h
+end_completes (Some (Cluster header)) read h = cluster_ends header.version header read h
 
 -- before a line
 over_completes : (head : Option Head) (bytes : List ℕ) (lines : List (List ℕ)) (read : ℕ) (rest : State → Outcome)
     → ((next : Device) → Completes (rest (Reading (Replaying next))).ending → (rest (Reading (Replaying next))).text ≡ flat_map printed (entries next (steps_of lines)))
+    → ((h : Header) (next : SoFar) (now : WorldState) → Completes (rest (Reading (Clustering h next now))).ending → (rest (Reading (Clustering h next now))).text ≡ texts_of now (events_of h next lines))
     → Completes (onward (entered (body_of Run head) bytes) read rest).ending → TellsSchedule (behind head (bytes ∷ lines)) (onward (entered (body_of Run head) bytes) read rest).text
-over_completes None bytes lines read rest later h = absurd h
-over_completes (Some (Pr senders)) bytes lines read rest later h = line_completes (fresh senders) (pr_line_of bytes) read rest (steps_of lines) later h
-over_completes (Some (Cluster header)) bytes lines read rest later h = absurd h
+over_completes None bytes lines read rest later moves h = absurd h
+over_completes (Some (Pr senders)) bytes lines read rest later moves h = line_completes (fresh senders) (pr_line_of bytes) read rest (steps_of lines) later h
+over_completes (Some (Cluster header)) bytes lines read rest later moves h = cluster_enters header.version header bytes lines read rest (moves header) h
 
 -- and at a line that belongs to it
 more_completes : (refused : Bool) (kind : Kind) (next : HeaderState) (read : ℕ) (rest : State → Outcome) (s : Option Schedule)
@@ -117,11 +176,12 @@ more_completes false kind next read rest s later h = later h
 heading_completes : (hs : HeaderStep) (now : HeaderState) (bytes : List ℕ) (lines : List (List ℕ)) (read : ℕ) (rest : State → Outcome)
     → ((next : HeaderState) → Completes (rest (Heading next)).ending → TellsSchedule (schedule_of next lines) (rest (Heading next)).text)
     → ((next : Device) → Completes (rest (Reading (Replaying next))).ending → (rest (Reading (Replaying next))).text ≡ flat_map printed (entries next (steps_of lines)))
+    → ((h : Header) (next : SoFar) (world : WorldState) → Completes (rest (Reading (Clustering h next world))).ending → (rest (Reading (Clustering h next world))).text ≡ texts_of world (events_of h next lines))
     → Completes (onward (heading Run now bytes hs) read rest).ending
     → TellsSchedule (stepped hs (λ next. schedule_of next lines) (behind (head_of now) (bytes ∷ lines))) (onward (heading Run now bytes hs) read rest).text
-heading_completes (More next) now bytes lines read rest more later h = more_completes (is_not_built Run bytes) _ next read rest (schedule_of next lines) (more next) h
-heading_completes Over now bytes lines read rest more later h = over_completes (head_of now) bytes lines read rest later h
-heading_completes (Bad kind) now bytes lines read rest more later h = absurd h
+heading_completes (More next) now bytes lines read rest more later moves h = more_completes (is_not_built Run bytes) _ next read rest (schedule_of next lines) (more next) h
+heading_completes Over now bytes lines read rest more later moves h = over_completes (head_of now) bytes lines read rest later moves h
+heading_completes (Bad kind) now bytes lines read rest more later moves h = absurd h
 
 empty_completes : (now : HeaderState) (read : ℕ) → Completes (end_of (body_of Run (head_of now)) read).ending → TellsSchedule (schedule_of now ([] ∷ [])) (end_of (body_of Run (head_of now)) read).text
 empty_completes state.Opening read h = absurd h
@@ -130,7 +190,7 @@ empty_completes (state.Complete senders) read h = refl
 empty_completes (state.Cluster version) read h = absurd h
 empty_completes (state.Nodes version cluster) read h = absurd h
 empty_completes (state.Configured cluster nodes) read h = absurd h
-empty_completes (state.Devices header) read h = absurd h
+empty_completes (state.Devices header) read h = cluster_ends header.version header read h
 
 pub head_completes : (ended : Bool) (lines : List (List ℕ)) (now : HeaderState) (read : ℕ) → Completes (outcome Run ended lines (Heading now) read).ending
     → TellsSchedule (schedule_of now lines) (outcome Run ended lines (Heading now) read).text
@@ -143,11 +203,11 @@ head_completes ended ((b ∷ bytes) ∷ []) now read h =
     (ended_chosen (is_too_large read (b ∷ bytes)) ended (read + 1) (onward (heading Run now (b ∷ bytes) (header_step now (b ∷ bytes))) read (λ s. end_of (at_end Run s) (read + 1)))
     (λ (t : List ℕ). TellsSchedule (schedule_of now ((b ∷ bytes) ∷ [])) t)
     (heading_completes (header_step now (b ∷ bytes)) now (b ∷ bytes) [] read (λ s. end_of (at_end Run s) (read + 1))
-    (λ next k. end_completes (head_of next) (read + 1) k) (λ next k. refl))) h
+    (λ next k. end_completes (head_of next) (read + 1) k) (λ next k. refl) (λ header next world k. refl))) h
 head_completes ended (bytes ∷ next ∷ lines) now read h =
     at_outcome (outcome Run ended (bytes ∷ next ∷ lines) (Heading now) read) _ (λ (t : List ℕ). TellsSchedule (schedule_of now (bytes ∷ next ∷ lines)) t)
     (line_outcome ended bytes next lines (Heading now) read)
     (chosen (is_too_large read bytes) (read + 1) (onward (heading Run now bytes (header_step now bytes)) read (λ s. outcome Run ended (next ∷ lines) s (read + 1)))
     (λ (t : List ℕ). TellsSchedule (schedule_of now (bytes ∷ next ∷ lines)) t)
     (heading_completes (header_step now bytes) now bytes (next ∷ lines) read (λ s. outcome Run ended (next ∷ lines) s (read + 1))
-    (λ after k. head_completes ended (next ∷ lines) after (read + 1) k) (λ after k. body_completes ended (next ∷ lines) after (read + 1) k))) h
+    (λ after k. head_completes ended (next ∷ lines) after (read + 1) k) (λ after k. body_completes ended (next ∷ lines) after (read + 1) k) (λ header after world k. world_completes ended (next ∷ lines) header after world (read + 1) k))) h

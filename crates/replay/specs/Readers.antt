@@ -34,19 +34,19 @@ Stops stop.NoMemory o lines text = Unit {0}
 
 -- the outcome of what the reader holds, when these bytes come
 abbrev pub with_more : Task → Bool → reader.Reader → List ℕ → Outcome
-with_more task ended r more = after (string_bytes r.text) (outcome task ended (pieces (r.held.items ++ more)) r.state r.lines)
+with_more task ended r more = after r.text.items (outcome task ended (pieces (r.held.items ++ more)) r.state r.lines)
 
 -- what becomes of a whole line
 pub record TakesLine {A : Type 0} (task : Task) (old : reader.Reader) (line : List ℕ) (result : Result A Stop) (new : reader.Reader) : Type 0 where
-  pub large : is_too_large old.lines line ≡ true → (result ≡ Err stop.TooLarge) × ((string_bytes new.text) ≡ (string_bytes old.text))
-  pub small : is_too_large old.lines line ≡ false → Answers result (step task old.state line) new.state (string_bytes old.text) (string_bytes new.text)
+  pub large : is_too_large old.lines line ≡ true → (result ≡ Err stop.TooLarge) × (new.text.items ≡ old.text.items)
+  pub small : is_too_large old.lines line ≡ false → Answers result (step task old.state line) new.state old.text.items new.text.items
   pub lines : new.lines ≡ old.lines + 1
   pub held : OnOk result (new.held.items ≡ [])
 
 -- what is told of an outcome
 abbrev pub Tells : {A : Type 0} → Task → Bool → List ℕ → Result A Stop → Outcome → reader.Reader → Type 0
 Tells task ended more (Ok done) o new = o ≡ with_more task ended new more
-Tells task ended more (Err why) o new = Stops why o new.lines (string_bytes new.text)
+Tells task ended more (Err why) o new = Stops why o new.lines new.text.items
 
 -- bytes were taken, whatever comes behind them
 abbrev pub TakesBytes : {A : Type 0} → Task → reader.Reader → List ℕ → Result A Stop → reader.Reader → Type 0
@@ -55,11 +55,14 @@ TakesBytes task old bytes result new = (ended : Bool) (more : List ℕ) → Tell
 -- what becomes of the last line, behind which the input ends
 abbrev pub TakesLast : {A : Type 0} → Task → reader.Reader → Result A Stop → reader.Reader → Type 0
 TakesLast task old (Ok done) new =
-    (with_more task true old [] ≡ after (string_bytes new.text) (end_of (at_end task new.state) new.lines)) × (new.lines ≤ 200000)
-TakesLast task old (Err why) new = Stops why (with_more task true old []) new.lines (string_bytes new.text)
+    (with_more task true old [] ≡ after new.text.items (end_of (at_end task new.state) new.lines)) × (new.lines ≤ 200000)
+TakesLast task old (Err why) new = Stops why (with_more task true old []) new.lines new.text.items
 
 -- the end of the input is one of the schedule, or a line is missing
-abbrev pub EndsWith : {A : Type 0} → Result A Kind → Result Body Kind → Type 0
+abbrev pub EndsWith : {A : Type 0} → Result A Stop → Result Body Kind → Type 0
 EndsWith (Ok done) (Ok body) = Unit {0}
 EndsWith (Ok done) (Err kind) = ⊥
-EndsWith (Err kind) is = is ≡ Err kind
+EndsWith (Err (stop.Refused kind)) is = is ≡ Err kind
+EndsWith (Err stop.NoMemory) is = Unit {0}
+EndsWith (Err stop.Ended) is = ⊥
+EndsWith (Err stop.TooLarge) is = ⊥

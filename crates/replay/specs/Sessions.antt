@@ -1,9 +1,14 @@
 -- What a line makes of the state, and what it writes.
-use Rattle.std.specs.Prelude.{◌≡◌, ℕ, Bool, true, false, ◌||◌, if◌then◌else◌, List, [], ◌++◌, Option, Some, None, Result, Ok, Err, codes}
+use Rattle.std.specs.Prelude.{◌≡◌, ℕ, Bool, true, false, nat_eq, ◌||◌, if◌then◌else◌, List, [], ◌++◌, Option, Some, None, Result, Ok, Err, codes}
+use Rattle.std.specs.List.{starts_with}
 use Rattle.std.specs.Str.{bytes_eq}
 use Rattle.cl_base.specs.declared.header.Header.{Header}
+use Rattle.cl_base.specs.declared.header.Version.{Version}
+use Rattle.cl_base.specs.declared.header.Version.TheVariants.{One, Two}
 use Rattle.pgr_device.specs.Device.{Device, fresh}
 use Rattle.pgr_device.specs.Spc as spc
+use Rattle.schedule_text.specs.declared.event.Event.{Event}
+use Rattle.schedule_text.specs.declared.event.Event.TheVariants as event
 use Rattle.schedule_text.specs.declared.header.Head.{Head}
 use Rattle.schedule_text.specs.declared.header.Head.TheVariants.{Pr, Cluster}
 use Rattle.schedule_text.specs.declared.header.HeaderState.{HeaderState}
@@ -21,10 +26,13 @@ use Rattle.schedule_text.specs.Headers.{HeaderStep, More, Over, Bad, header_step
 use Rattle.schedule_text.specs.Lines.{pr_line_of, cluster_line_of, so_far_after_event}
 use Rattle.status_report.specs.declared.entry.Entry.TheVariants.{Answered, Powered}
 use Rattle.status_report.specs.Lines.{printed}
+use Rattle.world.specs.First.{first_world}
+use Rattle.world.specs.Lines.{line_on}
+use Rattle.world.specs.Worlds.{Play, WorldState, play}
 use Rattle.replay.specs.declared.session.State.{State}
 use Rattle.replay.specs.declared.session.State.TheVariants.{Heading, Reading}
 use Rattle.replay.specs.declared.session.Body.{Body}
-use Rattle.replay.specs.declared.session.Body.TheVariants.{CheckingPr, CheckingCluster, Replaying}
+use Rattle.replay.specs.declared.session.Body.TheVariants.{CheckingPr, CheckingCluster, Replaying, Clustering}
 use Rattle.replay.specs.declared.stop.Stop.{Stop}
 use Rattle.replay.specs.declared.stop.Stop.TheVariants as stop
 use Rattle.replay.specs.declared.task.Task.{Task}
@@ -41,14 +49,21 @@ abbrev pub start : State
 start = Heading Opening
 
 -- what is done with the lines after a header that ends: `run` replays a reservation schedule with a fresh device,
--- which the senders have a path to; `check` reads the lines alone, those of a cluster schedule from the clock 0 and
--- no rounds. The replay of cluster schedules is not built.
+-- which the senders have a path to, and a cluster schedule of version 1 from the world of its header; `check` reads the
+-- lines alone. Those of a cluster schedule begin with the clock 0 and no rounds. The replay of version 2 is not built.
+abbrev pub first_so_far : SoFar
+first_so_far = record { clock = 0; rounds = 0 }
+
+abbrev pub cluster_of : Version → Header → Result Body Kind
+cluster_of One header = Ok (Clustering header first_so_far (first_world header 65536))
+cluster_of Two header = Err kind.NotBuilt
+
 abbrev pub body_of : Task → Option Head → Result Body Kind
 body_of task None = Err kind.Header
 body_of Run (Some (Pr senders)) = Ok (Replaying (fresh senders))
-body_of Run (Some (Cluster header)) = Err kind.NotBuilt
+body_of Run (Some (Cluster header)) = cluster_of header.version header
 body_of Check (Some (Pr senders)) = Ok CheckingPr
-body_of Check (Some (Cluster header)) = Ok (CheckingCluster header (record { clock = 0; rounds = 0 }))
+body_of Check (Some (Cluster header)) = Ok (CheckingCluster header first_so_far)
 
 -- a line of a reservation schedule, read alone
 abbrev pub checked_pr : Result PrLine Kind → Step
@@ -74,11 +89,47 @@ replayed device (Ok pr.Power) = Goes (Reading (Replaying device)) (printed Power
 replayed device (Ok (pr.Command sender command)) =
     Goes (Reading (Replaying (spc.step device sender command).after)) (printed (Answered (spc.step device sender command).answer))
 
+-- lines whose replay is not built
+abbrev pub is_later : Event → Bool
+is_later (event.Command node words) = true
+is_later (event.Outcome node resource method outcome) = true
+is_later (event.Probe node resource good) = true
+is_later (event.Client node address client port) = true
+is_later _ = false
+
+abbrev pub is_later_line : List ℕ → Bool
+is_later_line bytes = starts_with nat_eq bytes (codes "cmd ") || starts_with nat_eq bytes (codes "outcome ") || starts_with nat_eq bytes (codes "probe ")
+
+-- they are refused so before their numbers and names are looked at
+abbrev pub refused_kind : Kind → List ℕ → Kind
+refused_kind kind.Number bytes = if is_later_line bytes then kind.NotBuilt else kind.Number
+refused_kind kind.Unknown bytes = if is_later_line bytes then kind.NotBuilt else kind.Unknown
+refused_kind kind.Header bytes = kind.Header
+refused_kind kind.Line bytes = kind.Line
+refused_kind kind.NotBuilt bytes = kind.NotBuilt
+
+-- a line of a cluster schedule, replayed: the world moves, and the text of its entries is written
+abbrev pub moved : Header → SoFar → Event → Play → Step
+moved header so_far event p = Goes (Reading (Clustering header (so_far_after_event so_far event) p.world)) p.text
+
+abbrev pub event_done : Header → SoFar → WorldState → Event → Step
+event_done header so_far w event = if is_later event then Refuses kind.NotBuilt else moved header so_far event (line_on event (play w []))
+
+abbrev pub clustered_by : Header → SoFar → WorldState → List ℕ → Result ClusterLine Kind → Step
+clustered_by header so_far w bytes (Err kind) = Refuses (refused_kind kind bytes)
+clustered_by header so_far w bytes (Ok cluster.End) = Finishes
+clustered_by header so_far w bytes (Ok cluster.Blank) = Goes (Reading (Clustering header so_far w)) []
+clustered_by header so_far w bytes (Ok (cluster.Event event)) = event_done header so_far w event
+
+abbrev pub clustered : Header → SoFar → WorldState → List ℕ → Step
+clustered header so_far w bytes = clustered_by header so_far w bytes (cluster_line_of header so_far bytes)
+
 -- a line after the header
 abbrev pub body_step : Body → List ℕ → Step
 body_step CheckingPr bytes = checked_pr (pr_line_of bytes)
 body_step (CheckingCluster header so_far) bytes = checked_cluster header so_far (cluster_line_of header so_far bytes)
 body_step (Replaying device) bytes = replayed device (pr_line_of bytes)
+body_step (Clustering header so_far w) bytes = clustered header so_far w bytes
 
 -- the first line after the header
 abbrev pub entered : Result Body Kind → List ℕ → Step
@@ -87,7 +138,7 @@ entered (Ok body) bytes = body_step body bytes
 
 -- the line opens a cluster schedule that is to be replayed
 abbrev pub is_not_built : Task → List ℕ → Bool
-is_not_built Run bytes = bytes_eq bytes (codes "schedule cluster 1") || bytes_eq bytes (codes "schedule cluster 2")
+is_not_built Run bytes = bytes_eq bytes (codes "schedule cluster 2")
 is_not_built Check bytes = false
 
 abbrev pub heading : Task → HeaderState → List ℕ → HeaderStep → Step
@@ -103,6 +154,14 @@ step task (Reading body) bytes = body_step body bytes
 abbrev pub unread : ReadError → Stop
 unread (error.Refused kind) = stop.Refused kind
 unread error.NoMemory = stop.NoMemory
+
+-- what is done behind a header that ends, where memory suffices
+abbrev pub Enters : Result Body Stop → Result Body Kind → Type 0
+Enters (Ok body) is = is ≡ Ok body
+Enters (Err (stop.Refused kind)) is = is ≡ Err kind
+Enters (Err stop.NoMemory) is = Unit {0}
+Enters (Err stop.Ended) is = ⊥
+Enters (Err stop.TooLarge) is = ⊥
 
 -- The answer to a line is this step: the state, and what is appended to the text. Else the text stays, or there is no
 -- memory.

@@ -14,12 +14,13 @@ pub fn push_closing(
     task: Task,
     stop: Stop,
     lines: u64,
-    text: &mut String,
+    text: &mut Vec<u8>,
 ) -> Result<(), AllocError>
-    ensures { OnOk result (string_bytes text.new ≡ string_bytes text.old ++ closing task (ending_of stop lines)) }
+    ensures { OnOk result (text.new.items ≡ text.old.items ++ closing task (ending_of stop lines)) }
 {
     let line = closing_line(alloc, task, stop, lines)?;
-    text.push_str(&line)
+    text.extend_from_slice(line.as_bytes())?;
+    Ok(())
 }
 
 fn closing_line(alloc: Global, task: Task, stop: Stop, lines: u64) -> Result<String, AllocError>

@@ -69,7 +69,7 @@ fn run<S: Source, K: Sink>(alloc: Global, task: Task, source: &mut S, sink: &mut
         if let Err(stop) = reader.take_piece(alloc, task, &buffer[..count]) {
             return close(alloc, task, stop, reader.lines, &mut reader.text, sink);
         }
-        match write_all(sink, reader.text.as_bytes()) {
+        match write_all(sink, reader.text.as_slice()) {
             Ok(()) => reader.text.clear(),
             Err(_) => return Status::WriteFault,
         }
@@ -82,10 +82,10 @@ fn close<K: Sink>(
     task: Task,
     stop: Stop,
     lines: u64,
-    text: &mut String,
+    text: &mut Vec<u8>,
     sink: &mut K,
 ) -> Status
-    ensures closed { Closed task stop lines (string_bytes text.old) result (K.held sink.old) (K.held sink.new) (K.faults sink.old) (K.faults sink.new) }
+    ensures closed { Closed task stop lines text.old.items result (K.held sink.old) (K.held sink.new) (K.faults sink.old) (K.faults sink.new) }
 {
     if let Stop::NoMemory = stop {
         return Status::NoMemory;
@@ -93,7 +93,7 @@ fn close<K: Sink>(
     if push_closing(alloc, task, stop, lines, text).is_err() {
         return Status::NoMemory;
     }
-    match write_all(sink, text.as_bytes()) {
+    match write_all(sink, text.as_slice()) {
         Ok(()) => status_of(stop),
         Err(_) => Status::WriteFault,
     }

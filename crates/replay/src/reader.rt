@@ -21,6 +21,9 @@ pub const MOST_LINES: u64 = 200_000;
 /// Room for what the lines of a piece of the input are answered, mostly.
 const TEXT: usize = 32_768;
 
+/// Room for the words of an answer, mostly.
+const WORDS: usize = 512;
+
 /// How far the input was read.
 #[derive(Drop)]
 pub struct Reader {
@@ -31,7 +34,9 @@ pub struct Reader {
     /// The beginning of the next line, as far as it was read.
     pub held: Vec<u8>,
     /// What the lines are answered, as far as it was not written yet.
-    pub text: String,
+    pub text: Vec<u8>,
+    /// Room for the words of one answer.
+    pub words: String,
 }
 
 impl Reader {
@@ -40,13 +45,14 @@ impl Reader {
         ensures state { IfOk result (λ r. r.state ≡ Heading Opening) }
         ensures lines { IfOk result (λ r. r.lines ≡ 0) }
         ensures held { IfOk result (λ r. r.held.items ≡ []) }
-        ensures text { IfOk result (λ r. string_bytes r.text ≡ []) }
+        ensures text { IfOk result (λ r. r.text.items ≡ []) }
     {
         Ok(Reader {
             state: State::Heading(HeaderReader::new()),
             lines: 0,
             held: Vec::with_capacity(alloc, LONGEST_LINE)?,
-            text: String::with_capacity(alloc, TEXT)?,
+            text: Vec::with_capacity(alloc, TEXT)?,
+            words: String::with_capacity(alloc, WORDS)?,
         })
     }
 
@@ -80,10 +86,24 @@ impl Reader {
             return Err(Stop::TooLarge);
         }
         if self.held.is_empty() {
-            return answer(alloc, task, &mut self.state, rest, &mut self.text);
+            return answer(
+                alloc,
+                task,
+                &mut self.state,
+                rest,
+                &mut self.text,
+                &mut self.words,
+            );
         }
         self.held.extend_from_slice(rest)?;
-        answer(alloc, task, &mut self.state, &self.held, &mut self.text)?;
+        answer(
+            alloc,
+            task,
+            &mut self.state,
+            &self.held,
+            &mut self.text,
+            &mut self.words,
+        )?;
         self.held.clear();
         Ok(())
     }
@@ -91,16 +111,16 @@ impl Reader {
     /// Takes the end of the input: answers the last line, where no newline ended it.
     pub fn finish(&mut self, alloc: Global, task: Task) -> Stop
         requires { IsReader self.old }
-        ensures { Stops result (with_more task true self.old []) self.new.lines (string_bytes self.new.text) }
+        ensures { Stops result (with_more task true self.old []) self.new.lines self.new.text.items }
     {
         if let Err(stop) = self.last_line(alloc, task) {
             return stop;
         }
-        match end(task, &mut self.state) {
+        match end(alloc, task, &mut self.state) {
             Ok(()) => Stop::Ended,
-            Err(kind) => {
+            Err(stop) => {
                 self.lines += 1;
-                Stop::Refused(kind)
+                stop
             }
         }
     }
@@ -137,13 +157,13 @@ impl Reader {
 }
 
 /// What the end of the input comes to: a whole header that the task can go on from was read, or why not.
-fn end(task: Task, state: &mut State) -> Result<(), Kind>
+fn end(alloc: Global, task: Task, state: &mut State) -> Result<(), Stop>
     ensures { EndsWith result (at_end task state.old) }
 {
     match state {
         State::Reading(_) => Ok(()),
         State::Heading(reader) => {
-            enter(task, mem::replace(reader, HeaderReader::new()))?;
+            enter(alloc, task, mem::replace(reader, HeaderReader::new()))?;
             Ok(())
         }
     }

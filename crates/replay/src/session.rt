@@ -1,22 +1,24 @@
 ghost use Rattle.std.specs.Prelude.{◌≡◌, List, ℕ};
 ghost use Rattle.std.specs.String.{string_bytes};
-ghost use Rattle.schedule_text.specs.Allowed.{IsAllowedEvent};
+ghost use Rattle.schedule_text.specs.Allowed.{IsAllowedEvent, IsHeader};
 ghost use Rattle.schedule_text.specs.Headers.{head_of, header_step};
 ghost use Rattle.schedule_text.specs.Lines.{pr_line_of, cluster_line_of, so_far_after_event};
-ghost use Rattle.replay.specs.declared.session.Body.TheVariants.{CheckingPr, CheckingCluster, Replaying};
+ghost use Rattle.replay.specs.declared.session.Body.TheVariants.{CheckingPr, CheckingCluster, Replaying, Clustering};
 ghost use Rattle.replay.specs.declared.session.State.TheVariants.{Reading};
-ghost use Rattle.replay.specs.Sessions.{Answers, TakesHeader, step, body_step, body_of, checked_pr, checked_cluster, replayed, is_not_built};
+ghost use Rattle.replay.specs.Sessions.{Answers, Enters, TakesHeader, cluster_of, step, body_step, body_of, checked_pr, checked_cluster, clustered, event_done, replayed, is_later, is_later_line, is_not_built, refused_kind};
+ghost use Rattle.world.specs.Worlds.{WorldState};
 
 use crate::stop::Stop;
 use crate::task::Task;
-use cl_base::Header;
+use cl_base::{Header, Version};
 use pgr_device::Pgr;
 use schedule_text::{
-    ClusterLine, Event, Head, HeaderReader, Kind, PrLine, SoFar, read_cluster_line, read_pr_line,
+    ClusterLine, Event, Head, HeaderReader, Kind, PrLine, ReadError, SoFar, read_cluster_line, read_pr_line,
 };
 use status_report::{print_answer, print_powered};
 use std::alloc::Global;
 use std::mem;
+use world::World;
 
 /// How far a schedule was read.
 #[derive(Drop)]
@@ -41,6 +43,15 @@ pub enum Body {
     },
     /// Those of a reservation schedule are replayed; this is the device.
     Replaying(Pgr),
+    /// Those of a cluster schedule are replayed.
+    Clustering {
+        /// The header.
+        header: Header,
+        /// What the lines have set.
+        so_far: SoFar,
+        /// The cluster.
+        world: World,
+    },
 }
 
 /// Answers a line, without its newline, and appends what is written of it to the text.
@@ -49,15 +60,16 @@ pub fn answer(
     task: Task,
     state: &mut State,
     line: &[u8],
-    text: &mut String,
+    text: &mut Vec<u8>,
+    words: &mut String,
 ) -> Result<(), Stop>
-    ensures { Answers result (step task state.old line.now) state.new (string_bytes text.old) (string_bytes text.new) }
+    ensures { Answers result (step task state.old line.now) state.new text.old.items text.new.items }
 {
     // The state of a header is large; the lines behind it do not pay for room for it.
     if let State::Reading(body) = state {
-        return body.answer(alloc, line, text);
+        return body.answer(alloc, line, text, words);
     }
-    answer_in_any(alloc, task, state, line, text)
+    answer_in_any(alloc, task, state, line, text, words)
 }
 
 /// The same, in any state.
@@ -67,21 +79,22 @@ fn answer_in_any(
     task: Task,
     state: &mut State,
     line: &[u8],
-    text: &mut String,
+    text: &mut Vec<u8>,
+    words: &mut String,
 ) -> Result<(), Stop>
-    ensures { Answers result (step task state.old line.now) state.new (string_bytes text.old) (string_bytes text.new) }
+    ensures { Answers result (step task state.old line.now) state.new text.old.items text.new.items }
 {
     match state {
         State::Heading(reader) => {
             if take_header(alloc, task, reader, line)? {
                 return Ok(());
             }
-            let mut body = enter(task, mem::replace(reader, HeaderReader::new()))?;
-            body.answer(alloc, line, text)?;
+            let mut body = enter(alloc, task, mem::replace(reader, HeaderReader::new()))?;
+            body.answer(alloc, line, text, words)?;
             *state = State::Reading(body);
             Ok(())
         }
-        State::Reading(body) => body.answer(alloc, line, text),
+        State::Reading(body) => body.answer(alloc, line, text, words),
     }
 }
 
@@ -109,19 +122,19 @@ fn is_not_built(task: Task, line: &[u8]) -> bool
 {
     match task {
         Task::Run => {
-            line == b"schedule cluster 1".as_slice() || line == b"schedule cluster 2".as_slice()
+            line == b"schedule cluster 2".as_slice()
         }
         Task::Check => false,
     }
 }
 
 /// What is done with the lines after this header, which ends here.
-pub fn enter(task: Task, reader: HeaderReader) -> Result<Body, Kind>
-    ensures { result ≡ body_of task (head_of reader) }
+pub fn enter(alloc: Global, task: Task, reader: HeaderReader) -> Result<Body, Stop>
+    ensures { Enters result (body_of task (head_of reader)) }
 {
     match (task, reader.finish()?) {
         (Task::Run, Head::Pr(senders)) => Ok(Body::Replaying(Pgr::new(senders))),
-        (Task::Run, Head::Cluster(_)) => Err(Kind::NotBuilt),
+        (Task::Run, Head::Cluster(header)) => enter_cluster(alloc, header),
         (Task::Check, Head::Pr(_)) => Ok(Body::CheckingPr),
         (Task::Check, Head::Cluster(header)) => Ok(Body::CheckingCluster {
             header,
@@ -130,15 +143,44 @@ pub fn enter(task: Task, reader: HeaderReader) -> Result<Body, Kind>
     }
 }
 
+/// The lines of a cluster schedule are replayed from the world of its header.
+fn enter_cluster(alloc: Global, header: Header) -> Result<Body, Stop>
+    requires header { IsHeader header }
+    ensures { Enters result (cluster_of header.version header) }
+{
+    match header.version {
+        Version::One => {
+            let world = World::new(alloc, &header)?;
+            Ok(Body::Clustering {
+                header,
+                so_far: SoFar::new(),
+                world,
+            })
+        }
+        Version::Two => Err(Stop::Refused(Kind::NotBuilt)),
+    }
+}
+
 impl Body {
     /// Answers a line after the header.
-    fn answer(&mut self, alloc: Global, line: &[u8], text: &mut String) -> Result<(), Stop>
-        ensures { Answers result (body_step self.old line.now) (Reading self.new) (string_bytes text.old) (string_bytes text.new) }
+    fn answer(
+        &mut self,
+        alloc: Global,
+        line: &[u8],
+        text: &mut Vec<u8>,
+        words: &mut String,
+    ) -> Result<(), Stop>
+        ensures { Answers result (body_step self.old line.now) (Reading self.new) text.old.items text.new.items }
     {
         match self {
             Body::CheckingPr => check_pr(line),
             Body::CheckingCluster { header, so_far } => check_cluster(alloc, header, so_far, line),
-            Body::Replaying(device) => replay(device, line, text),
+            Body::Replaying(device) => replay(device, line, text, words),
+            Body::Clustering {
+                header,
+                so_far,
+                world,
+            } => replay_cluster(alloc, header, so_far, world, line, text),
         }
     }
 }
@@ -184,21 +226,102 @@ fn moved_on(header: &Header, so_far: SoFar, event: &Event) -> SoFar
 
 /// Reads a line of a reservation schedule, and replays it. It takes memory only where the text has no
 /// room for the answer.
-fn replay(device: &mut Pgr, line: &[u8], text: &mut String) -> Result<(), Stop>
-    ensures { Answers result (replayed device.old (pr_line_of line.now)) (Reading (Replaying device.new)) (string_bytes text.old) (string_bytes text.new) }
+fn replay(
+    device: &mut Pgr,
+    line: &[u8],
+    text: &mut Vec<u8>,
+    words: &mut String,
+) -> Result<(), Stop>
+    ensures { Answers result (replayed device.old (pr_line_of line.now)) (Reading (Replaying device.new)) text.old.items text.new.items }
 {
     match read_pr_line(line)? {
         PrLine::End => Err(Stop::Ended),
         PrLine::Blank => Ok(()),
         PrLine::Power => {
             device.power_loss();
-            print_powered(text)?;
+            words.clear();
+            print_powered(words)?;
+            text.extend_from_slice(words.as_bytes())?;
             Ok(())
         }
         PrLine::Command { sender, command } => {
             let answer = device.execute(sender, command);
-            print_answer(text, answer)?;
+            words.clear();
+            print_answer(words, answer)?;
+            text.extend_from_slice(words.as_bytes())?;
             Ok(())
         }
     }
+}
+
+/// Reads a line of a cluster schedule, and replays it. What its entries write is put together first.
+#[inline(never)]
+fn replay_cluster(
+    alloc: Global,
+    header: &Header,
+    so_far: &mut SoFar,
+    world: &mut World,
+    line: &[u8],
+    text: &mut Vec<u8>,
+) -> Result<(), Stop>
+    ensures { Answers result (clustered header.now so_far.old world.old line.now) (Reading (Clustering header.now so_far.new world.new)) text.old.items text.new.items }
+{
+    match read_cluster_line(alloc, header, *so_far, line) {
+        Ok(ClusterLine::End) => Err(Stop::Ended),
+        Ok(ClusterLine::Blank) => Ok(()),
+        Ok(ClusterLine::Event(event)) => {
+            replay_event(alloc, header, so_far, world, &event, text)
+        }
+        Err(ReadError::NoMemory) => Err(Stop::NoMemory),
+        Err(ReadError::Refused(kind)) => Err(Stop::Refused(refused_kind(kind, line))),
+    }
+}
+
+fn replay_event(
+    alloc: Global,
+    header: &Header,
+    so_far: &mut SoFar,
+    world: &mut World,
+    event: &Event,
+    text: &mut Vec<u8>,
+) -> Result<(), Stop>
+    requires allowed { IsAllowedEvent header.now so_far.old event.now }
+    ensures { Answers result (event_done header.now so_far.old world.old event.now) (Reading (Clustering header.now so_far.new world.new)) text.old.items text.new.items }
+{
+    if is_later(event) {
+        return Err(Stop::Refused(Kind::NotBuilt));
+    }
+    *so_far = moved_on(header, *so_far, event);
+    let mut entries = Vec::new(alloc);
+    world.step(alloc, event, &mut entries)?;
+    text.extend_from_slice(&entries)?;
+    Ok(())
+}
+
+/// Whether the replay of the line is not built yet: a command, the outcome of a call, a monitor's report.
+fn is_later(event: &Event) -> bool
+    ensures { result ≡ is_later event.now }
+{
+    match event {
+        Event::Command { .. } | Event::Outcome { .. } | Event::Probe { .. } | Event::Client { .. } => true,
+        _ => false,
+    }
+}
+
+/// Why a line is refused: such a line is so before its numbers and names are looked at.
+fn refused_kind(kind: Kind, line: &[u8]) -> Kind
+    ensures { result ≡ refused_kind kind line.now }
+{
+    match kind {
+        Kind::Number | Kind::Unknown if is_later_line(line) => Kind::NotBuilt,
+        _ => kind,
+    }
+}
+
+fn is_later_line(line: &[u8]) -> bool
+    ensures { result ≡ is_later_line line.now }
+{
+    line.starts_with(b"cmd ".as_slice())
+        || line.starts_with(b"outcome ".as_slice())
+        || line.starts_with(b"probe ".as_slice())
 }

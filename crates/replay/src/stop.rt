@@ -2,7 +2,7 @@ ghost use Rattle.std.specs.Prelude.{◌≡◌};
 ghost use Rattle.replay.specs.declared.stop.Stop.TheVariants.{NoMemory, Refused};
 
 use schedule_text::{Kind, ReadError};
-use std::alloc::AllocError;
+use std::alloc::{AllocError, AllocFailed};
 
 /// Why reading stops. It does so at the line that was read last.
 #[derive(Clone, Copy)]
@@ -43,5 +43,13 @@ impl From<ReadError> for Stop {
             ReadError::Refused(kind) => Stop::Refused(kind),
             ReadError::NoMemory => Stop::NoMemory,
         }
+    }
+}
+
+impl<T: Drop> From<AllocFailed<T>> for Stop {
+    ghost from_gives = { λ _ e. e ≡ NoMemory };
+
+    fn from(_: AllocFailed<T>) -> Stop {
+        Stop::NoMemory
     }
 }

@@ -13,8 +13,8 @@ returns-then-is_err g c = record { closed = close_without_memory c.args.task c.a
 
 pub returns-in-Err : goal.returns-in-Err
 returns-in-Err g c =
-    let is : string_bytes c.push_closing.new.text ≡ string_bytes c.args.text.now ++ closing c.args.task (ending_of c.args.stop c.args.lines) = search rules in
+    let is : c.push_closing.new.text.items ≡ c.args.text.now.items ++ closing c.args.task (ending_of c.args.stop c.args.lines) = search rules in
     record {
-      closed = close_failed c.args.task c.args.stop c.args.lines (string_bytes c.args.text.now) c.as_bytes.result.now _ _ _ _ c.in_default.not-NoMemory
-          (c.as_bytes.ensures.value ∙ is) c.in-Err.ensures.err c.in-Err.ensures.cause.failed;
+      closed = close_failed c.args.task c.args.stop c.args.lines c.args.text.now.items c.as_slice.result.now _ _ _ _ c.in_default.not-NoMemory
+          (c.as_slice.ensures.value ∙ is) c.in-Err.ensures.err c.in-Err.ensures.cause.failed;
     }

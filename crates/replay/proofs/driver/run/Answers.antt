@@ -14,7 +14,7 @@ returns-in-Err g c = record {
 
 pub returns-then-count-eq0 : goal.returns-then-count-eq0
 returns-then-count-eq0 g c = record {
-  run = closed_run c.args.task _ _ _ _ _ _ _ _ _ _ _ c.pieces.reader [] true c.finish-stop.result c.finish-stop.new.self.lines (string_bytes c.finish-stop.new.self.text) c.close.result
+  run = closed_run c.args.task _ _ _ _ _ _ _ _ _ _ _ c.pieces.reader [] true c.finish-stop.result c.finish-stop.new.self.lines c.finish-stop.new.self.text.items c.close.result
       c.pieces.invariant.reads c.pieces.invariant.whole (none_taken _ _ c.in-Ok-read_piece.count c.read_piece.new.buf c.if-count-eq0.true c.in-Ok-read_piece.ensures.bytes.0) (omega arith)
       (λ e. c.in-Ok-read_piece.ensures.bytes.1 c.if-count-eq0.true (omega (arith, c.read_piece.auto.buf))) c.finish-stop.ensures
       (c.in-Ok-read_piece.ensures.same ∙ c.pieces.invariant.source) c.pieces.invariant.sink c.close.ensures.closed;
@@ -32,20 +32,20 @@ returns-in-Err-write_all g c = record {
   run = write_failed (Unit {0}) c.in_default-take_piece.field-0 c.args.task _ _ _ _ _ _ _ _ _ _ c.pieces.reader c.take_piece.new.self (take c.in-Ok-read_piece.count c.read_piece.new.buf)
       c.pieces.invariant.reads c.pieces.invariant.whole c.in-Ok-read_piece.ensures.bytes.0 (short_take c.in-Ok-read_piece.count 4096 c.read_piece.new.buf (omega (arith, c.read_piece.auto.buf)))
       c.in_default-take_piece.ensures.taken (c.in-Ok-read_piece.ensures.same ∙ c.pieces.invariant.source)
-      (subst (λ (t : List ℕ). AppendsFront (g.K.Sink.held c.pieces.sink) (g.K.Sink.held c.write_all.new.sink) t) c.as_bytes.ensures.value c.in-Err-write_all.ensures.err)
+      (subst (λ (t : List ℕ). AppendsFront (g.K.Sink.held c.pieces.sink) (g.K.Sink.held c.write_all.new.sink) t) c.as_slice.ensures.value c.in-Err-write_all.ensures.err)
       (subst (λ n. Rose n (g.K.Sink.faults c.write_all.new.sink)) c.pieces.invariant.sink c.in-Err-write_all.ensures.cause.failed);
 }
 
 pub pieces-preserved : goal.pieces-preserved
 pieces-preserved g c =
-    let cleared : string_bytes c.clear.new.self ≡ [] = search rules in
-    let next : reader.Reader = record { state = c.take_piece.new.self.state; lines = c.take_piece.new.self.lines; held = c.take_piece.new.self.held; text = c.clear.new.self } in
+    let cleared : c.clear.new.self.items ≡ [] = search rules in
+    let next : reader.Reader = record { state = c.take_piece.new.self.state; lines = c.take_piece.new.self.lines; held = c.take_piece.new.self.held; text = c.clear.new.self; words = c.take_piece.new.self.words } in
     record {
       whole = c.in_default-take_piece.ensures.whole;
       written = cleared;
       reads = read_more (Unit {0}) c.in_default-take_piece.field-0 c.args.task _ _ _ _ _ _ c.pieces.reader c.take_piece.new.self next (take c.in-Ok-read_piece.count c.read_piece.new.buf)
           c.pieces.invariant.reads c.in-Ok-read_piece.ensures.bytes.0 c.in_default-take_piece.ensures.taken
-          (subst (λ (t : List ℕ). Appends (g.K.Sink.held c.pieces.sink) (g.K.Sink.held c.write_all.new.sink) t) c.as_bytes.ensures.value c.in-Ok-write_all.ensures.ok)
+          (subst (λ (t : List ℕ). Appends (g.K.Sink.held c.pieces.sink) (g.K.Sink.held c.write_all.new.sink) t) c.as_slice.ensures.value c.in-Ok-write_all.ensures.ok)
           (flushed c.args.task c.take_piece.new.self next refl refl refl cleared);
       source = c.in-Ok-read_piece.ensures.same ∙ c.pieces.invariant.source;
       sink = c.in-Ok-write_all.ensures.same ∙ c.pieces.invariant.sink;

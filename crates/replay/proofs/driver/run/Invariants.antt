@@ -7,7 +7,7 @@ use Rattle.replay.proofs.driver.run.Given as goal
 abbrev pub invariant-pieces : goal.invariant-pieces
 invariant-pieces g l = record {
   whole : IsReader l.reader;
-  written : string_bytes l.reader.text ≡ [];
+  written : l.reader.text.items ≡ [];
   reads : ReadsOn l.task (g.S.Source.left l.fn.source) (g.S.Source.left l.source) (g.K.Sink.held l.fn.sink) (g.K.Sink.held l.sink) l.reader;
   source : g.S.Source.faults l.source ≡ g.S.Source.faults l.fn.source;
   sink : g.K.Sink.faults l.sink ≡ g.K.Sink.faults l.fn.sink;

@@ -6,7 +6,7 @@ use Rattle.replay.proofs.reader.Reader.hold.Goals.{then-self-ge-MOST_LINES-via-t
 
 pub returns-then-self-ge-MOST_LINES-clause-taken : goal.returns-then-self-ge-MOST_LINES-clause-taken
 returns-then-self-ge-MOST_LINES-clause-taken c =
-    held_stops c.args.self.now.held.items c.args.beginning.now (string_bytes c.args.self.now.text) c.args.self.now.state c.args.self.now.lines c.requires.reader.2 c.requires.plain
+    held_stops c.args.self.now.held.items c.args.beginning.now c.args.self.now.text.items c.args.self.now.state c.args.self.now.lines c.requires.reader.2 c.requires.plain
     (some_bytes c.args.beginning.now (sym c.is_empty.ensures ∙ c.if-is_empty.false))
     (is_large c.args.self.now.lines (c.args.self.now.held.items ++ c.args.beginning.now)
     (elim c.then-self-ge-MOST_LINES.branch [

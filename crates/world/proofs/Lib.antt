@@ -1,0 +1,6 @@
+pub mod Lengths
+pub mod Places
+pub mod Removals
+pub mod Brings
+pub mod Each
+pub mod Commands

@@ -1,0 +1,120 @@
+// Something happens to a node.
+ghost use Rattle.std.specs.Prelude.{◌≡◌, IfOk, OnOk};
+ghost use Rattle.node_model.specs.Inputs.{IsAnswered};
+ghost use Rattle.world.specs.Sends.{giving, passing, passing_one, posting, stepping};
+ghost use Rattle.world.specs.Worlds.{play};
+
+use crate::naming::name_of;
+use crate::telling::tell;
+use crate::world::World;
+use cl_base::{Bytes, NodeId};
+use node::{Input, step};
+use node_model::{Cluster, Node, Output};
+use record_disk::SimulatedDisk;
+use status_report::{Entry, PacketEntry};
+use std::alloc::{AllocError, Global};
+use std::mem;
+use wire::{Message, encode};
+
+/// The most bytes of a packet.
+const MOST: usize = 131_072;
+
+impl World {
+    /// This happens to the node, if there is one. What it tells is written, and what it sends is sent.
+    pub(crate) fn give(
+        &mut self,
+        alloc: Global,
+        me: NodeId,
+        input: Input,
+        out: &mut Vec<u8>,
+    ) -> Result<(), AllocError>
+        requires answer { IsAnswered input }
+        ensures { OnOk result (play self.new out.new.items ≡ giving me input (play self.old out.old.items)) }
+    {
+        let outputs = step_in(
+            alloc,
+            &self.cluster,
+            &mut self.nodes,
+            &mut self.disks,
+            me,
+            input,
+        )?;
+        for output in outputs {
+            self.pass_on(alloc, me, output, out)?;
+        }
+        Ok(())
+    }
+
+    fn pass_on(
+        &mut self,
+        alloc: Global,
+        me: NodeId,
+        output: Output,
+        out: &mut Vec<u8>,
+    ) -> Result<(), AllocError>
+        ensures { OnOk result (play self.new out.new.items ≡ passing_one me output (play self.old out.old.items)) }
+    {
+        match output {
+            Output::Tells(entry) => tell(alloc, out, entry),
+            Output::Sends { to, body } => self.send(alloc, to, Message { sender: me, body }, out),
+        }
+    }
+
+    /// A message is sent. One that has no spelling, or too long a one, is not: no node gives such.
+    #[tactic(auto, using(crate::proofs::Lengths::too_long))]
+    fn send(
+        &mut self,
+        alloc: Global,
+        to: NodeId,
+        message: Message,
+        out: &mut Vec<u8>,
+    ) -> Result<(), AllocError>
+        ensures { OnOk result (play self.new out.new.items ≡ posting message.sender to message (play self.old out.old.items)) }
+    {
+        if !message.body.is_short() {
+            return Ok(());
+        }
+        let bytes = encode(alloc, &message)?;
+        let number = self.links.next_number();
+        if bytes.len() > MOST || number >= 1 << 63 {
+            return Ok(());
+        }
+        let from = message.sender;
+        let sent = self.links.send(from, to, &bytes);
+        let entry = PacketEntry::Sent {
+            number,
+            from,
+            to,
+            message: name_of(&message.body),
+            bytes: Bytes::new(bytes),
+        };
+        tell(alloc, out, Entry::Packet(entry))?;
+        if let Some((number, cause)) = sent.dropped {
+            tell(alloc, out, Entry::Packet(PacketEntry::Dropped { number, cause }))?;
+        }
+        Ok(())
+    }
+}
+
+/// The node takes a step with its disk, and these are what it gives; none where there is no such node.
+fn step_in(
+    alloc: Global,
+    cluster: &Cluster,
+    nodes: &mut Vec<Node>,
+    disks: &mut Vec<SimulatedDisk>,
+    me: NodeId,
+    input: Input,
+) -> Result<Vec<Output>, AllocError>
+    requires answer { IsAnswered input }
+    ensures { IfOk result (λ given. record { nodes = nodes.new.items; disks = disks.new.items; given = given.items } ≡ stepping cluster.now me input nodes.old.items disks.old.items) }
+{
+    let mut given = Vec::new(alloc);
+    let place = me.number() as usize - 1;
+    if place >= nodes.len() || place >= disks.len() {
+        return Ok(given);
+    }
+    let node = mem::replace(&mut nodes[place], Node::Down);
+    let after = step(alloc, cluster, me, &mut disks[place], node, input, &mut given)?;
+    nodes[place] = after;
+    Ok(given)
+}

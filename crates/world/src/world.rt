@@ -1,0 +1,35 @@
+use interconnect::Net;
+use node_model::{Cluster, Node};
+use pgr_device::Pgr;
+use record_disk::SimulatedDisk;
+use std::marker::Model;
+
+/// A simulated cluster. Contracts see a `WorldState`.
+#[derive(Drop)]
+pub struct World {
+    /// What its nodes know of it.
+    pub(crate) cluster: Cluster,
+    /// The nodes; node n is at place n - 1, and so in the other lists.
+    pub(crate) nodes: Vec<Node>,
+    /// Their local disks.
+    pub(crate) disks: Vec<SimulatedDisk>,
+    /// The shared devices; device d is at place d - 1.
+    pub(crate) devices: Vec<Pgr>,
+    /// For each node and device, node by node: whether its next command fails, and is done all the same.
+    pub(crate) faults: Vec<Option<bool>>,
+    /// The links between the nodes.
+    pub(crate) links: Net,
+    /// Room for the bytes of a packet.
+    pub(crate) bytes: Vec<u8>,
+}
+
+impl Model for World {
+    ghost use Rattle.std.specs.Prelude.{◌≡◌, length};
+    ghost use Rattle.world.specs.Worlds.{WorldState};
+
+    ghost Value = { WorldState };
+
+    ghost view = { λ w. record { cluster = w.cluster; nodes = w.nodes.items; disks = w.disks.items; devices = w.devices.items; faults = w.faults.items; links = w.links } };
+
+    ghost invariant = { λ w. length w.bytes.items ≡ 131072 };
+}
