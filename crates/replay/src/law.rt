@@ -8,9 +8,10 @@ ghost use Rattle.replay.specs.Outcomes.{outcome_of};
 ghost use Rattle.replay.specs.Replays.{Completes, TellsReplay, entries, answers_among};
 ghost use Rattle.replay.specs.declared.task.Task.TheVariants.{Run};
 
-/// A `run` that reads its schedule to the end writes what the device, step by step, answers to the
-/// commands of the schedule and to its losses of power, one line each.
-pub fn completed_run_is_the_devices()
+/// A `run` that reads its schedule to the end writes what is answered to it. Of a reservation schedule
+/// that is what the device, step by step, answers to its commands and losses of power, one line each;
+/// of a cluster schedule, what the world of its header writes, event by event.
+pub fn completed_run_tells_its_schedule()
     ensures { (ended : Bool) (bytes : List ℕ) → Completes (outcome_of Run ended bytes).ending → TellsReplay bytes (outcome_of Run ended bytes).text }
 {}
 

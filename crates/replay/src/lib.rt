@@ -12,6 +12,6 @@ mod stop;
 mod task;
 
 pub use driver::run_words;
-pub use law::{completed_run_is_the_devices, entries_have_the_answers};
+pub use law::{completed_run_tells_its_schedule, entries_have_the_answers};
 pub use status::Status;
 pub use task::Task;

@@ -2,7 +2,7 @@ use Rattle.std.specs.Prelude.{ℕ, List}
 use Rattle.schedule_text.specs.declared.header.HeaderState.TheVariants.{Opening}
 use Rattle.replay.specs.Outcomes.{pieces}
 use Rattle.replay.proofs.Replays.{head_completes}
-use Rattle.replay.proofs.law.completed_run_is_the_devices.Goals as goal
+use Rattle.replay.proofs.law.completed_run_tells_its_schedule.Goals as goal
 
 pub returns : goal.returns
 returns c = λ ended (bytes : List ℕ) h. head_completes ended (pieces bytes) Opening 0 h
