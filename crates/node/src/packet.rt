@@ -52,7 +52,9 @@ fn take_message<K: RecordDisk>(
 {
     match &m.body {
         Body::Heartbeat {
-            session, member, ..
+            session,
+            member,
+            ..
         } => take_heartbeat(me, up, from, *session, *member, out),
         Body::Collect { epoch, .. } => collect(alloc, me, disk, up, from, *epoch, out),
         Body::Promise { .. } | Body::Nack { .. } | Body::Seized { .. } | Body::Ready { .. } => {

@@ -46,11 +46,7 @@ fn send_heartbeats(
     send_to_each(up, &receivers, out)
 }
 
-fn send_to_each(
-    up: &UpNode,
-    receivers: &[NodeId],
-    out: &mut Vec<Output>,
-) -> Result<(), AllocError>
+fn send_to_each(up: &UpNode, receivers: &[NodeId], out: &mut Vec<Output>) -> Result<(), AllocError>
     ensures sent { OnOk result (out.new.items ≡ out.old.items ++ map (λ n. Sends n (heartbeat_of up.now)) receivers.now) }
 {
     for n in receivers {

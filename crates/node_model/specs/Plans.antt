@@ -14,10 +14,10 @@ use Rattle.node_model.specs.declared.stop.Stop.{Stop}
 use Rattle.node_model.specs.declared.stop.Stop.TheVariants.{Down, NoMemory}
 
 pub data Plan : Type 0 where
-  Stays : (x : UpNode) → Plan                        -- the node is up so
-  Falls : (why : DownCause) → Plan                   -- it goes down
-  Says : (os : List Output) → (rest : Plan) → Plan   -- it gives these, then ..
-  Saves : (r : NodeRecord) → (rest : Plan) → Plan    -- it saves this record, then ..
+  Stays : (x : UpNode) → Plan  -- the node is up so
+  Falls : (why : DownCause) → Plan  -- it goes down
+  Says : (os : List Output) → (rest : Plan) → Plan  -- it gives these, then ..
+  Saves : (r : NodeRecord) → (rest : Plan) → Plan  -- it saves this record, then ..
 
 -- a plan, and what follows where the node is up after it
 abbrev pub and_then : Plan → (UpNode → Plan) → Plan

@@ -29,7 +29,10 @@ impl Cluster {
     pub fn has_path(&self, n: NodeId, d: DevId) -> bool
         ensures value { result ≡ has_path self.now.attached n d }
     {
-        self.attached.items().iter().any(|a| a.device == d && a.nodes.has(n))
+        self.attached
+            .items()
+            .iter()
+            .any(|a| a.device == d && a.nodes.has(n))
     }
 
     /// Whether each of these nodes is there.

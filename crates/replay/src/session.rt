@@ -13,7 +13,8 @@ use crate::task::Task;
 use cl_base::{Header, Version};
 use pgr_device::Pgr;
 use schedule_text::{
-    ClusterLine, Event, Head, HeaderReader, Kind, PrLine, ReadError, SoFar, read_cluster_line, read_pr_line,
+    ClusterLine, Event, Head, HeaderReader, Kind, PrLine, ReadError, SoFar, read_cluster_line,
+    read_pr_line,
 };
 use status_report::{print_answer, print_powered};
 use std::alloc::Global;
@@ -121,9 +122,7 @@ fn is_not_built(task: Task, line: &[u8]) -> bool
     ensures { result ≡ is_not_built task line.now }
 {
     match task {
-        Task::Run => {
-            line == b"schedule cluster 2".as_slice()
-        }
+        Task::Run => { line == b"schedule cluster 2".as_slice() }
         Task::Check => false,
     }
 }
@@ -226,12 +225,7 @@ fn moved_on(header: &Header, so_far: SoFar, event: &Event) -> SoFar
 
 /// Reads a line of a reservation schedule, and replays it. It takes memory only where the text has no
 /// room for the answer.
-fn replay(
-    device: &mut Pgr,
-    line: &[u8],
-    text: &mut Vec<u8>,
-    words: &mut String,
-) -> Result<(), Stop>
+fn replay(device: &mut Pgr, line: &[u8], text: &mut Vec<u8>, words: &mut String) -> Result<(), Stop>
     ensures { Answers result (replayed device.old (pr_line_of line.now)) (Reading (Replaying device.new)) text.old.items text.new.items }
 {
     match read_pr_line(line)? {
@@ -303,7 +297,10 @@ fn is_later(event: &Event) -> bool
     ensures { result ≡ is_later event.now }
 {
     match event {
-        Event::Command { .. } | Event::Outcome { .. } | Event::Probe { .. } | Event::Client { .. } => true,
+        Event::Command { .. }
+        | Event::Outcome { .. }
+        | Event::Probe { .. }
+        | Event::Client { .. } => true,
         _ => false,
     }
 }

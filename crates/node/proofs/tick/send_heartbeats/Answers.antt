@@ -6,5 +6,7 @@ use Rattle.node.proofs.tick.send_heartbeats.Goals as goal
 
 pub returns : goal.returns
 returns c =
-    record { sent = sent_to c.args.up.now c.send_to_each.result c.args.out.now.items c.send_to_each.new.out.items c.deref.result.now c.receivers.result _
-        (c.deref.ensures.value ∙ c.in_ok-receivers.ensures.value) c.receivers.ensures.value c.send_to_each.ensures.sent }
+    record {
+      sent = sent_to c.args.up.now c.send_to_each.result c.args.out.now.items c.send_to_each.new.out.items c.deref.result.now c.receivers.result _
+          (c.deref.ensures.value ∙ c.in_ok-receivers.ensures.value) c.receivers.ensures.value c.send_to_each.ensures.sent;
+    }
