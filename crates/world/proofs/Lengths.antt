@@ -1,5 +1,5 @@
 -- A message of a packet's size is short enough to be spelled.
-use Rattle.std.proofs.Common.{◌≡◌, ℕ, ◌+◌, ◌*◌, ◌≤◌, ◌<◌, nat_le, false, inl, inr, List, [], ◌∷◌, length, Option, None, Some, IfSome, arith}
+use Rattle.std.proofs.Common.{◌≡◌, ℕ, ◌*◌, ◌≤◌, ◌<◌, nat_le, false, inl, inr, List, [], ◌∷◌, length, Option, None, Some, IfSome, arith}
 use Rattle.std.proofs.lemmas.Bool.{cases_lt, lt-leb}
 use Rattle.std.specs.List.{sum_by, AllByRecursion}
 use Rattle.std.specs.Option.{option_to_list}
@@ -12,7 +12,7 @@ use Rattle.wire.specs.declared.report.GroupReport.{GroupReport}
 use Rattle.wire.specs.declared.message.Body.{Body}
 use Rattle.wire.specs.declared.message.Body.TheVariants as body
 use Rattle.wire.specs.declared.message.Message.{Message}
-use Rattle.wire.specs.Lengths.{text_length, list_length, updates_length, reading_length, resource_length, group_length, result_length, fields_length}
+use Rattle.wire.specs.Lengths.{text_length, list_length, reading_length, resource_length, group_length, result_length, fields_length}
 use Rattle.wire.specs.Spelling.{spelling, IsShort, IsShortText, IsShortList, IsShortReading, IsShortResource, IsShortGroup, IsShortResult}
 use Rattle.wire.proofs.Lengths.{spellings}
 

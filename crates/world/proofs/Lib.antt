@@ -4,3 +4,5 @@ pub mod Removals
 pub mod Brings
 pub mod Each
 pub mod Commands
+pub mod DeviceLists
+pub mod FirstWorlds

@@ -1,10 +1,9 @@
 -- Nodes at devices.
-use Rattle.std.specs.Prelude.{ℕ, ◌+◌, ◌-◌, ◌*◌, Bool, true, false, List, Option, None, Some, Result, Ok, Err, length, slice_get, slice_set, slice_index_or, if◌then◌else◌}
+use Rattle.std.specs.Prelude.{ℕ, ◌+◌, ◌-◌, ◌*◌, Bool, true, false, Option, None, Some, Result, Ok, Err, length, slice_get, slice_set, slice_index_or, if◌then◌else◌}
 use Rattle.std.specs.Option.{option_and_then}
 use Rattle.device_queue.specs.Queue.{due_device, next_of}
 use Rattle.pgr_device.specs.declared.command.PrCommand.{PrCommand}
 use Rattle.pgr_device.specs.declared.command.PrCommand.TheVariants as command
-use Rattle.pgr_device.specs.declared.port.Failed.{Failed}
 use Rattle.pgr_device.specs.Device.{Device}
 use Rattle.pgr_device.specs.Spc as spc
 use Rattle.seize.specs.Answers.{Answer}

@@ -4,3 +4,4 @@ pub mod Packets
 pub mod Devices
 pub mod Rounds
 pub mod Lines
+pub mod First

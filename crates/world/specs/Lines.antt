@@ -1,5 +1,5 @@
 -- What a line of the schedule comes to.
-use Rattle.std.specs.Prelude.{ℕ, ◌≤◌, ◌-◌, List, Option, None, Some, slice_get, slice_set, if◌then◌else◌}
+use Rattle.std.specs.Prelude.{ℕ, ◌≤◌, ◌-◌, Option, None, Some, slice_get, slice_set, if◌then◌else◌}
 use Rattle.local_disk.specs.declared.memory.Choice.{Choice}
 use Rattle.local_disk.specs.declared.memory.Choice.TheVariants as left
 use Rattle.record_disk.specs.Disks as disks

@@ -3,7 +3,6 @@ use Rattle.std.specs.Prelude.{ℕ, ◌-◌, ◌^◌, ◌&&◌, nat_le, nat_lt, B
 use Rattle.cl_base.specs.declared.packet.DropCause.{DropCause}
 use Rattle.cl_base.specs.declared.packet.MessageName.{MessageName}
 use Rattle.interconnect.specs.Links.{Links, Outcome as Sending, sending}
-use Rattle.interconnect.specs.declared.packet.Sent.{Sent}
 use Rattle.record_disk.specs.Disks as disks
 use Rattle.record_disk.specs.Disks.{DiskState}
 use Rattle.status_report.specs.declared.entry.Entry.TheVariants as entry

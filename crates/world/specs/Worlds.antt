@@ -1,5 +1,5 @@
 -- The simulated cluster, and the text of its trace.
-use Rattle.std.specs.Prelude.{ℕ, ◌+◌, ◌-◌, ◌*◌, ◌++◌, Bool, true, false, List, [], ◌∷◌, Option, None, Some, length, slice_get, slice_set, if◌then◌else◌}
+use Rattle.std.specs.Prelude.{ℕ, ◌-◌, ◌++◌, Bool, true, false, List, Option, None, Some, slice_get}
 use Rattle.interconnect.specs.Links.{Links}
 use Rattle.pgr_device.specs.Device.{Device}
 use Rattle.record_disk.specs.Disks.{DiskState}

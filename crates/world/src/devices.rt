@@ -5,8 +5,8 @@ ghost use Rattle.pgr_device.specs.Keys.{HasNoZeroKey};
 ghost use Rattle.world.specs.Devices.{commanded, doing_command, due, due_of, executed, fault_at, fault_place, with_fault, writing};
 ghost use Rattle.world.specs.Worlds.{play};
 
-use crate::telling::tell;
 use crate::packets::skip;
+use crate::telling::tell;
 use crate::world::World;
 use cl_base::{DevId, NodeId};
 use node::{Input, may_write};
@@ -105,12 +105,16 @@ impl World {
             return skip(alloc, out, SkipCause::Down);
         };
         if let Err(cause) = may_write(&self.cluster, n, &up.seat, d) {
-            tell(alloc, out, Entry::Device(DeviceEntry::Refused {
-                node: n,
-                device: d,
-                value,
-                cause,
-            }))?;
+            tell(
+                alloc,
+                out,
+                Entry::Device(DeviceEntry::Refused {
+                    node: n,
+                    device: d,
+                    value,
+                    cause,
+                }),
+            )?;
             return Ok(());
         }
         let answer = self.command(n, d, PrCommand::Write { value });

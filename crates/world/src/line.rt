@@ -7,8 +7,8 @@ ghost use Rattle.world.specs.Devices.{on_disk};
 ghost use Rattle.world.specs.Lines.{IsPlayable, booting, giving_up, left_by, line_on, on_packets, with_stop};
 ghost use Rattle.world.specs.Worlds.{play};
 
-use crate::telling::tell;
 use crate::packets::skip;
+use crate::telling::tell;
 use crate::world::World;
 use cl_base::NodeId;
 use local_disk::Choice;
@@ -99,12 +99,7 @@ impl World {
         }
     }
 
-    fn boot(
-        &mut self,
-        alloc: Global,
-        n: NodeId,
-        out: &mut Vec<u8>,
-    ) -> Result<(), AllocError>
+    fn boot(&mut self, alloc: Global, n: NodeId, out: &mut Vec<u8>) -> Result<(), AllocError>
         ensures { OnOk result (play self.new out.new.items ≡ booting n (play self.old out.old.items)) }
     {
         if self.is_up(n) {
@@ -131,12 +126,7 @@ impl World {
     }
 
     /// The node does its next queued command.
-    fn disk(
-        &mut self,
-        alloc: Global,
-        n: NodeId,
-        out: &mut Vec<u8>,
-    ) -> Result<(), AllocError>
+    fn disk(&mut self, alloc: Global, n: NodeId, out: &mut Vec<u8>) -> Result<(), AllocError>
         ensures { OnOk result (play self.new out.new.items ≡ on_disk n (play self.old out.old.items)) }
     {
         if !self.is_up(n) {

@@ -1,4 +1,11 @@
 // The world before the first line.
+ghost use Rattle.std.specs.Prelude.{◌≡◌, ◌≤◌, ◌<◌, ◌+◌, ◌*◌, length, map, replicate, None, IfOk};
+ghost use Rattle.cl_base.specs.Limits.{most_devices, most_nodes};
+ghost use Rattle.cl_base.specs.Numbers.{first_numbers};
+ghost use Rattle.node_model.specs.declared.node.Node.TheVariants.{Down};
+ghost use Rattle.record_disk.specs.Disks.{empty_disk};
+ghost use Rattle.world.specs.First.{attached_from, first_cluster, first_device, first_world, quorum_devices, with_quorum};
+
 use crate::world::World;
 use cl_base::{DevId, DevSet, DeviceKind, Header, HeaderDevice, NodeSet};
 use cmm_attempt::{AttachedDevice, AttachedDevices};
@@ -18,51 +25,89 @@ const MOST: usize = 131_072;
 impl World {
     /// The world that the header tells of: all nodes are down with empty disks, and each quorum device
     /// has the keys of its attached nodes registered. All memory that the links ever need is taken.
-    pub fn new(alloc: Global, header: &Header) -> Result<World, AllocError> {
+    pub fn new(alloc: Global, header: &Header) -> Result<World, AllocError>
+        requires nodes { header.now.nodes ≤ most_nodes }
+        requires devices { length header.now.devices ≤ most_devices }
+        ensures first { IfOk result (λ world. world ≡ first_world header.now 65536) }
+    {
         World::with_cells(alloc, header, CELLS)
     }
 
     /// The same, with so many cells for packets.
-    pub fn with_cells(alloc: Global, header: &Header, cells: u64) -> Result<World, AllocError> {
-        let first_valid = quorum_devices(header.devices.items());
-        let count = header.devices.items().len();
-        let cluster = Cluster {
-            id: header.cluster,
-            nodes: NodeSet::first(header.nodes),
-            configured: header.configured,
-            devices: all_devices(header.devices.items()),
-            attached: attached_devices(alloc, header.devices.items())?,
-            first_valid,
-            votes: Votes::first(header),
-        };
+    pub fn with_cells(alloc: Global, header: &Header, cells: u64) -> Result<World, AllocError>
+        requires nodes { header.now.nodes ≤ most_nodes }
+        requires devices { length header.now.devices ≤ most_devices }
+        ensures first { IfOk result (λ world. world ≡ first_world header.now cells) }
+    {
+        let cluster = first_cluster(alloc, header)?;
         Ok(World {
-            cluster,
             nodes: down_nodes(alloc, header.nodes)?,
-            disks: empty_disks(alloc, header.nodes, first_valid)?,
+            disks: empty_disks(alloc, header.nodes, cluster.first_valid)?,
+            cluster,
             devices: first_devices(alloc, header)?,
-            faults: vec![in alloc; None; header.nodes as usize * count]?,
+            faults: no_faults(alloc, header.nodes, header.devices.items().len())?,
             links: Net::new(alloc, cells)?,
             bytes: vec![in alloc; 0; MOST]?,
         })
     }
 }
 
-fn quorum_devices(devices: &[HeaderDevice]) -> DevSet {
+/// What the nodes know of the cluster.
+fn first_cluster(alloc: Global, header: &Header) -> Result<Cluster, AllocError>
+    requires nodes { header.now.nodes ≤ most_nodes }
+    requires devices { length header.now.devices ≤ most_devices }
+    ensures { IfOk result (λ cluster. cluster ≡ first_cluster header.now) }
+{
+    let devices = header.devices.items();
+    let attached = attached_devices(alloc, devices)?;
+    Ok(Cluster {
+        id: header.cluster,
+        nodes: NodeSet::first(header.nodes),
+        configured: header.configured,
+        devices: all_devices(devices.len()),
+        attached: AttachedDevices::new(attached),
+        first_valid: quorum_devices(devices),
+        votes: Votes::first(header),
+    })
+}
+
+fn quorum_devices(devices: &[HeaderDevice]) -> DevSet
+    requires few { length devices.now ≤ most_devices }
+    ensures { result ≡ quorum_devices devices.now }
+{
     let mut set = DevSet::empty();
-    for (index, device) in devices.iter().enumerate() {
-        if let (DeviceKind::Quorum, Ok(d)) = (device.kind, DevId::new(index as u64 + 1)) {
-            set = set.with(d);
-        }
+    for index in 0..devices.len() {
+        set = with_quorum(devices[index].kind, device_at(index), set);
     }
     set
 }
 
-fn all_devices(devices: &[HeaderDevice]) -> DevSet {
+/// The set, and the device if it is a quorum device.
+fn with_quorum(kind: DeviceKind, device: DevId, set: DevSet) -> DevSet
+    ensures { result ≡ with_quorum kind device set }
+{
+    match kind {
+        DeviceKind::Quorum => set.with(device),
+        DeviceKind::Data | DeviceKind::Server => set,
+    }
+}
+
+/// The device at this place of the header.
+fn device_at(index: usize) -> DevId
+    requires within { index < most_devices }
+    ensures { result ≡ index + 1 }
+{
+    DevId::new(index as u64 + 1).unwrap()
+}
+
+/// So many devices.
+fn all_devices(count: usize) -> DevSet
+    requires few { count ≤ most_devices }
+    ensures { result ≡ first_numbers count }
+{
     let mut set = DevSet::empty();
-    for index in 0..devices.len() {
-        if let Ok(d) = DevId::new(index as u64 + 1) {
-            set = set.with(d);
-        }
+    for index in 0..count {
+        set = set.with(device_at(index));
     }
     set
 }
@@ -70,20 +115,23 @@ fn all_devices(devices: &[HeaderDevice]) -> DevSet {
 fn attached_devices(
     alloc: Global,
     devices: &[HeaderDevice],
-) -> Result<AttachedDevices, AllocError> {
+) -> Result<Vec<AttachedDevice>, AllocError>
+    requires few { length devices.now ≤ most_devices }
+    ensures { IfOk result (λ attached. attached.items ≡ attached_from 1 devices.now) }
+{
     let mut attached = Vec::new(alloc);
-    for (index, device) in devices.iter().enumerate() {
-        if let Ok(d) = DevId::new(index as u64 + 1) {
-            attached.push(AttachedDevice {
-                device: d,
-                nodes: device.attached,
-            })?;
-        }
+    for index in 0..devices.len() {
+        attached.push(AttachedDevice {
+            device: device_at(index),
+            nodes: devices[index].attached,
+        })?;
     }
-    Ok(AttachedDevices::new(attached))
+    Ok(attached)
 }
 
-fn down_nodes(alloc: Global, count: u64) -> Result<Vec<Node>, AllocError> {
+fn down_nodes(alloc: Global, count: u64) -> Result<Vec<Node>, AllocError>
+    ensures { IfOk result (λ nodes. nodes.items ≡ replicate count Down) }
+{
     let mut nodes = Vec::new(alloc);
     for _ in 0..count {
         nodes.push(Node::Down)?;
@@ -95,7 +143,9 @@ fn empty_disks(
     alloc: Global,
     count: u64,
     first_valid: DevSet,
-) -> Result<Vec<SimulatedDisk>, AllocError> {
+) -> Result<Vec<SimulatedDisk>, AllocError>
+    ensures { IfOk result (λ disks. disks.items ≡ replicate count (empty_disk first_valid)) }
+{
     let mut disks = Vec::new(alloc);
     for _ in 0..count {
         disks.push(SimulatedDisk::new(alloc, first_valid)?)?;
@@ -103,19 +153,31 @@ fn empty_disks(
     Ok(disks)
 }
 
-fn first_devices(alloc: Global, header: &Header) -> Result<Vec<Pgr>, AllocError> {
+fn first_devices(alloc: Global, header: &Header) -> Result<Vec<Pgr>, AllocError>
+    ensures { IfOk result (λ devices. devices.items ≡ map (first_device header.now) header.now.devices) }
+{
+    let listed = header.devices.items();
     let mut devices = Vec::new(alloc);
-    for device in header.devices.items() {
+    for device in listed {
         devices.push(first_device(header, device))?;
     }
     Ok(devices)
 }
 
-fn first_device(header: &Header, device: &HeaderDevice) -> Pgr {
+fn no_faults(alloc: Global, nodes: u64, devices: usize) -> Result<Vec<Option<bool>>, AllocError>
+    requires nodes { nodes ≤ most_nodes }
+    requires devices { devices ≤ most_devices }
+    ensures { IfOk result (λ faults. faults.items ≡ replicate (nodes * devices) None) }
+{
+    let faults = vec![in alloc; None; nodes as usize * devices]?;
+    Ok(faults)
+}
+
+fn first_device(header: &Header, device: &HeaderDevice) -> Pgr
+    ensures { result ≡ first_device header.now device.now }
+{
     match device.kind {
-        DeviceKind::Quorum => {
-            Pgr::with_keys(device.attached, header.configured, header.cluster)
-        }
+        DeviceKind::Quorum => { Pgr::with_keys(device.attached, header.configured, header.cluster) }
         DeviceKind::Data | DeviceKind::Server => Pgr::new(device.attached),
     }
 }

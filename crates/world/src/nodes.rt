@@ -90,7 +90,11 @@ impl World {
         };
         tell(alloc, out, Entry::Packet(entry))?;
         if let Some((number, cause)) = sent.dropped {
-            tell(alloc, out, Entry::Packet(PacketEntry::Dropped { number, cause }))?;
+            tell(
+                alloc,
+                out,
+                Entry::Packet(PacketEntry::Dropped { number, cause }),
+            )?;
         }
         Ok(())
     }
@@ -114,7 +118,15 @@ fn step_in(
         return Ok(given);
     }
     let node = mem::replace(&mut nodes[place], Node::Down);
-    let after = step(alloc, cluster, me, &mut disks[place], node, input, &mut given)?;
+    let after = step(
+        alloc,
+        cluster,
+        me,
+        &mut disks[place],
+        node,
+        input,
+        &mut given,
+    )?;
     nodes[place] = after;
     Ok(given)
 }

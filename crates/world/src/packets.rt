@@ -57,9 +57,17 @@ impl World {
         let Delivery { from, to, .. } = delivery;
         if !self.is_up(to) {
             let cause = DropCause::Down;
-            return tell(alloc, out, Entry::Packet(PacketEntry::Dropped { number, cause }));
+            return tell(
+                alloc,
+                out,
+                Entry::Packet(PacketEntry::Dropped { number, cause }),
+            );
         }
-        tell(alloc, out, Entry::Packet(PacketEntry::Delivered { number, from, to }))?;
+        tell(
+            alloc,
+            out,
+            Entry::Packet(PacketEntry::Delivered { number, from, to }),
+        )?;
         match message {
             Some(message) => self.give(alloc, to, Input::Packet { from, message }, out),
             None => Ok(()),
@@ -68,7 +76,12 @@ impl World {
 
     /// The packet of this number, if there is one, is lost.
     #[tactic(auto, using(crate::proofs::Removals::none_removed))]
-    pub(crate) fn lose(&mut self, alloc: Global, number: u64, out: &mut Vec<u8>) -> Result<(), AllocError>
+    pub(crate) fn lose(
+        &mut self,
+        alloc: Global,
+        number: u64,
+        out: &mut Vec<u8>,
+    ) -> Result<(), AllocError>
         ensures { OnOk result (play self.new out.new.items ≡ losing number (play self.old out.old.items)) }
     {
         match self.links.lose(number) {
@@ -81,7 +94,12 @@ impl World {
     }
 
     /// The packet of this number, if there is one, is sent once more.
-    pub(crate) fn repeat(&mut self, alloc: Global, number: u64, out: &mut Vec<u8>) -> Result<(), AllocError>
+    pub(crate) fn repeat(
+        &mut self,
+        alloc: Global,
+        number: u64,
+        out: &mut Vec<u8>,
+    ) -> Result<(), AllocError>
         ensures { OnOk result (play self.new out.new.items ≡ repeating_one number (play self.old out.old.items)) }
     {
         let copy = self.links.next_number();
@@ -94,9 +112,17 @@ impl World {
         let Ok(sent) = self.links.repeat(number) else {
             return skip(alloc, out, SkipCause::NoPacket);
         };
-        tell(alloc, out, Entry::Packet(PacketEntry::Repeated { number, copy }))?;
+        tell(
+            alloc,
+            out,
+            Entry::Packet(PacketEntry::Repeated { number, copy }),
+        )?;
         if let Some((number, cause)) = sent.dropped {
-            tell(alloc, out, Entry::Packet(PacketEntry::Dropped { number, cause }))?;
+            tell(
+                alloc,
+                out,
+                Entry::Packet(PacketEntry::Dropped { number, cause }),
+            )?;
         }
         Ok(())
     }

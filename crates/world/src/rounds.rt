@@ -125,12 +125,7 @@ impl World {
 
     /// The node does its queued commands until none is left.
     #[tactic(auto, unfolding(crate::specs::Rounds::doing_all))]
-    fn do_commands(
-        &mut self,
-        alloc: Global,
-        n: NodeId,
-        out: &mut Vec<u8>,
-    ) -> Result<(), AllocError>
+    fn do_commands(&mut self, alloc: Global, n: NodeId, out: &mut Vec<u8>) -> Result<(), AllocError>
         ensures { OnOk result (play self.new out.new.items ≡ doing_all n (play self.old out.old.items)) }
     {
         self.do_some(alloc, n, COMMANDS, out)
@@ -169,12 +164,7 @@ impl World {
         Ok(())
     }
 
-    fn tick_one(
-        &mut self,
-        alloc: Global,
-        n: NodeId,
-        out: &mut Vec<u8>,
-    ) -> Result<(), AllocError>
+    fn tick_one(&mut self, alloc: Global, n: NodeId, out: &mut Vec<u8>) -> Result<(), AllocError>
         ensures { OnOk result (play self.new out.new.items ≡ ticking_one n (play self.old out.old.items)) }
     {
         if self.is_up(n) {

@@ -1,0 +1,21 @@
+-- The world before the first line, from its parts.
+use Rattle.std.proofs.Common.{◌≡◌, ℕ, ◌*◌, Bool, List, Option, None, length, map, replicate, refl, ap, ◌∙◌}
+use Rattle.cl_base.specs.declared.header.Header.{Header}
+use Rattle.cl_base.specs.declared.header.HeaderDevice.{HeaderDevice}
+use Rattle.interconnect.specs.Links.{Links}
+use Rattle.node_model.specs.declared.cluster.Cluster.{Cluster}
+use Rattle.node_model.specs.declared.node.Node.{Node}
+use Rattle.node_model.specs.declared.node.Node.TheVariants.{Down}
+use Rattle.pgr_device.specs.Device.{Device}
+use Rattle.record_disk.specs.Disks.{DiskState, empty_disk}
+use Rattle.world.specs.First.{first_cluster, first_device, first_links, first_world}
+use Rattle.world.specs.Worlds.{WorldState}
+
+pub made : (h : Header) (cells : ℕ) (cluster : Cluster) (nodes : List Node) (disks : List DiskState) (devices : List Device) (faults : List (Option Bool)) (links : Links) (listed : List HeaderDevice)
+    → cluster ≡ first_cluster h → nodes ≡ replicate h.nodes Down → disks ≡ replicate h.nodes (empty_disk cluster.first_valid)
+    → devices ≡ map (first_device h) h.devices → listed ≡ h.devices → faults ≡ replicate (h.nodes * length listed) None → links ≡ first_links cells
+    → (let w : WorldState = record { cluster = cluster; nodes = nodes; disks = disks; devices = devices; faults = faults; links = links } in w ≡ first_world h cells)
+unfolding first_world
+made h cells cluster nodes disks devices faults links listed a b d e i f g =
+    let d' : disks ≡ replicate h.nodes (empty_disk (first_cluster h).first_valid) = d ∙ ap (λ (c : Cluster). replicate h.nodes (empty_disk c.first_valid)) a in
+    rw (a, b, d', e, f, i, g) refl
