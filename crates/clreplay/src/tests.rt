@@ -1,11 +1,15 @@
 ghost use Rattle.std.specs.Prelude.{Some};
 
-use cl_base::Agent;
+use cl_base::{
+    Agent, DevId, DeviceKind, Header, HeaderDevice, HeaderDevices, NodeId, NodeSet, Version,
+};
 use cl_io::{Failed, MemSink, MemSource, Sink, Source};
 use replay::{Status, run_words};
+use schedule_text::Event;
 use std::alloc::Global;
 use std::process::Abort;
 use std::test::Fail;
+use world::World;
 
 /// A source that gives one byte at a time.
 #[derive(Drop)]
@@ -169,4 +173,38 @@ fn faults_are_told(rt: HostRuntime) -> Result<(), Fail> {
         b"good\ngood\ngo",
         Status::WriteFault,
     )
+}
+
+/// With one cell of 256 bytes for all packets node 1, which ticks first, never hears node 2: its
+/// heartbeats find no room. So it forms a membership alone.
+#[test]
+fn one_cell(rt: HostRuntime) -> Result<(), Fail> {
+    let alloc = rt.alloc();
+    let (one, two) = (NodeId::new(1)?, NodeId::new(2)?);
+    let nodes = NodeSet::empty().with(one).with(two);
+    let device = HeaderDevice {
+        kind: DeviceKind::Quorum,
+        attached: nodes,
+    };
+    let header = Header {
+        version: Version::One,
+        cluster: 0x2a,
+        nodes: 2,
+        configured: nodes,
+        devices: HeaderDevices::new(vec![in alloc; device]?),
+    };
+    let mut world = World::with_cells(alloc, &header, 1)?;
+    let mut text = Vec::new(alloc);
+    let device = DevId::new(1)?;
+    world.step(alloc, &Event::Boot(one), &mut text)?;
+    world.step(alloc, &Event::Boot(two), &mut text)?;
+    world.step(alloc, &Event::Rounds { count: 60, nodes }, &mut text)?;
+    let write = Event::Write {
+        node: two,
+        device,
+        value: 5,
+    };
+    world.step(alloc, &write, &mut text)?;
+    assert!(rt; text.ends_with(b"rounds done\nwrite 2 1 5 refused not-member\n".as_slice()));
+    Ok(())
 }
