@@ -5,3 +5,4 @@ pub mod Pieces
 pub mod Replays
 pub mod Rounds
 pub mod Texts
+pub mod Fronts

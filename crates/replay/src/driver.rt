@@ -1,5 +1,7 @@
-ghost use Rattle.std.specs.Prelude.{◌≡◌, ◌↔◌, map, None, Some};
-ghost use Rattle.std.specs.Io.KnownBytes.{Keeps};
+ghost use Rattle.std.specs.Prelude.{◌≡◌, ◌≤◌, ◌↔◌, length, map, None, Some, OnOk};
+ghost use Rattle.std.specs.Io.{ReadsAtMost};
+ghost use Rattle.std.specs.Io.KnownBytes.{Keeps, ReadConsumes};
+ghost use Rattle.cl_io.specs.Causes.{HasCause};
 ghost use Rattle.std.specs.String.{string_bytes};
 ghost use Rattle.replay.specs.declared.task.Task.{Task};
 ghost use Rattle.replay.specs.Runs.{IsRun};
@@ -12,10 +14,10 @@ use crate::status::Status;
 use crate::stop::Stop;
 use crate::task::{Task, read_task};
 use cl_base::Agent;
-use cl_io::{Sink, Source, write_all};
+use cl_io::{Failed, Sink, Source, write_all};
 use std::alloc::Global;
 
-/// How many bytes are asked of the source at once.
+/// The most bytes that are asked of the source at once.
 const PIECE: usize = 4_096;
 
 /// Does what the words ask for: replays the schedule that the source gives and writes the trace to
@@ -58,7 +60,8 @@ fn run<S: Source, K: Sink>(alloc: Global, task: Task, source: &mut S, sink: &mut
     let mut reader = reader;
     let mut buffer = [0; PIECE];
     'pieces: loop {
-        let count = match source.read_piece(&mut buffer) {
+        let size = reader.piece_size();
+        let count = match read_some(source, &mut buffer, size) {
             Ok(count) => count,
             Err(_) => return Status::ReadFault,
         };
@@ -74,6 +77,20 @@ fn run<S: Source, K: Sink>(alloc: Global, task: Task, source: &mut S, sink: &mut
             Err(_) => return Status::WriteFault,
         }
     }
+}
+
+/// The next piece of the input, of so many bytes at most, comes to the front of the buffer.
+#[tactic(auto, using(crate::proofs::Fronts::consumes_front, crate::proofs::Fronts::reads_front))]
+fn read_some<S: Source>(source: &mut S, buffer: &mut [u8], size: usize) -> Result<usize, Failed>
+    requires room { size ≤ length buffer.old }
+    requires some { 1 ≤ size }
+    ensures length { length buffer.new ≡ length buffer.old }
+    ensures bound { ReadsAtMost result buffer.new }
+    ensures bytes { ReadConsumes (S.left source.old) (S.left source.new) result buffer.new }
+    ensures cause { HasCause (S.faults source.old) (S.faults source.new) result }
+    ensures same { OnOk result (S.faults source.new ≡ S.faults source.old) }
+{
+    source.read_piece(&mut buffer[..size])
 }
 
 /// Writes the text that is left, with the closing line, where the stop has one, and tells the status.

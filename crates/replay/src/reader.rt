@@ -5,7 +5,7 @@ ghost use Rattle.replay.specs.declared.session.State.TheVariants.{Heading};
 ghost use Rattle.replay.specs.Outcomes.{at_end};
 ghost use Rattle.replay.specs.Readers.{IsReader, TakesLine, TakesBytes, TakesLast, Stops, EndsWith, with_more, room};
 
-use crate::session::{State, answer, enter};
+use crate::session::{Body, State, answer, enter};
 use crate::stop::Stop;
 use crate::task::Task;
 use schedule_text::{HeaderReader, Kind};
@@ -54,6 +54,18 @@ impl Reader {
             text: Vec::with_capacity(alloc, TEXT)?,
             words: String::with_capacity(alloc, WORDS)?,
         })
+    }
+
+    /// How many bytes the next piece is to have at most. A line of a cluster schedule may write much, and
+    /// what the lines of a piece write is kept until all are answered.
+    pub fn piece_size(&self) -> usize
+        ensures some { 1 ≤ result }
+        ensures most { result ≤ 4096 }
+    {
+        match &self.state {
+            State::Reading(Body::Clustering { .. }) => 64,
+            _ => 4_096,
+        }
     }
 
     /// Takes the next piece of the input: answers each line that ends in it, and keeps the
