@@ -1,11 +1,18 @@
 ghost use Rattle.std.specs.Prelude.{Some};
 
 use cl_base::{
-    Agent, DevId, DeviceKind, Header, HeaderDevice, HeaderDevices, NodeId, NodeSet, Version,
+    Agent, DevId, DevSet, DeviceKind, Header, HeaderDevice, HeaderDevices, NodeId, NodeSet, Panic,
+    Version,
 };
 use cl_io::{Failed, MemSink, MemSource, Sink, Source};
+use cmm_attempt::AttachedDevices;
+use node::{Input, step};
+use node_model::{Cluster, Node, Output};
+use quorum_votes::Votes;
+use record_disk::SimulatedDisk;
 use replay::{Status, run_words};
 use schedule_text::Event;
+use status_report::{DownCause, Entry, NodeEntry};
 use std::alloc::Global;
 use std::process::Abort;
 use std::test::Fail;
@@ -206,5 +213,80 @@ fn one_cell(rt: HostRuntime) -> Result<(), Fail> {
     };
     world.step(alloc, &write, &mut text)?;
     assert!(rt; text.ends_with(b"rounds done\nwrite 2 1 5 refused not-member\n".as_slice()));
+    Ok(())
+}
+
+/// What a cluster of this node alone knows, without a device.
+fn cluster_of(alloc: Global, me: NodeId) -> Cluster {
+    let nodes = NodeSet::empty().with(me);
+    let header = Header {
+        version: Version::One,
+        cluster: 0x2a,
+        nodes: 1,
+        configured: nodes,
+        devices: HeaderDevices::new(Vec::new(alloc)),
+    };
+    Cluster {
+        id: 0x2a,
+        nodes,
+        configured: nodes,
+        devices: DevSet::empty(),
+        attached: AttachedDevices::new(Vec::new(alloc)),
+        first_valid: DevSet::empty(),
+        votes: Votes::first(&header),
+    }
+}
+
+fn is_disk_panic(output: &Output) -> bool {
+    match output {
+        Output::Tells(Entry::Node { entry, .. }) => {
+            matches!(entry, NodeEntry::Down(DownCause::Panic(Panic::Disk)))
+        }
+        _ => false,
+    }
+}
+
+/// The first save of a node fails that came up with one disk and has another now, which was not mounted.
+#[test]
+fn failed_disk(rt: HostRuntime) -> Result<(), Fail> {
+    let alloc = rt.alloc();
+    let me = NodeId::new(1)?;
+    let cluster = cluster_of(alloc, me);
+    let mut disk = SimulatedDisk::new(alloc, DevSet::empty())?;
+    let mut other = SimulatedDisk::new(alloc, DevSet::empty())?;
+    let mut given = Vec::new(alloc);
+    let mut node = step(
+        alloc,
+        &cluster,
+        me,
+        &mut disk,
+        Node::Down,
+        Input::Boot,
+        &mut given,
+    )?;
+    for _ in 0..2 {
+        let mut given = Vec::new(alloc);
+        node = step(
+            alloc,
+            &cluster,
+            me,
+            &mut other,
+            node,
+            Input::Tick,
+            &mut given,
+        )?;
+    }
+    let mut given = Vec::new(alloc);
+    let node = step(
+        alloc,
+        &cluster,
+        me,
+        &mut other,
+        node,
+        Input::Tick,
+        &mut given,
+    )?;
+    assert!(rt; matches!(node, Node::Down));
+    assert!(rt; given.iter().any(is_disk_panic));
     Ok(())
 }
