@@ -1,2 +1,3 @@
 pub mod FirstNumbers
+pub mod NameLemmas
 pub mod SetLemmas
