@@ -4,4 +4,5 @@ pub mod Frames
 pub mod Fills
 pub mod Whole
 pub mod Moves
-pub mod Made
+pub mod Makes
+pub mod All

@@ -23,11 +23,11 @@ fn overwrite(cell: &mut [u8; 256], piece: &[u8])
 /// Writes the bytes into the cells of a chain, and gives the cell that comes after it.
 pub(crate) fn fill(
     cells: &mut [[u8; 256]],
-    links: &[usize],
-    first: usize,
+    links: &[u32],
+    first: u32,
     count: usize,
     bytes: &[u8],
-) -> usize
+) -> u32
     requires inside_cells { (c : ℕ) → 0 < times c (walk links.now first count) → c < length cells.old }
     requires inside_links { (c : ℕ) → 0 < times c (walk links.now first count) → c < length links.now }
     ensures cells { cells.new ≡ filled cells.old (walk links.now first count) bytes.now }
@@ -38,9 +38,9 @@ pub(crate) fn fill(
     let mut done = 0;
     while left > 0 {
         let part = (bytes.len() - done).min(CELL);
-        overwrite(&mut cells[cell], &bytes[done..done + part]);
+        overwrite(&mut cells[cell as usize], &bytes[done..done + part]);
         done += part;
-        cell = links[cell];
+        cell = links[cell as usize];
         left -= 1;
     }
     cell
@@ -57,8 +57,8 @@ fn copy_piece(out: &mut [u8], at: usize, piece: &[u8])
 /// Copies so many bytes of a chain of so many cells to the front of `out`.
 pub(crate) fn copy_out(
     cells: &[[u8; 256]],
-    links: &[usize],
-    first: usize,
+    links: &[u32],
+    first: u32,
     count: usize,
     size: usize,
     out: &mut [u8],
@@ -74,15 +74,15 @@ pub(crate) fn copy_out(
     let mut done = 0;
     while left > 0 {
         let part = (size - done).min(CELL);
-        copy_piece(out, done, &cells[cell][..part]);
+        copy_piece(out, done, &cells[cell as usize][..part]);
         done += part;
-        cell = links[cell];
+        cell = links[cell as usize];
         left -= 1;
     }
 }
 
 /// The last cell of a chain.
-pub(crate) fn last_cell(links: &[usize], first: usize, count: usize) -> usize
+pub(crate) fn last_cell(links: &[u32], first: u32, count: usize) -> u32
     requires some { 0 < count }
     requires inside { (c : ℕ) → 0 < times c (walk links.now first count) → c < length links.now }
     ensures { result ≡ after links.now first (count - 1) }
@@ -90,7 +90,7 @@ pub(crate) fn last_cell(links: &[usize], first: usize, count: usize) -> usize
     let mut cell = first;
     let mut left = count - 1;
     while left > 0 {
-        cell = links[cell];
+        cell = links[cell as usize];
         left -= 1;
     }
     cell

@@ -4,6 +4,7 @@ mod Lists
 mod Shown
 mod Steps
 mod Indexes
+mod Slots
 mod Finds
 mod Sends
 mod Crowds

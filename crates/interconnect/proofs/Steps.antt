@@ -3,17 +3,17 @@ use Rattle.std.specs.List.{sum_by}
 use Rattle.std.proofs.lemmas.List.Sums.{sum_by-cons, sum_by_push, sum_by-set}
 use Rattle.std.proofs.lemmas.List.{get_or-set_same, map_push, length-replicate}
 use Rattle.cell_pool.specs.Cells.{cells_for, cells_at, used_cells, free_cells, bytes_of}
-use Rattle.interconnect.specs.declared.by_number.Held.{Held}
+use Rattle.interconnect.specs.Stored.{Stored}
 use Rattle.interconnect.specs.Links.{Packet, cells_of}
 use Rattle.interconnect.specs.Flights.{shown, all_shown, LacksChain, IsSound}
 use Rattle.interconnect.proofs.Shown.{rising_push, rising_next, rising_remove, apart_push, apart_frame, apart_remove, unused_lacks, shown_frame, own_at, cells_remove}
 
-pub sound_refused : (pool : List (Option (List ℕ))) (held : List Held) (room next : ℕ) → IsSound pool held room next → IsSound pool held room (next + 1)
+pub sound_refused : (pool : List (Option (List ℕ))) (held : List Stored) (room next : ℕ) → IsSound pool held room next → IsSound pool held room (next + 1)
 sound_refused pool held room next s =
     record { rising = rising_next 1 next held s.rising; apart = s.apart; used = s.used; enough = s.enough }
 
 -- the packets once one more stands in its chain
-pub shown_push : (pool : List (Option (List ℕ))) (held : List Held) (h : Held) (bytes : List ℕ) → LacksChain h.chain held → h.chain < length pool
+pub shown_push : (pool : List (Option (List ℕ))) (held : List Stored) (h : Stored) (bytes : List ℕ) → LacksChain h.chain held → h.chain < length pool
     → all_shown (set pool h.chain (Some bytes)) (held ++ h ∷ [])
     ≡ all_shown pool held ++ (record { number = h.number; from = h.from; to = h.to; bytes = bytes }) ∷ []
 shown_push pool held h bytes lacks low =
@@ -21,7 +21,7 @@ shown_push pool held h bytes lacks low =
     let got : get_or new h.chain None ≡ Some bytes = get_or-set_same pool h.chain (Some bytes) None low in
     map_push (shown new) held h ∙ rw (got, shown_frame pool h.chain (Some bytes) held lacks) refl
 
-pub sound_appended : (pool new : List (Option (List ℕ))) (held : List Held) (h : Held) (room room' next : ℕ) (bytes : List ℕ)
+pub sound_appended : (pool new : List (Option (List ℕ))) (held : List Stored) (h : Stored) (room room' next : ℕ) (bytes : List ℕ)
     → IsSound pool held room next → h.number ≡ next → h.chain < length pool → get_or pool h.chain None ≡ None → new ≡ set pool h.chain (Some bytes)
     → length bytes ≤ 131072 → room ≤ room' → IsSound new (held ++ h ∷ []) room' (next + 1)
 sound_appended pool new held h room room' next bytes s n low none is size more =
@@ -40,7 +40,7 @@ sound_appended pool new held h room room' next bytes s n low none is size more =
       enough = omega (arith, length-set pool h.chain (Some bytes));
     })
 
-pub appended_view : (pool new : List (Option (List ℕ))) (held : List Held) (h : Held) (room next : ℕ) (bytes : List ℕ)
+pub appended_view : (pool new : List (Option (List ℕ))) (held : List Stored) (h : Stored) (room next : ℕ) (bytes : List ℕ)
     → IsSound pool held room next → h.chain < length pool → get_or pool h.chain None ≡ None → new ≡ set pool h.chain (Some bytes)
     → all_shown new (held ++ h ∷ []) ≡ all_shown pool held ++ (record { number = h.number; from = h.from; to = h.to; bytes = bytes }) ∷ []
 appended_view pool new held h room next bytes s low none is =
@@ -58,7 +58,7 @@ low_of_used [] chain h = absurd (no_some h)
 low_of_used (x ∷ rest) zero h = omega arith
 low_of_used (x ∷ rest) (suc chain) h = let k = low_of_used rest chain h in omega arith
 
-pub sound_removed : (pool new : List (Option (List ℕ))) (held : List Held) (i : ℕ) (h : Held) (room room' next : ℕ)
+pub sound_removed : (pool new : List (Option (List ℕ))) (held : List Stored) (i : ℕ) (h : Stored) (room room' next : ℕ)
     → IsSound pool held room next → i < length held → h ≡ get_or held i h → new ≡ set pool h.chain None → room ≡ room'
     → IsSound new (remove held i) room' next
 sound_removed pool new held i h room room' next s l e is more =
@@ -80,7 +80,7 @@ sound_removed pool new held i h room room' next s l e is more =
     })
 
 -- free cells, by the packets and by the pool
-pub free_same : (pool : List (Option (List ℕ))) (held : List Held) (room next : ℕ) → IsSound pool held room next
+pub free_same : (pool : List (Option (List ℕ))) (held : List Stored) (room next : ℕ) → IsSound pool held room next
     → length pool - sum_by cells_of (all_shown pool held) ≡ free_cells pool
 free_same pool held room next s = let u = s.used in omega arith
 

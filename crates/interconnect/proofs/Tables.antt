@@ -1,6 +1,6 @@
 use Rattle.std.proofs.Common.{◌≡◌, ℕ, ◌<◌, ◌≢◌, true, false, List, [], length, map, get_or, set, sym, ap, ◌∙◌, arith, length-set}
 use Rattle.std.proofs.lemmas.List.{get_or-map, map-set, get_or-set_same, get_or-set_other}
-use Rattle.interconnect.specs.Numbers.{AreNodes, IsOther, link_of}
+use Rattle.interconnect.specs.Keys.{AreNodes, IsOther, link_of}
 use Rattle.interconnect.proofs.Places.{test_same}
 
 no : true ≡ false → ⊥

@@ -1,4 +1,5 @@
 pub mod Links
 pub mod Flights
-pub mod Numbers
+pub mod Stored
+pub mod Keys
 pub mod Places

@@ -1,5 +1,5 @@
 ghost use Rattle.std.specs.Prelude.{◌≡◌, ◌==◌, ℕ, ◌<◌, ◌≤◌, ◌++◌, ◌∷◌, [], length, filter, not, slice_get, replicate, IfOk};
-ghost use Rattle.interconnect.specs.Numbers.{AreNodes, IsOther, link_of, numbers_on};
+ghost use Rattle.interconnect.specs.Keys.{AreNodes, IsOther, link_of, keys_on};
 
 use arrayvec::ArrayVec;
 use cl_base::NodeId;
@@ -12,13 +12,13 @@ const NODES: usize = 32;
 /// Links from each node to each of them.
 const LINKS: usize = NODES * NODES;
 
-/// The numbers of the packets on one link, oldest first: 64, and one more while it is sent.
-type Numbers = ArrayVec<u64, 65>;
+/// The keys of the packets on one link, oldest first: 64, and one more while it is sent.
+type Keys = ArrayVec<u32, 65>;
 
-/// The numbers of the packets in flight, link by link, each list oldest first.
+/// The keys of the packets in flight, link by link, each list oldest first.
 #[derive(Drop)]
 pub(crate) struct ByLink {
-    links: Vec<Numbers>,
+    links: Vec<Keys>,
 }
 
 impl Model for ByLink {
@@ -38,54 +38,54 @@ impl ByLink {
     {
         let mut links = Vec::with_capacity(alloc, LINKS)?;
         for _ in 0..LINKS {
-            links.push(Numbers::new())?;
+            links.push(Keys::new())?;
         }
         Ok(ByLink { links })
     }
 
-    /// Puts a number behind the others of its link.
-    pub(crate) fn push(&mut self, from: NodeId, to: NodeId, number: u64)
-        requires { AreNodes from to → length (numbers_on self.old from to) ≤ 64 }
+    /// Puts a key behind the others of its link.
+    pub(crate) fn push(&mut self, from: NodeId, to: NodeId, key: u32)
+        requires { AreNodes from to → length (keys_on self.old from to) ≤ 64 }
         ensures nodes { AreNodes from to }
-        ensures own { numbers_on self.new from to ≡ numbers_on self.old from to ++ number ∷ [] }
-        ensures others { (f t : ℕ) → AreNodes f t → IsOther f t from to → numbers_on self.new f t ≡ numbers_on self.old f t }
+        ensures own { keys_on self.new from to ≡ keys_on self.old from to ++ key ∷ [] }
+        ensures others { (f t : ℕ) → AreNodes f t → IsOther f t from to → keys_on self.new f t ≡ keys_on self.old f t }
     {
         let place = place_of_link(from, to);
-        self.links[place].push(number);
+        self.links[place].push(key);
     }
 
-    /// Takes a number away from its link. The later ones, at most 64, move up.
-    pub(crate) fn remove(&mut self, from: NodeId, to: NodeId, number: u64)
+    /// Takes a key away from its link. The later ones, at most 64, move up.
+    pub(crate) fn remove(&mut self, from: NodeId, to: NodeId, key: u32)
         ensures nodes { AreNodes from to }
-        ensures own { numbers_on self.new from to ≡ filter (λ n. not (n == number)) (numbers_on self.old from to) }
-        ensures others { (f t : ℕ) → AreNodes f t → IsOther f t from to → numbers_on self.new f t ≡ numbers_on self.old f t }
+        ensures own { keys_on self.new from to ≡ filter (λ k. not (k == key)) (keys_on self.old from to) }
+        ensures others { (f t : ℕ) → AreNodes f t → IsOther f t from to → keys_on self.new f t ≡ keys_on self.old f t }
     {
         let place = place_of_link(from, to);
-        without(&mut self.links[place], number);
+        without(&mut self.links[place], key);
     }
 
-    /// The first number on a link.
-    pub(crate) fn oldest(&self, from: NodeId, to: NodeId) -> Option<u64>
+    /// The first key on a link.
+    pub(crate) fn oldest(&self, from: NodeId, to: NodeId) -> Option<u32>
         ensures nodes { AreNodes from to }
-        ensures value { result ≡ slice_get (numbers_on self.now from to) 0 }
+        ensures value { result ≡ slice_get (keys_on self.now from to) 0 }
     {
         self.links[place_of_link(from, to)].first().copied()
     }
 
-    /// How many numbers are on a link.
+    /// How many keys are on a link.
     pub(crate) fn count(&self, from: NodeId, to: NodeId) -> u64
         ensures nodes { AreNodes from to }
-        ensures value { result ≡ length (numbers_on self.now from to) }
+        ensures value { result ≡ length (keys_on self.now from to) }
     {
         self.links[place_of_link(from, to)].len() as u64
     }
 }
 
-/// Takes a number out of a list.
-fn without(numbers: &mut Numbers, number: u64)
-    ensures { numbers.new.items ≡ filter (λ n. not (n == number)) numbers.old.items }
+/// Takes a key out of a list.
+fn without(keys: &mut Keys, key: u32)
+    ensures { keys.new.items ≡ filter (λ k. not (k == key)) keys.old.items }
 {
-    numbers.retain(|n| *n != number);
+    keys.retain(|k| *k != key);
 }
 
 /// The place of a link in the table.

@@ -1,38 +1,27 @@
 ghost use Rattle.std.specs.Prelude.{◌≡◌, ◌≢◌, ◌==◌, ℕ, ◌+◌, ◌^◌, ◌<◌, ◌≤◌, ◌++◌, ◌∷◌, [], length, filter, find, map, not, slice_index, IfSome, IfNone, IfOk};
-ghost use Rattle.std.specs.Option.{option_copied};
+ghost use Rattle.std.specs.Option.{option_map};
 ghost use Rattle.std.specs.VecDeque.{deque_len, deque_capacity};
 ghost use Rattle.interconnect.specs.Places.{sweeping, live, first_held_from, IsOrdered};
 
-use cell_pool::Chain;
-use cl_base::NodeId;
 use std::alloc::{AllocError, Global};
 use std::collections::VecDeque;
 use std::marker::Model;
 use std::mem;
 
-/// A packet in flight. Its bytes stand in the pool.
-#[derive(Drop)]
-pub(crate) struct Held {
-    pub(crate) number: u64,
-    pub(crate) from: NodeId,
-    pub(crate) to: NodeId,
-    pub(crate) chain: Chain,
-}
-
-/// A place for the packet of a number. It is empty once the packet has left.
+/// A place for the key of the packet of a number. It is empty once the packet has left.
 #[derive(Drop)]
 struct Place {
     number: u64,
-    held: Option<Held>,
+    key: Option<u32>,
 }
 
-/// The packets in flight in the order of their numbers, to be found by number.
+/// The keys of the packets in flight in the order of their numbers, to be found by number.
 ///
 /// They stand in places, first the swept, then the unswept. A packet is found by halving, and one
-/// that leaves only empties its place, so that no other moves. Each packet that comes sweeps three
+/// that leaves only empties its place, so that no other moves. Each packet that comes sweeps four
 /// places, lest empty ones pile up: a place with a packet goes over to the swept, an empty one is
-/// given up, and when all are swept they are the unswept again. With three for one, each list keeps
-/// within `2 * most + 2` places while at most `most` packets are in flight.
+/// given up, and when all are swept they are the unswept again. With four for one, each list keeps
+/// within three places for two packets, and two more.
 #[derive(Drop)]
 pub(crate) struct ByNumber {
     swept: VecDeque<Place>,
@@ -61,7 +50,7 @@ impl ByNumber {
         ensures { IfOk result (λ b. b ≡ record { held = []; next = 1; most = most }) }
     {
         let most = most as usize;
-        let places = most.saturating_mul(2).saturating_add(2);
+        let places = most.saturating_add(most.div_ceil(2)).saturating_add(2);
         let swept = VecDeque::with_capacity(alloc, places)?;
         let unswept = VecDeque::with_capacity(alloc, places)?;
         Ok(ByNumber {
@@ -87,37 +76,31 @@ impl ByNumber {
         self.next += 1;
     }
 
-    /// Gives a packet the next number, and tells it. Three places are swept.
-    pub(crate) fn push(&mut self, from: NodeId, to: NodeId, chain: Chain) -> u64
+    /// Gives the packet of a key the next number. Four places are swept.
+    pub(crate) fn push(&mut self, key: u32)
         requires number { self.old.next < 2 ^ 63 }
         requires room { length self.old.held < self.old.most }
-        ensures number { result ≡ self.old.next }
-        ensures after { self.new ≡ record self.old { held = self.old.held ++ (record { number = self.old.next; from = from; to = to; chain = chain }) ∷ []; next = self.old.next + 1 } }
+        ensures { self.new ≡ record self.old { held = self.old.held ++ (record { number = self.old.next; key = key }) ∷ []; next = self.old.next + 1 } }
     {
         let number = self.next;
         self.next = number + 1;
-        let held = Some(Held {
-            number,
-            from,
-            to,
-            chain,
-        });
-        self.unswept.push_back_reserved(Place { number, held });
+        let key = Some(key);
+        self.unswept.push_back_reserved(Place { number, key });
         sweep(&mut self.swept, &mut self.unswept);
         sweep(&mut self.swept, &mut self.unswept);
         sweep(&mut self.swept, &mut self.unswept);
-        number
+        sweep(&mut self.swept, &mut self.unswept);
     }
 
-    /// The packet of a number.
-    pub(crate) fn find(&self, number: u64) -> Option<&Held>
-        ensures { option_copied result ≡ find (λ h. h.number == number) self.now.held }
+    /// The key of the packet of a number.
+    pub(crate) fn find(&self, number: u64) -> Option<u32>
+        ensures { result ≡ option_map (λ h. h.key) (find (λ h. h.number == number) self.now.held) }
     {
         if let Some(place) = place_of(&self.swept, number) {
-            return self.swept[place].held.as_ref();
+            return self.swept[place].key;
         }
         let place = place_of(&self.unswept, number)?;
-        self.unswept[place].held.as_ref()
+        self.unswept[place].key
     }
 
     /// The number of the first packet from a number on.
@@ -130,16 +113,16 @@ impl ByNumber {
         first_in(&self.unswept, number)
     }
 
-    /// Takes the packet of a number out.
-    pub(crate) fn remove(&mut self, number: u64) -> Option<Held>
-        ensures found { result ≡ find (λ h. h.number == number) self.old.held }
+    /// Takes the packet of a number out, and gives its key.
+    pub(crate) fn remove(&mut self, number: u64) -> Option<u32>
+        ensures found { result ≡ option_map (λ h. h.key) (find (λ h. h.number == number) self.old.held) }
         ensures after { self.new ≡ record self.old { held = filter (λ h. not (h.number == number)) self.old.held } }
     {
         if let Some(place) = place_of(&self.swept, number) {
-            return self.swept[place].held.take();
+            return self.swept[place].key.take();
         }
         let place = place_of(&self.unswept, number)?;
-        self.unswept[place].held.take()
+        self.unswept[place].key.take()
     }
 }
 
@@ -155,7 +138,7 @@ fn sweep(swept: &mut VecDeque<Place>, unswept: &mut VecDeque<Place>)
         mem::swap(swept, unswept);
         return;
     };
-    if place.held.is_some() {
+    if place.key.is_some() {
         swept.push_back_reserved(place);
     }
 }
@@ -181,7 +164,7 @@ fn first_in(places: &VecDeque<Place>, number: u64) -> Option<u64>
     let mut place = place_from(places, number);
     while place < places.len() {
         let here = &places[place];
-        if here.held.is_some() {
+        if here.key.is_some() {
             return Some(here.number);
         }
         place += 1;

@@ -7,19 +7,33 @@ ghost use Rattle.interconnect.specs.Links.{sending, appending, removing, packet_
 use crate::by_link::ByLink;
 use crate::by_number::ByNumber;
 use crate::packet::{Delivery, NoSuchPacket, Sent};
-use cell_pool::Pool;
+use cell_pool::{Chain, Pool};
 use cl_base::{DropCause, NodeId};
+use slab::Slab;
 use std::alloc::{AllocError, Global};
 use std::marker::Model;
 
 /// The most packets that a link holds.
 const LINK: u64 = 64;
 
-/// The packets in flight: their bytes in a pool, themselves by number, and their numbers by link.
+/// How many keys 32 bits tell apart.
+const KEYS: usize = 1 << 32;
+
+/// A packet in flight. Its bytes stand in the pool.
+#[derive(Drop)]
+struct Held {
+    number: u64,
+    from: NodeId,
+    to: NodeId,
+    chain: Chain,
+}
+
+/// The packets in flight in a slab, their bytes in a pool, and their keys by number and by link.
 #[derive(Drop)]
 pub(crate) struct Flight {
     pool: Pool,
-    packets: ByNumber,
+    packets: Slab<Held>,
+    numbers: ByNumber,
     links: ByLink,
 }
 
@@ -30,10 +44,11 @@ impl Model for Flight {
     ghost Value = { Links };
 
     ghost use Rattle.interconnect.specs.Flights.{all_shown, IsWhole};
+    ghost use Rattle.interconnect.specs.Stored.{all_stored};
 
-    ghost view = { λ f. record { packets = all_shown f.pool f.packets.held; next = f.packets.next; cells = length f.pool } };
+    ghost view = { λ f. record { packets = all_shown f.pool (all_stored f.packets f.numbers.held); next = f.numbers.next; cells = length f.pool } };
 
-    ghost invariant = { λ f. IsWhole f.pool f.packets f.links };
+    ghost invariant = { λ f. IsWhole f.pool f.packets f.numbers f.links };
 }
 
 impl Flight {
@@ -42,11 +57,16 @@ impl Flight {
         ensures { IfOk result (λ f. f ≡ record { packets = []; next = 1; cells = cells }) }
     {
         let pool = Pool::with_cells(alloc, cells)?;
-        let packets = ByNumber::new(alloc, cells)?;
+        let packets = Slab::with_capacity(alloc, cells as usize)?;
+        if packets.capacity() > KEYS {
+            return Err(AllocError);
+        }
+        let numbers = ByNumber::new(alloc, cells)?;
         let links = ByLink::new(alloc)?;
         Ok(Flight {
             pool,
             packets,
+            numbers,
             links,
         })
     }
@@ -56,16 +76,15 @@ impl Flight {
         ensures number { result ≡ self.now.next }
         ensures rising { NumbersRise 1 self.now.packets self.now.next }
     {
-        self.packets.next()
+        self.numbers.next()
     }
 
     /// From whom to whom the packet of a number goes.
     pub(crate) fn route(&self, number: u64) -> Option<(NodeId, NodeId)>
         ensures { result ≡ option_map route_of (packet_of self.now.packets number) }
     {
-        let Some(held) = self.packets.find(number) else {
-            return None;
-        };
+        let key = self.numbers.find(number)?;
+        let held = &self.packets[key as usize];
         Some((held.from, held.to))
     }
 
@@ -73,7 +92,7 @@ impl Flight {
     pub(crate) fn first_from(&self, number: u64) -> Option<u64>
         ensures { result ≡ first_from_of self.now.packets number }
     {
-        self.packets.first_from(number)
+        self.numbers.first_from(number)
     }
 
     /// Gives a packet the next number, and puts it into flight where enough cells are free.
@@ -85,11 +104,18 @@ impl Flight {
         ensures after { self.new ≡ (if result then appending self.old from to bytes.now else record self.old { next = self.old.next + 1 }) }
     {
         let Some(chain) = self.pool.put(bytes) else {
-            self.packets.skip();
+            self.numbers.skip();
             return false;
         };
-        let number = self.packets.push(from, to, chain);
-        self.links.push(from, to, number);
+        let number = self.numbers.next();
+        let key = self.packets.insert_reserved(Held {
+            number,
+            from,
+            to,
+            chain,
+        }) as u32;
+        self.numbers.push(key);
+        self.links.push(from, to, key);
         true
     }
 
@@ -101,7 +127,7 @@ impl Flight {
         ensures after { self.new ≡ (sending self.old from to bytes.now).after }
         ensures sent { result ≡ (sending self.old from to bytes.now).sent }
     {
-        let number = self.packets.next();
+        let number = self.numbers.next();
         if !self.append(from, to, bytes) {
             return Sent {
                 number: None,
@@ -133,9 +159,10 @@ impl Flight {
         ensures answer { MatchOption (packet_of self.now.packets number) (IsErr result) (λ p. IsOkAnd result (λ d. d ≡ delivery_of p)) }
         ensures bytes { out.new ≡ copied (packet_of self.now.packets number) out.old }
     {
-        let Some(held) = self.packets.find(number) else {
+        let Some(key) = self.numbers.find(number) else {
             return Err(NoSuchPacket);
         };
+        let held = &self.packets[key as usize];
         let length = self.pool.read(&held.chain, out);
         Ok(Delivery {
             from: held.from,
@@ -149,10 +176,11 @@ impl Flight {
         ensures answer { MatchOption (packet_of self.old.packets number) (IsErr result) (λ _. IsOk result) }
         ensures after { self.new ≡ removing self.old number }
     {
-        let Some(held) = self.packets.remove(number) else {
+        let Some(key) = self.numbers.remove(number) else {
             return Err(NoSuchPacket);
         };
-        self.links.remove(held.from, held.to, number);
+        let held = self.packets.remove(key as usize);
+        self.links.remove(held.from, held.to, key);
         self.pool.give_back(held.chain);
         Ok(())
     }
@@ -161,7 +189,8 @@ impl Flight {
     pub(crate) fn oldest(&self, from: NodeId, to: NodeId) -> Option<u64>
         ensures { result ≡ oldest_on self.now.packets from to }
     {
-        self.links.oldest(from, to)
+        let key = self.links.oldest(from, to)?;
+        Some(self.packets[key as usize].number)
     }
 
     /// How many packets are on a link.

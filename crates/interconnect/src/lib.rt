@@ -1,6 +1,7 @@
 //! The links between the nodes: packets in flight, numbered in the order of their sending.
 //!
-//! Packets stand in the cells of a pool. All memory is taken when the links are made.
+//! Packets stand in a slab, and their bytes in the cells of a pool. All memory is taken when the links
+//! are made, and no slot or cell is written before a packet needs it.
 
 #![tactic(auto)]
 

@@ -16,7 +16,7 @@ const MOST: usize = 131_072;
 ///
 /// A call takes a number of steps that one link bounds, with the cells of the packet at hand. How
 /// many packets are in flight counts only where one is looked for by its number: by halving, twice,
-/// a list of at most twice as many places as there are cells.
+/// a list of at most three places for two cells.
 #[derive(Drop)]
 pub struct Net {
     flight: Flight,
@@ -38,8 +38,9 @@ impl Model for Net {
 
 impl Net {
     /// Links without a packet, over a pool of so many cells of 256 bytes. It takes all memory that
-    /// they ever need: beside the pool four places of 40 bytes for each cell, 65 numbers for each of
-    /// 1,024 links, and room for one packet. Its steps are as many as there are cells and links.
+    /// they ever need: beside the pool 24 bytes and three places of 16 for each cell, 65 keys for each
+    /// of 1,024 links, and room for one packet. Its steps are as many as there are links. For 2^24
+    /// cells or more there is no memory.
     pub fn new(alloc: Global, cells: u64) -> Result<Net, AllocError>
         ensures { IfOk result (λ net. net ≡ record { packets = []; next = 1; cells = cells }) }
     {
@@ -52,7 +53,7 @@ impl Net {
     ///
     /// It takes the next number. Where too few cells are free it is dropped, and was never in
     /// flight; else a link that now has more than 64 packets drops its oldest. Its steps: the cells
-    /// of the packet, three places swept, and for a packet that is dropped what its loss takes.
+    /// of the packet, four places swept, and for a packet that is dropped what its loss takes.
     pub fn send(&mut self, from: NodeId, to: NodeId, bytes: &[u8]) -> Sent
         requires number { self.old.next < 2 ^ 63 }
         requires size { length bytes.now ≤ 131072 }
@@ -65,7 +66,7 @@ impl Net {
 
     /// Delivers a packet: its bytes are copied to the front of `out`, and it is no longer in flight.
     /// `NoSuchPacket` where none of this number is in flight; then nothing changes. Its steps: the
-    /// cells of the packet, the numbers of its link, at most 64, and two searches by halving.
+    /// cells of the packet, the keys of its link, at most 64, and two searches by halving.
     pub fn deliver(&mut self, number: u64, out: &mut [u8]) -> Result<Delivery, NoSuchPacket>
         requires { 131072 ≤ length out.old }
         ensures answer { MatchOption (packet_of self.old.packets number) (IsErr result) (λ p. IsOkAnd result (λ d. d ≡ delivery_of p)) }
@@ -78,7 +79,7 @@ impl Net {
     }
 
     /// Loses a packet. `NoSuchPacket` where none of this number is in flight; then nothing changes.
-    /// Its steps: the cells of the packet, the numbers of its link, at most 64, and a search by halving.
+    /// Its steps: the cells of the packet, the keys of its link, at most 64, and a search by halving.
     pub fn lose(&mut self, number: u64) -> Result<(), NoSuchPacket>
         ensures answer { MatchOption (packet_of self.old.packets number) (IsErr result) (λ _. IsOk result) }
         ensures after { self.new ≡ removing self.old number }
@@ -134,106 +135,5 @@ impl Net {
         ensures { result ≡ count_on self.now.packets from to }
     {
         self.flight.in_flight(from, to)
-    }
-}
-
-#[cfg(test)]
-mod tests {
-    use super::*;
-    use cl_base::DropCause;
-    use std::process::Abort;
-    use std::test::Fail;
-
-    /// A packet of this many bytes is answered so.
-    fn sends(rt: &impl Abort, net: &mut Net, way: (NodeId, NodeId), bytes: &[u8], answer: Sent)
-        requires number { net.old.next < 2 ^ 63 }
-        requires size { length bytes.now ≤ 131072 }
-        ensures next { net.new.next ≡ net.old.next + 1 }
-    {
-        let sent = net.send(way.0, way.1, bytes);
-        assert!(rt; sent == answer);
-    }
-
-    fn in_flight(number: u64) -> Sent {
-        Sent {
-            number: Some(number),
-            dropped: None,
-        }
-    }
-
-    /// Of three cells the first packet takes all, so that the second is dropped.
-    fn takes_cells(rt: &impl Abort, net: &mut Net, out: &mut [u8], one: NodeId, two: NodeId)
-        requires first { net.old.next ≡ 1 }
-        requires room { 131072 ≤ length out.old }
-    {
-        sends(rt, net, (one, two), &[5; 600], in_flight(1));
-        let dropped = Sent {
-            number: None,
-            dropped: Some((2, DropCause::Pool)),
-        };
-        sends(rt, net, (two, one), &[6], dropped);
-        assert!(rt; net.route(1) == Some((one, two)));
-        assert!(rt; net.oldest(one, two) == Some(1));
-        assert!(rt; net.deliver(1, out).is_ok());
-        assert!(rt; out[599] == 5 && out[600] == 0);
-        sends(rt, net, (two, one), &[7], in_flight(3));
-        assert!(rt; net.repeat(3).is_ok());
-        assert!(rt; net.lose(3).is_ok());
-        assert!(rt; net.first_from(1) == Some(4));
-        assert!(rt; net.next_number() == 5);
-        assert!(rt; net.in_flight(two, one) == 1);
-    }
-
-    #[test]
-    fn cells_of_a_send(rt: HostRuntime) -> Result<(), Fail> {
-        let (one, two) = (NodeId::new(1)?, NodeId::new(2)?);
-        let mut net = Net::new(rt.alloc(), 3)?;
-        let mut out = vec![in rt.alloc(); 0u8; MOST]?;
-        takes_cells(&rt, &mut net, &mut out, one, two);
-        Ok(())
-    }
-
-    /// Packets 2 to 39 come and are lost while packet 1 stays.
-    fn comes_and_goes(rt: &impl Abort, net: &mut Net, one: NodeId, two: NodeId)
-        requires first { net.old.next ≡ 1 }
-    {
-        sends(rt, net, (one, two), &[5], in_flight(1));
-        for number in 2..40u64 {
-            sends(rt, net, (two, one), &[6], in_flight(number));
-            assert!(rt; net.lose(number).is_ok());
-        }
-        assert!(rt; net.first_from(1) == Some(1));
-        assert!(rt; net.first_from(2) == None);
-    }
-
-    #[test]
-    fn old_packet(rt: HostRuntime) -> Result<(), Fail> {
-        let (one, two) = (NodeId::new(1)?, NodeId::new(2)?);
-        let mut net = Net::new(rt.alloc(), 4)?;
-        comes_and_goes(&rt, &mut net, one, two);
-        Ok(())
-    }
-
-    /// The 65th packet of a link pushes the first out.
-    fn pushes_out(rt: &impl Abort, net: &mut Net, one: NodeId, two: NodeId)
-        requires first { net.old.next ≡ 1 }
-    {
-        for number in 1..65u64 {
-            sends(rt, net, (one, two), &[1], in_flight(number));
-        }
-        let pushed = Sent {
-            number: Some(65),
-            dropped: Some((1, DropCause::Link)),
-        };
-        sends(rt, net, (one, two), &[2], pushed);
-        assert!(rt; net.oldest(one, two) == Some(2));
-    }
-
-    #[test]
-    fn full_link(rt: HostRuntime) -> Result<(), Fail> {
-        let (one, two) = (NodeId::new(1)?, NodeId::new(2)?);
-        let mut net = Net::new(rt.alloc(), 100)?;
-        pushes_out(&rt, &mut net, one, two);
-        Ok(())
     }
 }

@@ -1,45 +1,8 @@
-use Rattle.std.proofs.Common.{arith, ap, ◌∙◌, List, ℕ, sym, length}
-use Rattle.cell_pool.specs.Cells.{cells_for}
-use Rattle.cell_pool.proofs.Whole.{held_in, inside_of, size_of}
-use Rattle.cell_pool.proofs.Moves.{back_leaves, back_shows, back_low}
+use Rattle.std.proofs.Common.{◌∙◌, List, Option, None, ℕ, ap, set}
+use Rattle.cell_pool.proofs.All.{all_set, made_below}
 use Rattle.cell_pool.proofs.pool.Pool.give_back.Goals as goal
-
-pub length_at-requires : goal.length_at-requires
-length_at-requires c =
-    let k = held_in _ _ _ _ _ _ _ _ c.self.invariant c.self.view_is c.chain.view_is c.requires in
-    rw c.deref.ensures.value k.low
-
-pub last_cell-last-requires-clause-inside : goal.last_cell-last-requires-clause-inside
-last_cell-last-requires-clause-inside c =
-    let k = held_in _ _ _ _ _ _ _ _ c.self.invariant c.self.view_is c.chain.view_is c.requires in
-    let size = size_of c.self.inside.lengths.items _ c.chain.inside.first _ c.deref.ensures.value c.length_at.ensures in
-    inside_of _ _ _ _ _ _ c.deref-2.result.now c.cells_needed-count.result (length c.deref-2.result.now) k c.deref-2.ensures.value
-    (c.cells_needed-count.ensures ∙ ap (λ (n : ℕ). cells_for n) size)
-    (sym c.self.invariant.a_link_each ∙ ap (λ (l : List ℕ). length l) (sym c.deref-2.ensures.value))
-
-pub index_mut-requires : goal.index_mut-requires
-index_mut-requires c =
-    let k = held_in _ _ _ _ _ _ _ _ c.self.invariant c.self.view_is c.chain.view_is c.requires in
-    let size = size_of c.self.inside.lengths.items _ c.chain.inside.first _ c.deref.ensures.value c.length_at.ensures in
-    let low = back_low _ _ _ _ _ _ _ _ c.deref-2.result.now c.cells_needed-count.result c.last_cell-last.result c.self.invariant k c.deref-2.ensures.value
-    (c.cells_needed-count.ensures ∙ ap (λ (n : ℕ). cells_for n) size) c.last_cell-last.ensures in
-    omega (arith, c.self.inside.links.ok)
-
-pub index_mut-requires-2 : goal.index_mut-requires-2
-index_mut-requires-2 c =
-    let k = held_in _ _ _ _ _ _ _ _ c.self.invariant c.self.view_is c.chain.view_is c.requires in
-    let low = k.low in omega (arith, c.self.inside.lengths.ok)
-
-pub invariant_of-self : goal.invariant_of-self
-invariant_of-self c =
-    let k = held_in _ _ _ _ _ _ _ _ c.self.invariant c.self.view_is c.chain.view_is c.requires in
-    let size = size_of c.self.inside.lengths.items _ c.chain.inside.first _ c.deref.ensures.value c.length_at.ensures in
-    back_leaves _ _ _ _ _ _ _ _ c.deref-2.result.now c.cells_needed-count.result c.last_cell-last.result c.self.invariant k c.deref-2.ensures.value
-    (c.cells_needed-count.ensures ∙ ap (λ (n : ℕ). cells_for n) size) c.last_cell-last.ensures
 
 pub returns : goal.returns
 returns c =
-    let k = held_in _ _ _ _ _ _ _ _ c.self.invariant c.self.view_is c.chain.view_is c.requires in
-    let size = size_of c.self.inside.lengths.items _ c.chain.inside.first _ c.deref.ensures.value c.length_at.ensures in
-    back_shows _ _ _ _ _ _ _ _ c.deref-2.result.now c.cells_needed-count.result c.last_cell-last.result c.args.self.now c.args.chain c.self.invariant k c.deref-2.ensures.value
-    (c.cells_needed-count.ensures ∙ ap (λ (n : ℕ). cells_for n) size) c.last_cell-last.ensures c.self.view_is c.chain.view_is
+    all_set c.self.inside.made c.give_back.new.self c.args.chain None (made_below c.self.inside.made c.args.self.now c.args.chain c.self.view_is c.requires) c.give_back.ensures
+    ∙ ap (λ (l : List (Option (List ℕ))). set l c.args.chain None) c.self.view_is
