@@ -7,6 +7,3 @@ mod summary;
 
 pub use entries::{Entries, Prepared};
 pub use summary::{Summary, newest};
-
-#[cfg(test)]
-mod tests;

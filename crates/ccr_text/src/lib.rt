@@ -13,6 +13,3 @@ pub use laws::texts_have_their_length;
 pub use print::print_table;
 pub use read::read_table;
 pub use rows::{Row, TableRows};
-
-#[cfg(test)]
-mod tests;

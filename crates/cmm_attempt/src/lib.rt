@@ -11,8 +11,6 @@ mod promised;
 mod seizing;
 mod sending;
 mod step;
-#[cfg(test)]
-mod tests;
 
 pub use attached::{AttachedDevice, AttachedDevices};
 pub use attempt::Attempt;

@@ -29,6 +29,3 @@ pub use lengths::full_record_length;
 pub use member::MemberNode;
 pub use rows::record_rows;
 pub use running::Record;
-
-#[cfg(test)]
-mod tests;

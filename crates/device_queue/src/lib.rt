@@ -6,8 +6,6 @@ mod laws;
 mod progress;
 mod queue;
 mod task;
-#[cfg(test)]
-mod tests;
 
 pub use laws::{
     each_task_has_a_command, joined_has_no_task, kept_results_stay, one_seizing_and_one_joining,

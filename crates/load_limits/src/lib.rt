@@ -2,7 +2,5 @@
 #![tactic(auto)]
 
 mod limits;
-#[cfg(test)]
-mod tests;
 
 pub use limits::{Factor, Limit, Limits};

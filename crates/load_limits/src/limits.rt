@@ -67,6 +67,13 @@ impl Limits {
             .map(|l| (l.soft, l.hard))
     }
 
+    /// The limits in order of creation.
+    pub fn items(&self) -> &[Limit]
+        ensures value { result.now ≡ self.now }
+    {
+        self.limits.as_slice()
+    }
+
     /// Adds a limit of a name that the node has no limit of. Without memory nothing is changed.
     pub fn create(&mut self, limit: Limit) -> Result<(), AllocError>
         requires new { limit_of self.old limit.node limit.name ≡ None }

@@ -15,8 +15,6 @@ mod port;
 mod registration;
 mod run;
 mod state;
-#[cfg(test)]
-mod tests;
 
 pub use command::{PrAnswer, PrCommand};
 pub use device::Pgr;

@@ -5,8 +5,6 @@
 mod change;
 mod quorum;
 mod state;
-#[cfg(test)]
-mod tests;
 mod votes;
 
 pub use change::{VoteChange, VoteError};

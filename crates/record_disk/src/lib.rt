@@ -10,6 +10,3 @@ mod texts;
 pub use disk::RecordDisk;
 pub use error::{DiskError, Loss};
 pub use simulated::SimulatedDisk;
-
-#[cfg(test)]
-mod tests;

@@ -10,6 +10,3 @@ mod store;
 pub use laws::empty_disk_mounts;
 pub use slot::Slot;
 pub use store::{MOST_BYTES, Store, StoreError};
-
-#[cfg(test)]
-mod tests;

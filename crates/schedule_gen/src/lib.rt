@@ -6,7 +6,5 @@ mod event;
 mod generator;
 pub mod law;
 mod opening;
-#[cfg(test)]
-mod tests;
 
 pub use generator::Gen;

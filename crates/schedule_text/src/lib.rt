@@ -18,8 +18,6 @@ mod number;
 mod numbers;
 mod pr_reading;
 mod reading;
-#[cfg(test)]
-mod tests;
 mod version;
 
 pub use event::{Event, StopChoice};

@@ -8,8 +8,6 @@ mod kind;
 mod laws;
 mod seizing;
 mod step;
-#[cfg(test)]
-mod tests;
 mod told;
 
 pub use joining::Join;

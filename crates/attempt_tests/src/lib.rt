@@ -1,0 +1,5 @@
+//! Tests of attempts on a membership.
+#![tactic(auto)]
+
+#[cfg(test)]
+mod attempts;
