@@ -8,6 +8,7 @@ pub mod Left
 pub mod MachineLemmas
 pub mod NewestTaken
 pub mod Numbered
+pub mod Plain
 pub mod QuietLemmas
 pub mod Readings
 pub mod Sends

@@ -175,7 +175,7 @@ walks_answering_in c I K P W s d from r Choosing is tells i = W.rests s i
 walks_answering_in c I K P W s d from r Installing is tells i = W.rests s i
 walks_answering_in c I K P W s d from r Over is tells i = W.rests s i
 
-walks_asked_votes : (c : Call) (I K : AttemptState → Type 0) (P : Turn → Type 0) → Walk c I K P → (s : AttemptState) → s.phase ≡ SeizingVotes → K s → P (asked_votes s)
+pub walks_asked_votes : (c : Call) (I K : AttemptState → Type 0) (P : Turn → Type 0) → Walk c I K P → (s : AttemptState) → s.phase ≡ SeizingVotes → K s → P (asked_votes s)
 unfolding asked_votes
 walks_asked_votes c I K P W s is k =
     if_with P (all_settled s.devices) (all_settled s.devices) (counting s) (with_steps s (filter_map (request_for s.plan) s.devices)) refl

@@ -1,6 +1,6 @@
 -- The messages among the steps of an attempt.
 use Rattle.std.specs.List.{find}
-use Rattle.std.specs.Prelude.{◌==◌, ℕ, ◌≡◌, ◌<◌, ◌^◌, ◌≤◌, ◌⊎◌, List, length, Option, Some, None, All, Contains}
+use Rattle.std.specs.Prelude.{◌==◌, ℕ, false, ◌≡◌, ◌<◌, ◌^◌, ◌≤◌, ◌⊎◌, List, length, Option, Some, None, All, Contains}
 use Rattle.cl_base.specs.Seizings.{SeizeResult}
 use Rattle.cl_base.specs.declared.seizing.SeizeEnd.TheVariants.{Held}
 use Rattle.wire.specs.declared.lists.Reading.{Reading}
@@ -11,11 +11,13 @@ use Rattle.wire.specs.declared.message.Body.{Body}
 use Rattle.wire.specs.declared.message.Body.TheVariants as body
 use Rattle.wire.specs.declared.message.Message.{Message}
 use Rattle.cmm_attempt.specs.declared.attached.AttachedDevice.{AttachedDevice}
+use Rattle.cmm_attempt.specs.declared.counting.BothVotes.{BothVotes}
 use Rattle.cmm_attempt.specs.declared.phase.Phase.TheVariants.{SeizingVotes, SeizingOthers}
 use Rattle.cmm_attempt.specs.declared.seizing.Seizing.{Seizing}
 use Rattle.cmm_attempt.specs.declared.step.Step.{Step}
 use Rattle.cmm_attempt.specs.declared.step.Step.TheVariants.{Send, SeizeHere, NeedVotes, InstallHere, StartHere, Ended}
 use Rattle.cmm_attempt.specs.Attempts.{AttemptState, beginning, install_in}
+use Rattle.cmm_attempt.specs.Counts.{is_quorum}
 use Rattle.cmm_attempt.specs.Calls.{Call, Take, With_votes, Own_seized, Own_ready, Tick, turn, May, IsReached}
 
 -- The message is one of the attempt t: a Collect or a request of its epoch and members, its Install, or its Start. None is a Promise or a Ready.
@@ -117,6 +119,11 @@ FirstSendsAreShort = (p members : ℕ) (own : Message) (attached : List Attached
 -- each request is for the entry of a device, whose node is asked
 abbrev pub AsksAreEntries : Type 0
 AsksAreEntries = (s : AttemptState) (c : Call) → IsReached s → May s c → All (AsksEntry (turn s c).after) (turn s c).steps
+
+-- a device that is seized as plain data is an enabled quorum device under neither of the votes that were given
+abbrev pub PlainHasNoVotes : Type 0
+PlainHasNoVotes = (s : AttemptState) (both : BothVotes) (e : Seizing) → IsReached s → s.votes ≡ Some both → Contains s.devices e → e.kind ≡ Plain
+    → is_quorum both e.attached.device ≡ false
 
 -- each reading that an install carries is of a device that is held
 abbrev pub ReadingsAreHeld : Type 0

@@ -3,7 +3,7 @@ ghost use Rattle.attempt_laws.specs.Ending.{NacksEnd, ForeignEnds, LeftOutEnds, 
 ghost use Rattle.attempt_laws.specs.Machine.{AttemptsBegin, CallsAreTold, ToldStays, InstallsAreCounts, NewestIsShown, StartsAreReady, StartsFollow, InstallsComeFirst};
 ghost use Rattle.attempt_laws.specs.Asking.{DevicesBegin, CallsMove, OthersLeave, QuorumAsksValid, OthersAskAttached};
 ghost use Rattle.attempt_laws.specs.Repeating.{CollectsGoAgain, RequestsGoAgain, InstallsGoAgain, NothingElseGoes};
-ghost use Rattle.attempt_laws.specs.Sending.{SendsAreOwn, FirstSendsAreOwn, SendsAreShort, FirstSendsAreShort, AsksAreEntries, ReadingsAreHeld, HeldIsRead};
+ghost use Rattle.attempt_laws.specs.Sending.{SendsAreOwn, FirstSendsAreOwn, SendsAreShort, FirstSendsAreShort, AsksAreEntries, PlainHasNoVotes, ReadingsAreHeld, HeldIsRead};
 ghost use Rattle.attempt_laws.specs.Staying.{PlanBegins, PlanStays, NewestStays, VotesStay, PastStays, InstallsComeBefore, FinalStays, GrantedStays};
 ghost use Rattle.attempt_laws.specs.Waiting.{SomeoneIsMissing, EighthTickEnds};
 
@@ -51,12 +51,14 @@ pub fn attempts_show()
 /// and counts a device as held only by the word of the node that was asked last, and any device only with its answer in hand.
 /// Each request among its steps is for a node that the machine has as asked so. What nodes and other attempts do at the device leaves that.
 /// The first that is asked for a quorum device is the least attached member that holds it valid, for another device the least attached member.
+/// A device that is seized as plain data is an enabled quorum device under neither of the votes that were given.
 pub fn attempts_ask()
     ensures begin { DevicesBegin }
     ensures calls { CallsMove }
     ensures others { OthersLeave }
     ensures quorum { QuorumAsksValid }
     ensures plain { OthersAskAttached }
+    ensures no_votes { PlainHasNoVotes }
 {}
 
 /// What ends an attempt. None hangs: while it collects, seizes or installs, a member's answer is missing, and at the eighth tick of the phase it ends.
