@@ -1,5 +1,7 @@
 -- Of tests over the numbers 1 to k.
-use Rattle.std.proofs.Common.{◌≡◌, ℕ, ◌+◌, ◌<◌, ◌≤◌, ◌||◌, ◌⊎◌, inl, inr, Bool, true, false, suc, zero, refl, sym, ◌∙◌, subst, arith, List, Option, Some, map}
+use Rattle.std.proofs.Common.{◌≡◌, ℕ, ◌+◌, ◌++◌, ◌<◌, ◌≤◌, ◌||◌, ◌⊎◌, inl, inr, Bool, true, false, suc, zero, refl, sym, ap, ◌∙◌, subst, arith, List, Option, Some, map, length, take, drop}
+use Rattle.std.proofs.lemmas.List.{length-map}
+use Rattle.std.proofs.Math.Seq.{take-append_seam}
 use Rattle.std.proofs.lemmas.Bool.Decides.{leb_tells}
 use Rattle.heartbeats.specs.declared.peer.Peer.{Peer}
 use Rattle.heartbeats.specs.State.{State}
@@ -32,3 +34,9 @@ tick_done s configured peers view stable p v t = rw (t, v, p) refl
 
 pub none_found : (test : ℕ → Bool) (n : ℕ) → n ≡ 32 → some_to test n ≡ false → false ≡ some_to test 32
 none_found test n last none = sym (subst (λ k. some_to test k ≡ false) last none)
+
+-- a slice of all of them is written back
+pub whole_back : (n : ℕ) (xs ys : List (Option Peer)) → n ≡ length xs → ys ≡ map older xs → take n (ys ++ drop (length ys) xs) ≡ map older xs
+whole_back n xs ys is aged =
+    let long : n ≡ length ys = is ∙ sym (ap length aged ∙ length-map xs older) in
+    subst (λ k. take k (ys ++ drop (length ys) xs) ≡ map older xs) (sym long) (take-append_seam ys (drop (length ys) xs) ∙ aged)

@@ -1,4 +1,4 @@
-ghost use Rattle.std.specs.Prelude.{◌≡◌, ◌-◌, nat_le, None, Some, map, slice_index_or};
+ghost use Rattle.std.specs.Prelude.{◌≡◌, ◌-◌, nat_le, None, Some, IfOk, map, slice_index_or};
 ghost use Rattle.cl_base.specs.Sets.{has};
 ghost use Rattle.heartbeats.specs.Due.{begins, breaks, is_broken, is_least, shows_apart, wants_another};
 ghost use Rattle.heartbeats.specs.Peers.{at_boot, heard, beat_after, is_near, older, peer_in};
@@ -7,7 +7,11 @@ ghost use Rattle.heartbeats.specs.Views.{is_heard, is_in_view, is_receiver, rece
 use crate::due::Membership;
 use crate::peer::{Beat, Peer};
 use cl_base::{Epoch, NodeId, NodeSet};
+use std::alloc::{AllocError, Global};
 use std::marker::Model;
+
+/// How many nodes there may be.
+const NODES: usize = 32;
 
 /// The oldest age of a node that is in the view, in ticks.
 const NEAR: u8 = 3;
@@ -19,7 +23,8 @@ const WAIT: u64 = 4;
 #[derive(Drop)]
 pub struct Heartbeats {
     me: NodeId,
-    peers: [Option<Peer>; 32],
+    /// Of each node what it was heard last, node 1 first.
+    peers: Vec<Option<Peer>>,
     view: Option<NodeSet>,
     stable: u64,
     wait: u64,
@@ -31,22 +36,25 @@ impl Model for Heartbeats {
 
     ghost Value = { State };
 
-    ghost view = { λ h. record { me = h.me; peers = h.peers; view = h.view; stable = h.stable; wait = h.wait } };
+    ghost view = { λ h. record { me = h.me; peers = h.peers.items; view = h.view; stable = h.stable; wait = h.wait } };
 
-    ghost invariant = { λ h. length h.peers ≡ 32 };
+    ghost invariant = { λ h. length h.peers.items ≡ 32 };
 }
 
 impl Heartbeats {
     /// At the boot of this node: it has heard nobody.
-    pub fn new(me: NodeId) -> Heartbeats
-        ensures value { result ≡ at_boot me }
+    pub fn new(alloc: Global, me: NodeId) -> Result<Heartbeats, AllocError>
+        ensures value { IfOk result (λ beats. beats ≡ at_boot me) }
     {
-        Heartbeats {
-            me,
-            peers: [None; 32],
-            view: None,
-            stable: 0,
-            wait: 0,
+        match Vec::from_slice(alloc, &[None; NODES]) {
+            Ok(peers) => Ok(Heartbeats {
+                me,
+                peers,
+                view: None,
+                stable: 0,
+                wait: 0,
+            }),
+            Err(failed) => Err(failed),
         }
     }
 
@@ -63,7 +71,7 @@ impl Heartbeats {
     pub fn tick(&mut self, configured: NodeSet)
         ensures after { self.new ≡ ticked self.old configured }
     {
-        age(&mut self.peers);
+        age(self.peers.as_mut_slice());
         let view = self.view_of(configured);
         self.stable = stable_after(self.view, self.stable, view);
         self.view = Some(view);

@@ -1,6 +1,6 @@
 //! What a node knows of the others by their heartbeats: how long each has been silent, the view that
 //! follows, for how long it has stood, and whether an attempt on a membership is to begin.
-//! Nothing here allocates.
+//! Only a boot takes memory.
 #![tactic(auto)]
 
 mod due;

@@ -254,7 +254,7 @@ pub fn encode(alloc: Global, m: &Message) -> Result<Vec<u8>, AllocError>
     // So the message that `decode` finds in these bytes is this one.
     ensures range { OnOk result (Fits m.now) }
 {
-    let mut writer = Writer::new(alloc);
+    let mut writer = Writer::new(alloc)?;
     writer.byte(m.body.kind().byte())?;
     writer.node(m.sender)?;
     put_body(&mut writer, &m.body)?;

@@ -25,6 +25,3 @@ pub use message::{Body, Install, Message, Order, SeizedResult};
 pub use report::{
     GroupReport, GroupReports, LastFailures, Marks, Report, ResourceReport, ResourceReports,
 };
-
-#[cfg(test)]
-mod tests;

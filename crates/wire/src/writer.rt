@@ -1,10 +1,13 @@
-ghost use Rattle.std.specs.Prelude.{◌≡◌, ◌++◌, ◌<◌, [], length, OnOk};
+ghost use Rattle.std.specs.Prelude.{◌≡◌, ◌++◌, ◌<◌, [], length, IfOk, OnOk};
 ghost use Rattle.wire.specs.Spelling.{number, word, set, one, truth, text, IsShortText, IsWord, IsNode, IsDevice, IsNodes, IsDevices};
 
 use byteorder::{BigEndian, ByteOrder};
 use cl_base::{Bytes, DevId, DevSet, Epoch, NodeId, NodeSet};
 use std::alloc::{AllocError, Global};
 use std::marker::Model;
+
+/// The bytes of a short message, as most are.
+const SHORT: usize = 32;
 
 /// Bytes that are written at the end. Contracts see the bytes.
 #[derive(Drop)]
@@ -21,13 +24,13 @@ impl Model for Writer {
 }
 
 impl Writer {
-    /// No bytes.
-    pub fn new(alloc: Global) -> Writer
-        ensures { result ≡ [] }
+    /// No bytes, with room for those of a short message.
+    pub fn new(alloc: Global) -> Result<Writer, AllocError>
+        ensures { IfOk result (λ w. w ≡ []) }
     {
-        Writer {
-            bytes: Vec::new(alloc),
-        }
+        Ok(Writer {
+            bytes: Vec::with_capacity(alloc, SHORT)?,
+        })
     }
 
     /// The bytes.
