@@ -10,7 +10,7 @@ use cl_base::NodeId;
 use cmm_member::DownNode;
 use device_queue::DeviceQueue;
 use heartbeats::Heartbeats;
-use node_model::{Cluster, Output, Seat, Stop, UpNode, cause_of, tell_of};
+use node_model::{Cluster, Output, Seat, Slot, Stop, UpNode, cause_of, tell_of};
 use record_disk::{DiskError, RecordDisk};
 use status_report::NodeEntry;
 use std::alloc::Global;
@@ -31,13 +31,16 @@ pub fn boot<K: RecordDisk>(
 {
     tell_of(out, me, NodeEntry::Up)?;
     match disk.mount(alloc, DownNode::new(me, cluster.first_valid)) {
-        Ok(node) => Ok(UpNode {
-            greatest: node.promised(),
-            seat: Seat::Forming(node),
-            beats: Heartbeats::new(me),
-            tasks: DeviceQueue::new(alloc),
-            attempt: None,
-        }),
+        Ok(node) => {
+            let beats = Heartbeats::new(alloc, me)?;
+            Ok(UpNode {
+                greatest: node.promised(),
+                seat: Seat::Forming(node),
+                beats,
+                tasks: DeviceQueue::new(alloc),
+                attempt: Slot::empty(),
+            })
+        }
         Err(DiskError::Lost(loss)) => Err(Stop::Down(cause_of(loss))),
         Err(DiskError::NoMemory) => Err(Stop::NoMemory),
     }

@@ -2,6 +2,8 @@
 #![tactic(auto)]
 
 mod boot;
+mod due;
+mod finish;
 mod packet;
 mod stepping;
 mod tick;

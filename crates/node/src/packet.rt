@@ -1,18 +1,19 @@
 // A packet that is delivered.
-ghost use Rattle.std.specs.Prelude.{◌≡◌, false, List};
+ghost use Rattle.std.specs.Prelude.{◌≡◌, false, List, IfOk, OnOk, Ok};
 ghost use Rattle.cmm_attempt.specs.Attempts.{HasFewKeys};
-ghost use Rattle.node_model.specs.Members.{beat_in, is_foreign, on_answer, on_body, on_excluded, on_heartbeat, on_packet};
+ghost use Rattle.node_model.specs.Members.{beat_in, hearing, is_foreign, on_answer, on_body, on_excluded, on_heartbeat, on_packet};
 ghost use Rattle.node_model.specs.Plans.{Follows, Gives};
+ghost use Rattle.node.specs.Due.{HearsUp};
 
-use cl_base::{Epoch, NodeId, Panic};
+use cl_base::{DevId, Epoch, NodeId, NodeSet, Panic};
 use heartbeats::Beat;
 use node_attempts::go_on;
 use node_members::{Request, collect, is_foreign, seize, take_install, take_start};
-use node_model::{Cluster, Output, Stop, UpNode, send};
+use node_model::{Cluster, Output, Stop, UpNode};
 use record_disk::RecordDisk;
 use seize::SeizeKind;
 use status_report::DownCause;
-use std::alloc::Global;
+use std::alloc::{AllocError, Global};
 use wire::{Body, Message};
 
 /// The node is delivered a message. A foreign one changes nothing.
@@ -31,8 +32,7 @@ pub fn take_packet<K: RecordDisk>(
     if is_foreign(cluster, me, &m.body) {
         return Ok(up);
     }
-    up.beats.hear(from, beat_in(&m.body));
-    up.greatest = up.greatest.max(m.body.greatest_shown());
+    hear(&mut up, from, &m.body);
     take_message(alloc, cluster, me, disk, up, from, m, out)
 }
 
@@ -55,7 +55,10 @@ fn take_message<K: RecordDisk>(
             session,
             member,
             ..
-        } => take_heartbeat(me, up, from, *session, *member, out),
+        } => {
+            answer_heartbeat(me, &up, from, *session, *member, out)?;
+            Ok(up)
+        }
         Body::Collect { epoch, .. } => collect(alloc, me, disk, up, from, *epoch, out),
         Body::Promise { .. } | Body::Nack { .. } | Body::Seized { .. } | Body::Ready { .. } => {
             take_answer(alloc, cluster, me, disk, up, from, m, out)
@@ -65,12 +68,7 @@ fn take_message<K: RecordDisk>(
             members,
             device,
         } => {
-            let request = Request {
-                kind: SeizeKind::Vote,
-                epoch: *epoch,
-                members: *members,
-                device: *device,
-            };
+            let request = request(SeizeKind::Vote, *epoch, *members, *device);
             seize(alloc, cluster, me, up, from, request, out)
         }
         Body::SeizeData {
@@ -78,18 +76,24 @@ fn take_message<K: RecordDisk>(
             members,
             device,
         } => {
-            let request = Request {
-                kind: SeizeKind::Plain,
-                epoch: *epoch,
-                members: *members,
-                device: *device,
-            };
+            let request = request(SeizeKind::Plain, *epoch, *members, *device);
             seize(alloc, cluster, me, up, from, request, out)
         }
         Body::Install(i) => take_install(alloc, cluster, me, disk, up, from, i, out),
         Body::Start { epoch } => take_start(alloc, me, disk, up, *epoch, out),
         Body::Excluded { epoch, newest } => take_excluded(up, *epoch, *newest),
         _ => Ok(up),
+    }
+}
+
+fn request(kind: SeizeKind, epoch: Epoch, members: NodeSet, device: DevId) -> Request
+    ensures { result ≡ record { kind = kind; epoch = epoch; members = members; device = device } }
+{
+    Request {
+        kind,
+        epoch,
+        members,
+        device,
     }
 }
 
@@ -114,23 +118,55 @@ fn take_answer<K: RecordDisk>(
     go_on(alloc, cluster, me, disk, up, attempt, steps, out)
 }
 
-/// The president answers a member of its session that is not one yet by Start.
-fn take_heartbeat(
+/// The sender is heard, and the epochs that its message shows are seen.
+fn hear(up: &mut UpNode, from: NodeId, body: &Body)
+    ensures { up.new ≡ hearing up.old from body.now }
+{
+    up.beats.hear(from, beat_in(body));
+    up.greatest = up.greatest.max(body.greatest_shown());
+}
+
+/// A heartbeat is heard, without a look at anything else. Any other message is left.
+pub(crate) fn hear_heartbeat(
     me: NodeId,
-    up: UpNode,
+    up: &mut UpNode,
+    from: NodeId,
+    m: &Message,
+    out: &mut Vec<Output>,
+) -> Result<bool, AllocError>
+    ensures { IfOk result (λ done. HearsUp me up.old from m.now out.old.items done up.new out.new.items) }
+{
+    let Body::Heartbeat {
+        session,
+        member,
+        ..
+    } = &m.body
+    else {
+        return Ok(false);
+    };
+    hear(up, from, &m.body);
+    answer_heartbeat(me, up, from, *session, *member, out)?;
+    Ok(true)
+}
+
+/// The president answers a member of its session that is not one yet by Start.
+fn answer_heartbeat(
+    me: NodeId,
+    up: &UpNode,
     from: NodeId,
     session: Epoch,
     member: bool,
     out: &mut Vec<Output>,
-) -> Result<UpNode, Stop>
-    ensures { Gives (on_heartbeat me up from session member) out.old.items result out.new.items }
+) -> Result<(), AllocError>
+    ensures { OnOk result (Gives (on_heartbeat me up.now from session member) out.old.items (Ok up.now) out.new.items) }
 {
     let own = up.seat.session();
     let leads = own.number() % 64 == me.number();
     if up.seat.is_member() && leads && session == own && !member && up.seat.members().has(from) {
-        send(out, from, Body::Start { epoch: own })?;
+        let body = Body::Start { epoch: own };
+        out.push(Output::Sends { to: from, body })?;
     }
-    Ok(up)
+    Ok(())
 }
 
 /// The attempt of the node's session leaves it out.

@@ -1,80 +1,109 @@
 // What a node comes to by what happens to it.
-ghost use Rattle.std.specs.Prelude.{◌≡◌, [], IfOk};
+ghost use Rattle.std.specs.Prelude.{◌≡◌, [], true, false, IfOk, OnOk};
+ghost use Rattle.node_model.specs.declared.input.Input.TheVariants.{Boot, Tick};
 ghost use Rattle.node_model.specs.Inputs.{IsAnswered};
-ghost use Rattle.node_model.specs.Plans.{Follows};
-ghost use Rattle.node_model.specs.Steps.{plan_of, stepped};
+ghost use Rattle.node_model.specs.Steps.{stepped};
+ghost use Rattle.node.specs.Due.{Hears};
 
 use crate::boot::boot;
-use crate::packet::take_packet;
+use crate::due::Due;
+use crate::finish::{finish, tell_down};
+use crate::packet::hear_heartbeat;
 use crate::tick::tick;
 use cl_base::NodeId;
-use node_devices::{before_command, take_device_answer, take_write_answer};
-use node_model::{Cluster, Input, Node, Output, Stop, UpNode};
+use node_model::{Cluster, Input, Node, Output, Stop};
 use record_disk::RecordDisk;
-use status_report::{DownCause, Entry, NodeEntry};
 use std::alloc::{AllocError, Global};
+use wire::Message;
 
-/// The node after what happens to it. What it gives is added to `out`, in order. Where memory runs out,
-/// the node is gone.
-#[tactic(auto, using(node_model::proofs::Plans::done_is, node_model::proofs::Plans::fallen_is))]
+/// What happens to the node. What it gives is added to `out`, in order. Where memory runs out, the run
+/// ends.
 pub fn step<K: RecordDisk>(
     alloc: Global,
     cluster: &Cluster,
     me: NodeId,
     disk: &mut K,
-    node: Node,
-    input: Input,
+    node: &mut Node,
+    input: &Input,
     out: &mut Vec<Output>,
-) -> Result<Node, AllocError>
+) -> Result<(), AllocError>
     requires empty { out.old.items ≡ [] }
-    requires answer { IsAnswered input }
-    ensures { IfOk result (λ after. record { after = after; given = out.new.items; disk = disk.new } ≡ stepped (record { kept = K.kept; saving = K.saving; mounting = K.mounting }) cluster.now me node disk.old input) }
+    requires answer { IsAnswered input.now }
+    ensures step { OnOk result (record { after = node.new; given = out.new.items; disk = disk.new } ≡ stepped (record { kept = K.kept; saving = K.saving; mounting = K.mounting }) cluster.now me node.old disk.old input.now) }
 {
-    let after = match (node, input) {
-        (Node::Down, Input::Boot) => boot(alloc, cluster, me, disk, out),
-        (Node::Down, _) => return Ok(Node::Down),
-        (Node::Up(up), input) => step_up(alloc, cluster, me, disk, up, input, out),
-    };
-    match after {
-        Ok(up) => Ok(Node::Up(up)),
-        Err(Stop::Down(why)) => {
-            let entry = Entry::Node {
-                node: me,
-                entry: NodeEntry::Down(why),
-            };
-            out.push(Output::Tells(entry))?;
-            Ok(Node::Down)
+    match input {
+        Input::Boot => step_at_boot(alloc, cluster, me, disk, node, out),
+        Input::Tick => step_at_tick(alloc, cluster, me, disk, node, out),
+        Input::Packet { from, message } => {
+            if hears(me, node, *from, message, out)? {
+                return Ok(());
+            }
+            finish(alloc, cluster, me, disk, node, input, Due::All, out)
         }
-        Err(Stop::NoMemory) => Err(AllocError),
+        Input::Crash | Input::CommandDue | Input::Answered(_) | Input::Wrote { .. } => {
+            finish(alloc, cluster, me, disk, node, input, Due::All, out)
+        }
     }
 }
 
-#[tactic(auto, using(node_model::proofs::Plans::gives_follows))]
-fn step_up<K: RecordDisk>(
+/// A node that is down comes up.
+fn step_at_boot<K: RecordDisk>(
     alloc: Global,
     cluster: &Cluster,
     me: NodeId,
     disk: &mut K,
-    up: UpNode,
-    input: Input,
+    node: &mut Node,
     out: &mut Vec<Output>,
-) -> Result<UpNode, Stop>
-    requires answer { IsAnswered input }
-    ensures { Follows K.saving (plan_of cluster.now me up input) out.old.items disk.old result out.new.items disk.new }
+) -> Result<(), AllocError>
+    requires empty { out.old.items ≡ [] }
+    ensures { OnOk result (record { after = node.new; given = out.new.items; disk = disk.new } ≡ stepped (record { kept = K.kept; saving = K.saving; mounting = K.mounting }) cluster.now me node.old disk.old Boot) }
 {
-    match input {
-        Input::Boot => Ok(up),
-        Input::Crash => Err(Stop::Down(DownCause::Crash)),
-        Input::Tick => tick(alloc, cluster, me, disk, up, out),
-        Input::Packet { from, message } => {
-            take_packet(alloc, cluster, me, disk, up, from, &message, out)
+    let Node::Down = node else {
+        return Ok(());
+    };
+    match boot(alloc, cluster, me, disk, out) {
+        Ok(up) => {
+            *node = Node::Up(up);
+            Ok(())
         }
-        Input::CommandDue => before_command(alloc, me, disk, up, out),
-        Input::Answered(answer) => take_device_answer(alloc, cluster, me, disk, up, answer, out),
-        Input::Wrote {
-            device,
-            value,
-            answer,
-        } => take_write_answer(me, up, device, value, answer, out),
+        Err(Stop::Down(why)) => tell_down(me, why, out),
+        Err(Stop::NoMemory) => Err(AllocError),
+    }
+}
+
+/// The clock of a node that is up ticks.
+fn step_at_tick<K: RecordDisk>(
+    alloc: Global,
+    cluster: &Cluster,
+    me: NodeId,
+    disk: &mut K,
+    node: &mut Node,
+    out: &mut Vec<Output>,
+) -> Result<(), AllocError>
+    requires empty { out.old.items ≡ [] }
+    ensures { OnOk result (record { after = node.new; given = out.new.items; disk = disk.new } ≡ stepped (record { kept = K.kept; saving = K.saving; mounting = K.mounting }) cluster.now me node.old disk.old Tick) }
+{
+    let Node::Up(up) = node else {
+        return Ok(());
+    };
+    match tick(alloc, cluster, me, up, out)? {
+        Due::Nothing => Ok(()),
+        due => finish(alloc, cluster, me, disk, node, &Input::Tick, due, out),
+    }
+}
+
+/// Whether the message is a heartbeat to a node that is up: it is heard in place.
+fn hears(
+    me: NodeId,
+    node: &mut Node,
+    from: NodeId,
+    m: &Message,
+    out: &mut Vec<Output>,
+) -> Result<bool, AllocError>
+    ensures heard { IfOk result (λ done. Hears me node.old from m.now out.old.items done node.new out.new.items) }
+{
+    match node {
+        Node::Down => Ok(false),
+        Node::Up(up) => hear_heartbeat(me, up, from, m, out),
     }
 }

@@ -1,36 +1,45 @@
 // A tick of a node.
-ghost use Rattle.std.specs.Prelude.{◌≡◌, ◌<◌, ◌/◌, ◌^◌, ◌++◌, ◌∷◌, [], map, true, OnOk, IfSome};
+ghost use Rattle.std.specs.Prelude.{◌≡◌, ◌<◌, ◌/◌, ◌^◌, ◌++◌, ◌∷◌, [], map, true, OnOk, IfOk, IfSome};
 ghost use Rattle.cl_base.specs.Sets.{has};
-ghost use Rattle.node_model.specs.declared.output.Output.TheVariants.{Sends};
+ghost use Rattle.status_report.specs.declared.entry.Entry.TheVariants as trace;
+ghost use Rattle.status_report.specs.declared.node_entry.NodeEntry.TheVariants as note;
+ghost use Rattle.node_model.specs.declared.input.Input.TheVariants.{Tick};
+ghost use Rattle.node_model.specs.declared.output.Output.TheVariants.{Sends, Tells};
 ghost use Rattle.node_model.specs.Plans.{Follows};
-ghost use Rattle.node_model.specs.Ticks.{attempt_ticked, heartbeat_of, heartbeats_to, members_to_form, membership_of, on_tick};
+ghost use Rattle.node_model.specs.Ticks.{attempt_ticked, heartbeat_of, heartbeats_to, members_to_form, later, membership_of};
 ghost use Rattle.heartbeats.specs.Views.{receivers_of};
+ghost use Rattle.node.specs.Due.{MayBegin, going_on_with, rest_of};
 
+use crate::due::Due;
 use cl_base::{NodeId, NodeSet};
 use heartbeats::Membership;
-use node_attempts::{go_on, lead};
-use node_model::{Cluster, Output, Seat, Stop, UpNode, tell_of};
+use node_attempts::go_on;
+use node_model::{Cluster, Output, Seat, Stop, UpNode};
 use record_disk::RecordDisk;
-use status_report::NodeEntry;
+use status_report::{Entry, NodeEntry};
 use std::alloc::{AllocError, Global};
 use wire::Body;
 
-/// The node's clock ticks: it takes its view anew, sends its heartbeats, and its attempt goes on, or one
-/// begins.
-pub fn tick<K: RecordDisk>(
+/// The node's clock ticks: it takes its view anew and sends its heartbeats. What is then due is told.
+pub(crate) fn tick(
     alloc: Global,
     cluster: &Cluster,
     me: NodeId,
-    disk: &mut K,
-    mut up: UpNode,
+    up: &mut UpNode,
     out: &mut Vec<Output>,
-) -> Result<UpNode, Stop>
-    ensures { Follows K.saving (on_tick cluster.now me up) out.old.items disk.old result out.new.items disk.new }
+) -> Result<Due, AllocError>
+    ensures told { OnOk result (out.new.items ≡ (out.old.items ++ Tells (trace.Node me note.Ticked) ∷ []) ++ heartbeats_to (later cluster.now up.old) (receivers_of (later cluster.now up.old).beats cluster.now.configured)) }
+    ensures rest { IfOk result (λ due. attempt_ticked cluster.now me (later cluster.now up.old) up.old.attempt ≡ rest_of cluster.now me up.new Tick due) }
+    ensures ready { IfOk result (λ due. MayBegin me up.new due) }
 {
-    tell_of(out, me, NodeEntry::Ticked)?;
+    let entry = Entry::Node {
+        node: me,
+        entry: NodeEntry::Ticked,
+    };
+    out.push(Output::Tells(entry))?;
     up.beats.tick(cluster.configured);
-    send_heartbeats(alloc, cluster, &up, out)?;
-    tick_attempt(alloc, cluster, me, disk, up, out)
+    send_heartbeats(alloc, cluster, up, out)?;
+    Ok(due(cluster, me, up))
 }
 
 /// A heartbeat goes to every other configured node, ascending.
@@ -73,8 +82,25 @@ fn heartbeat(up: &UpNode) -> Body
     }
 }
 
-/// The attempt goes on; without one the node waits, or begins one.
-fn tick_attempt<K: RecordDisk>(
+/// What is due after the heartbeats. Without an attempt the node waits, or begins one.
+fn due(cluster: &Cluster, me: NodeId, up: &mut UpNode) -> Due
+    ensures rest { attempt_ticked cluster.now me up.old up.old.attempt ≡ rest_of cluster.now me up.new Tick result }
+    ensures ready { MayBegin me up.new result }
+{
+    if up.attempt.get().is_some() {
+        return Due::Attempt;
+    }
+    if up.beats.waits() {
+        return Due::Nothing;
+    }
+    match members_to_form(cluster, me, up) {
+        Some(members) => Due::Lead(members),
+        None => Due::Nothing,
+    }
+}
+
+/// The attempt that is under way has a tick.
+pub(crate) fn go_on_with<K: RecordDisk>(
     alloc: Global,
     cluster: &Cluster,
     me: NodeId,
@@ -82,19 +108,13 @@ fn tick_attempt<K: RecordDisk>(
     mut up: UpNode,
     out: &mut Vec<Output>,
 ) -> Result<UpNode, Stop>
-    ensures { Follows K.saving (attempt_ticked cluster.now me up up.attempt) out.old.items disk.old result out.new.items disk.new }
+    ensures { Follows K.saving (going_on_with cluster.now me up up.attempt) out.old.items disk.old result out.new.items disk.new }
 {
-    if let Some(mut attempt) = up.attempt.take() {
-        let steps = attempt.tick()?;
-        return go_on(alloc, cluster, me, disk, up, attempt, steps, out);
-    }
-    if up.beats.waits() {
+    let Some(mut attempt) = up.attempt.take() else {
         return Ok(up);
-    }
-    match members_to_form(cluster, me, &up) {
-        Some(members) => lead(alloc, cluster, me, disk, up, members, out),
-        None => Ok(up),
-    }
+    };
+    let steps = attempt.tick()?;
+    go_on(alloc, cluster, me, disk, up, attempt, steps, out)
 }
 
 /// The members of the attempt that the node is to begin, if it is to.

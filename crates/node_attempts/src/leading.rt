@@ -8,7 +8,7 @@ use crate::performing::go_on;
 use cl_base::{Epoch, NodeId, NodeSet};
 use cmm_attempt::{AttachedDevices, Attempt};
 use node_acts::promise_body;
-use node_model::{Cluster, Output, Seat, Stop, UpNode, keep, tell};
+use node_model::{Cluster, Output, Seat, Slot, Stop, UpNode, keep, tell};
 use record_disk::RecordDisk;
 use status_report::{AttemptEntry, Entry};
 use std::alloc::Global;
@@ -35,7 +35,7 @@ pub fn lead<K: RecordDisk>(
             up.seat = Seat::Forming(node);
             up.greatest = epoch;
             up.tasks.clear();
-            up.attempt = None;
+            up.attempt = Slot::empty();
             begin_attempt(alloc, cluster, me, disk, up, epoch, members, out)
         }
         // The greatest epoch seen is never below the promise.

@@ -31,12 +31,12 @@ pub fn go_on<K: RecordDisk>(
     ensures { Follows K.saving (going_on cluster.now me up (with_steps attempt steps)) out.old.items disk.old result out.new.items disk.new }
 {
     if !attempt.needs_votes() {
-        up.attempt = Some(attempt);
+        up.attempt.put(alloc, attempt)?;
         return perform(alloc, cluster, me, disk, up, steps, out);
     }
     // No update changes the votes yet.
     let steps = attempt.with_votes(cluster.votes, None)?;
-    up.attempt = Some(attempt);
+    up.attempt.put(alloc, attempt)?;
     perform(alloc, cluster, me, disk, up, steps, out)
 }
 
@@ -87,7 +87,7 @@ pub fn own_ready<K: RecordDisk>(
         return Ok(up);
     };
     let steps = attempt.own_ready()?;
-    up.attempt = Some(attempt);
+    up.attempt.put(alloc, attempt)?;
     do_steps(alloc, cluster, me, disk, up, steps, out)
 }
 
@@ -143,7 +143,7 @@ fn seize_here(
 ) -> Result<UpNode, AllocError>
     ensures { IfOk result (λ after. after ≡ seizing_here cluster.now me up dev kind up.attempt) }
 {
-    let Some(attempt) = &up.attempt else {
+    let Some(attempt) = up.attempt.get() else {
         return Ok(up);
     };
     let (epoch, members) = (attempt.epoch(), attempt.members());

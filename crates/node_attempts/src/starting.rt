@@ -11,7 +11,7 @@ use cl_base::{Bytes, Epoch, NodeId};
 use cmm_attempt::Attempt;
 use cmm_member::Started;
 use node_acts::become_member;
-use node_model::{Output, Seat, Stop, UpNode, keep, tell, tell_of};
+use node_model::{Output, Seat, Slot, Stop, UpNode, keep, tell, tell_of};
 use record_disk::RecordDisk;
 use status_report::{Entry, NodeEntry, StartEntry};
 use std::alloc::Global;
@@ -46,7 +46,7 @@ fn start_attempt<K: RecordDisk>(
     match become_member(up.seat, epoch) {
         Ok(Started { node, changed }) => {
             up.seat = Seat::Member(node);
-            up.attempt = None;
+            up.attempt = Slot::empty();
             if changed {
                 keep(alloc, me, disk, &up.seat, out)?;
             }
@@ -55,7 +55,7 @@ fn start_attempt<K: RecordDisk>(
         }
         Err(seat) => {
             up.seat = seat;
-            up.attempt = Some(attempt);
+            up.attempt.put(alloc, attempt)?;
         }
     }
     Ok(up)

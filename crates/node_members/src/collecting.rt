@@ -6,7 +6,7 @@ ghost use Rattle.node_model.specs.Seats.{promised_of};
 
 use cl_base::{Epoch, NodeId};
 use node_acts::promise_body;
-use node_model::{Output, Seat, Stop, UpNode, keep, send, tell};
+use node_model::{Output, Seat, Slot, Stop, UpNode, keep, send, tell};
 use record_disk::RecordDisk;
 use status_report::{AttemptEntry, Entry};
 use std::alloc::Global;
@@ -65,7 +65,7 @@ fn promise<K: RecordDisk>(
     let seat = Seat::Forming(node);
     keep(alloc, me, disk, &seat, out)?;
     tasks.clear();
-    if let Some(attempt) = &attempt {
+    if let Some(attempt) = attempt.get() {
         let epoch = attempt.epoch();
         let ended = AttemptEntry::Superseded { epoch, by: p };
         beats.attempt_ended();
@@ -77,6 +77,6 @@ fn promise<K: RecordDisk>(
         greatest,
         beats,
         tasks,
-        attempt: None,
+        attempt: Slot::empty(),
     })
 }

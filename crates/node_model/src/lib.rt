@@ -7,6 +7,7 @@ mod input;
 mod node;
 mod output;
 mod seat;
+mod slot;
 mod stop;
 
 pub use cluster::Cluster;
@@ -14,4 +15,5 @@ pub use input::Input;
 pub use node::{Node, UpNode};
 pub use output::{Output, cause_of, keep, send, tell, tell_of};
 pub use seat::Seat;
+pub use slot::Slot;
 pub use stop::Stop;

@@ -1,4 +1,5 @@
 use crate::seat::Seat;
+use crate::slot::Slot;
 use cl_base::Epoch;
 use cmm_attempt::Attempt;
 use device_queue::DeviceQueue;
@@ -16,7 +17,7 @@ pub struct UpNode {
     /// Its tasks at devices.
     pub tasks: DeviceQueue,
     /// The attempt that it coordinates, if one is under way.
-    pub attempt: Option<Attempt>,
+    pub attempt: Slot<Attempt>,
 }
 
 /// A node of the cluster. Of one that is down nothing is left but its record, which is on its disk.

@@ -1,0 +1,112 @@
+// What is left of a step, by the handlers of its subject.
+ghost use Rattle.std.specs.Prelude.{◌≡◌, ◌++◌, ◌∷◌, [], OnOk};
+ghost use Rattle.status_report.specs.declared.entry.Entry.TheVariants as trace;
+ghost use Rattle.status_report.specs.declared.node_entry.NodeEntry.TheVariants as note;
+ghost use Rattle.node_model.specs.declared.output.Output.TheVariants.{Tells};
+ghost use Rattle.node_model.specs.Inputs.{IsAnswered};
+ghost use Rattle.node_model.specs.Plans.{Follows};
+ghost use Rattle.node.specs.Due.{IsDueAt, MayBegin, finished, rest_of, untouched};
+
+use crate::due::Due;
+use crate::packet::take_packet;
+use crate::tick::go_on_with;
+use cl_base::NodeId;
+use node_attempts::lead;
+use node_devices::{before_command, take_device_answer, take_write_answer};
+use node_model::{Cluster, Input, Node, Output, Stop, UpNode};
+use record_disk::RecordDisk;
+use status_report::{DownCause, Entry, NodeEntry};
+use std::alloc::{AllocError, Global};
+use std::mem;
+
+/// Does what is left of the step. A node that goes down tells it last.
+#[tactic(auto, using(node_model::proofs::Plans::done_is, node_model::proofs::Plans::fallen_is))]
+pub(crate) fn finish<K: RecordDisk>(
+    alloc: Global,
+    cluster: &Cluster,
+    me: NodeId,
+    disk: &mut K,
+    node: &mut Node,
+    input: &Input,
+    due: Due,
+    out: &mut Vec<Output>,
+) -> Result<(), AllocError>
+    requires answer { IsAnswered input.now }
+    requires due { IsDueAt me node.old due }
+    ensures { OnOk result (record { after = node.new; given = out.new.items; disk = disk.new } ≡ finished K.saving cluster.now me node.old input.now due out.old.items disk.old) }
+{
+    let Node::Up(up) = mem::replace(node, Node::Down) else {
+        return Ok(());
+    };
+    match do_rest(alloc, cluster, me, disk, up, input, due, out) {
+        Ok(up) => {
+            *node = Node::Up(up);
+            Ok(())
+        }
+        Err(Stop::Down(why)) => tell_down(me, why, out),
+        Err(Stop::NoMemory) => Err(AllocError),
+    }
+}
+
+/// The node is down: it tells that last.
+pub(crate) fn tell_down(me: NodeId, why: DownCause, out: &mut Vec<Output>) -> Result<(), AllocError>
+    ensures { OnOk result (out.new.items ≡ out.old.items ++ Tells (trace.Node me (note.Down why)) ∷ []) }
+{
+    let entry = Entry::Node {
+        node: me,
+        entry: NodeEntry::Down(why),
+    };
+    out.push(Output::Tells(entry))?;
+    Ok(())
+}
+
+fn do_rest<K: RecordDisk>(
+    alloc: Global,
+    cluster: &Cluster,
+    me: NodeId,
+    disk: &mut K,
+    up: UpNode,
+    input: &Input,
+    due: Due,
+    out: &mut Vec<Output>,
+) -> Result<UpNode, Stop>
+    requires answer { IsAnswered input.now }
+    requires due { MayBegin me up due }
+    ensures { Follows K.saving (rest_of cluster.now me up input.now due) out.old.items disk.old result out.new.items disk.new }
+{
+    match due {
+        Due::Nothing => Ok(up),
+        Due::Attempt => go_on_with(alloc, cluster, me, disk, up, out),
+        Due::Lead(members) => lead(alloc, cluster, me, disk, up, members, out),
+        Due::All => step_up(alloc, cluster, me, disk, up, input, out),
+    }
+}
+
+#[tactic(auto, using(node_model::proofs::Plans::gives_follows))]
+fn step_up<K: RecordDisk>(
+    alloc: Global,
+    cluster: &Cluster,
+    me: NodeId,
+    disk: &mut K,
+    up: UpNode,
+    input: &Input,
+    out: &mut Vec<Output>,
+) -> Result<UpNode, Stop>
+    requires answer { IsAnswered input.now }
+    ensures { Follows K.saving (untouched cluster.now me up input.now) out.old.items disk.old result out.new.items disk.new }
+{
+    match input {
+        Input::Boot | Input::Tick => Ok(up),
+        Input::Crash => Err(Stop::Down(DownCause::Crash)),
+        Input::Packet { from, message } => {
+            take_packet(alloc, cluster, me, disk, up, *from, message, out)
+        }
+        Input::CommandDue => before_command(alloc, me, disk, up, out),
+        Input::Answered(answer) => take_device_answer(alloc, cluster, me, disk, up, *answer, out),
+        Input::Wrote {
+            device,
+            value,
+            answer,
+        } => take_write_answer(me, up, *device, *value, *answer, out),
+    }
+}
