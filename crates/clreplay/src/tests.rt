@@ -169,7 +169,7 @@ fn faults_are_told(rt: HostRuntime) -> Result<(), Fail> {
     let alloc = rt.alloc();
     let all = b"good\ngood\ngood\nconflict\ndata 7\n".as_slice();
     expect_faults(&rt, alloc, &[0], &[], 4096, b"", Status::ReadFault)?;
-    expect_faults(&rt, alloc, &[1], &[], 4096, all, Status::ReadFault)?;
+    expect_faults(&rt, alloc, &[3], &[], 4096, all, Status::ReadFault)?;
     expect_faults(&rt, alloc, &[], &[0], 4096, b"", Status::WriteFault)?;
     expect_faults(
         &rt,
@@ -246,46 +246,51 @@ fn is_disk_panic(output: &Output) -> bool {
     }
 }
 
+fn tick(
+    alloc: Global,
+    cluster: &Cluster,
+    me: NodeId,
+    disk: &mut SimulatedDisk,
+    node: &mut Node,
+) -> Result<Vec<Output>, Fail> {
+    let mut given = Vec::new(alloc);
+    step(alloc, cluster, me, disk, node, &Input::Tick, &mut given)?;
+    Ok(given)
+}
+
+/// The node comes up with one disk, and has another from then on, which was not mounted.
+fn lose_a_save(
+    alloc: Global,
+    cluster: &Cluster,
+    me: NodeId,
+    node: &mut Node,
+) -> Result<Vec<Output>, Fail> {
+    let mut disk = SimulatedDisk::new(alloc, DevSet::empty())?;
+    let mut given = Vec::new(alloc);
+    step(
+        alloc,
+        cluster,
+        me,
+        &mut disk,
+        node,
+        &Input::Boot,
+        &mut given,
+    )?;
+    let mut other = SimulatedDisk::new(alloc, DevSet::empty())?;
+    for _ in 0..2 {
+        tick(alloc, cluster, me, &mut other, node)?;
+    }
+    tick(alloc, cluster, me, &mut other, node)
+}
+
 /// The first save of a node fails that came up with one disk and has another now, which was not mounted.
 #[test]
 fn failed_disk(rt: HostRuntime) -> Result<(), Fail> {
     let alloc = rt.alloc();
     let me = NodeId::new(1)?;
     let cluster = cluster_of(alloc, me);
-    let mut disk = SimulatedDisk::new(alloc, DevSet::empty())?;
-    let mut other = SimulatedDisk::new(alloc, DevSet::empty())?;
-    let mut given = Vec::new(alloc);
-    let mut node = step(
-        alloc,
-        &cluster,
-        me,
-        &mut disk,
-        Node::Down,
-        Input::Boot,
-        &mut given,
-    )?;
-    for _ in 0..2 {
-        let mut given = Vec::new(alloc);
-        node = step(
-            alloc,
-            &cluster,
-            me,
-            &mut other,
-            node,
-            Input::Tick,
-            &mut given,
-        )?;
-    }
-    let mut given = Vec::new(alloc);
-    let node = step(
-        alloc,
-        &cluster,
-        me,
-        &mut other,
-        node,
-        Input::Tick,
-        &mut given,
-    )?;
+    let mut node = Node::Down;
+    let given = lose_a_save(alloc, &cluster, me, &mut node)?;
     assert!(rt; matches!(node, Node::Down));
     assert!(rt; given.iter().any(is_disk_panic));
     Ok(())

@@ -15,9 +15,9 @@ use Rattle.schedule_text.specs.declared.kind.Kind.TheVariants as kind
 use Rattle.schedule_text.specs.declared.line.ClusterLine.{ClusterLine}
 use Rattle.schedule_text.specs.declared.line.ClusterLine.TheVariants as cluster
 use Rattle.schedule_text.specs.declared.line.SoFar.{SoFar}
-use Rattle.world.specs.First.{first_world}
-use Rattle.world.specs.Lines.{line_on}
-use Rattle.world.specs.Worlds.{WorldState, play}
+use Rattle.world_model.specs.First.{first_world}
+use Rattle.world_model.specs.Lines.{line_on}
+use Rattle.world_model.specs.Worlds.{WorldState, play}
 use Rattle.schedule_text.specs.declared.header.Head.{Head}
 use Rattle.schedule_text.specs.declared.header.Head.TheVariants.{Pr, Cluster}
 use Rattle.schedule_text.specs.declared.header.HeaderState.{HeaderState}

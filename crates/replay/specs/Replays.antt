@@ -20,9 +20,9 @@ use Rattle.schedule_text.specs.declared.line.ClusterLine.{ClusterLine}
 use Rattle.schedule_text.specs.declared.line.ClusterLine.TheVariants as cluster
 use Rattle.schedule_text.specs.declared.line.SoFar.{SoFar}
 use Rattle.schedule_text.specs.Lines.{cluster_line_of, pr_line_of, so_far_after_event}
-use Rattle.world.specs.First.{first_world}
-use Rattle.world.specs.Lines.{line_on}
-use Rattle.world.specs.Worlds.{WorldState, play}
+use Rattle.world_model.specs.First.{first_world}
+use Rattle.world_model.specs.Lines.{line_on}
+use Rattle.world_model.specs.Worlds.{WorldState, play}
 use Rattle.replay.specs.Sessions.{first_so_far}
 use Rattle.status_report.specs.declared.entry.Entry.{Entry}
 use Rattle.status_report.specs.declared.entry.Entry.TheVariants as entry

@@ -26,9 +26,9 @@ use Rattle.schedule_text.specs.Headers.{HeaderStep, More, Over, Bad, header_step
 use Rattle.schedule_text.specs.Lines.{pr_line_of, cluster_line_of, so_far_after_event}
 use Rattle.status_report.specs.declared.entry.Entry.TheVariants.{Answered, Powered}
 use Rattle.status_report.specs.Lines.{printed}
-use Rattle.world.specs.First.{first_world}
-use Rattle.world.specs.Lines.{line_on}
-use Rattle.world.specs.Worlds.{Play, WorldState, play}
+use Rattle.world_model.specs.First.{first_world}
+use Rattle.world_model.specs.Lines.{line_on}
+use Rattle.world_model.specs.Worlds.{Play, WorldState, play}
 use Rattle.replay.specs.declared.session.State.{State}
 use Rattle.replay.specs.declared.session.State.TheVariants.{Heading, Reading}
 use Rattle.replay.specs.declared.session.Body.{Body}

@@ -57,13 +57,14 @@ impl Reader {
     }
 
     /// How many bytes the next piece is to have at most. A line of a cluster schedule may write much, and
-    /// what the lines of a piece write is kept until all are answered.
+    /// what the lines of a piece write is kept until all are answered; the piece in which a header ends
+    /// has such lines, too.
     pub fn piece_size(&self) -> usize
         ensures some { 1 ≤ result }
         ensures most { result ≤ 4096 }
     {
         match &self.state {
-            State::Reading(Body::Clustering { .. }) => 64,
+            State::Heading(_) | State::Reading(Body::Clustering { .. }) => 32,
             _ => 4_096,
         }
     }

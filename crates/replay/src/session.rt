@@ -6,7 +6,7 @@ ghost use Rattle.schedule_text.specs.Lines.{pr_line_of, cluster_line_of, so_far_
 ghost use Rattle.replay.specs.declared.session.Body.TheVariants.{CheckingPr, CheckingCluster, Replaying, Clustering};
 ghost use Rattle.replay.specs.declared.session.State.TheVariants.{Reading};
 ghost use Rattle.replay.specs.Sessions.{Answers, Enters, TakesHeader, cluster_of, step, body_step, body_of, checked_pr, checked_cluster, clustered, event_done, replayed, is_later, is_later_line, is_not_built, refused_kind};
-ghost use Rattle.world.specs.Worlds.{WorldState};
+ghost use Rattle.world_model.specs.Worlds.{WorldState};
 
 use crate::stop::Stop;
 use crate::task::Task;
@@ -248,7 +248,7 @@ fn replay(device: &mut Pgr, line: &[u8], text: &mut Vec<u8>, words: &mut String)
     }
 }
 
-/// Reads a line of a cluster schedule, and replays it. What its entries write is put together first.
+/// Reads a line of a cluster schedule, and replays it.
 #[inline(never)]
 fn replay_cluster(
     alloc: Global,
@@ -286,6 +286,11 @@ fn replay_event(
         return Err(Stop::Refused(Kind::NotBuilt));
     }
     *so_far = moved_on(header, *so_far, event);
+    // Many rounds write much: it is not copied, where nothing stands before it.
+    if text.is_empty() {
+        world.step(alloc, event, text)?;
+        return Ok(());
+    }
     let mut entries = Vec::new(alloc);
     world.step(alloc, event, &mut entries)?;
     text.extend_from_slice(&entries)?;

@@ -28,6 +28,7 @@ mod start_text;
 mod status_entry;
 mod status_text;
 mod status_words;
+mod trace_print;
 mod update_entry;
 mod update_text;
 mod words;
@@ -47,7 +48,5 @@ pub use reply_text::answer_text;
 pub use schedule_entry::{ScheduleEntry, SkipCause};
 pub use start_entry::{AdoptedFlags, StartEntry};
 pub use status_entry::{QuorumState, StatusEntry, TableLine};
+pub use trace_print::{print_delivered, print_onto, print_sent};
 pub use update_entry::UpdateEntry;
-
-#[cfg(test)]
-mod tests;

@@ -65,7 +65,8 @@ fn message_text(alloc: Global, message: MessageName) -> Result<String, AllocErro
     }
 }
 
-fn kind_word(kind: MessageKind) -> &'static str
+/// The name of a kind of message.
+pub fn kind_word(kind: MessageKind) -> &'static str
     ensures { result.now ≡ kind_text kind }
 {
     match kind {

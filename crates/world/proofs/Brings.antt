@@ -3,8 +3,8 @@ use Rattle.std.proofs.Common.{◌≡◌, ◌≢◌, ◌⊎◌, ℕ, suc, zero, �
 use Rattle.std.proofs.lemmas.Bool.{cases_lt}
 use Rattle.std.proofs.lemmas.Bool.Decides.{nat_tests}
 use Rattle.interconnect.specs.Links.{Packet, NumbersRise, first_from_of, packet_of}
-use Rattle.world.specs.Worlds.{Play}
-use Rattle.world.specs.Rounds.{bringing, bringing_below}
+use Rattle.world_model.specs.Worlds.{Play}
+use Rattle.world_model.specs.Rounds.{bringing, bringing_below}
 
 test_other : (a b : ℕ) → a ≢ b → (a == b) ≡ false
 test_other a b e = grind (arith, nat_tests)

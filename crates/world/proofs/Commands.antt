@@ -2,9 +2,9 @@
 use Rattle.std.proofs.Common.{◌≡◌, ◌⊎◌, ℕ, suc, zero, ◌+◌, ◌<◌, ◌≤◌, inl, inr, true, false, Option, is_some, Some, None, refl, sym, subst, ap, ◌∙◌, arith, add-one}
 use Rattle.std.proofs.lemmas.Bool.{cases_lt}
 use Rattle.pgr_device.specs.declared.command.PrCommand.{PrCommand}
-use Rattle.world.specs.Worlds.{Play}
-use Rattle.world.specs.Devices.{doing_command, due}
-use Rattle.world.specs.Rounds.{doing_one, doing_some}
+use Rattle.world_model.specs.Worlds.{Play}
+use Rattle.world_model.specs.Devices.{doing_command, due}
+use Rattle.world_model.specs.Rounds.{doing_one, doing_some}
 
 -- where none is due, those that follow change nothing
 none_due : (n : ℕ) (o : Option (ℕ × PrCommand)) (q : Play) → is_some o ≡ false → doing_one n o q ≡ q

@@ -3,7 +3,7 @@ use Rattle.std.proofs.Common.{◌≡◌, ℕ, ◌+◌, ◌<◌, ◌++◌, List, 
 use Rattle.std.proofs.lemmas.List.{take_more, length-take-le}
 use Rattle.cl_base.specs.declared.header.HeaderDevice.{HeaderDevice}
 use Rattle.cmm_attempt.specs.declared.attached.AttachedDevice.{AttachedDevice}
-use Rattle.world.specs.First.{attached_from, quorum_from, with_quorum}
+use Rattle.world_model.specs.First.{attached_from, quorum_from, with_quorum}
 
 quorum_then : (n s m : ℕ) (xs : List HeaderDevice) (x : HeaderDevice) → n + length xs ≡ m → quorum_from n (xs ++ x ∷ []) s ≡ with_quorum x.kind m (quorum_from n xs s)
 quorum_then n s m [] x e = let z : n ≡ m = omega arith in ap (λ (k : ℕ). with_quorum x.kind k s) z

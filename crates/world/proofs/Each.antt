@@ -1,8 +1,8 @@
 -- Something is done for each of a list.
 use Rattle.std.proofs.Common.{◌≡◌, ℕ, ◌+◌, ◌<◌, ◌++◌, List, [], ◌∷◌, length, take, get_or, refl, sym, ap, ◌∙◌}
 use Rattle.std.proofs.lemmas.List.{take_more}
-use Rattle.world.specs.Worlds.{Play}
-use Rattle.world.specs.Rounds.{for_each}
+use Rattle.world_model.specs.Worlds.{Play}
+use Rattle.world_model.specs.Rounds.{for_each}
 
 each_then : (act : ℕ → Play → Play) (xs ys : List ℕ) (p : Play) → for_each act (xs ++ ys) p ≡ for_each act ys (for_each act xs p)
 each_then act [] ys p = refl

@@ -8,8 +8,8 @@ use Rattle.node_model.specs.declared.node.Node.{Node}
 use Rattle.node_model.specs.declared.node.Node.TheVariants.{Down}
 use Rattle.pgr_device.specs.Device.{Device}
 use Rattle.record_disk.specs.Disks.{DiskState, empty_disk}
-use Rattle.world.specs.First.{first_cluster, first_device, first_links, first_world}
-use Rattle.world.specs.Worlds.{WorldState}
+use Rattle.world_model.specs.First.{first_cluster, first_device, first_links, first_world}
+use Rattle.world_model.specs.Worlds.{WorldState}
 
 pub made : (h : Header) (cells : ℕ) (cluster : Cluster) (nodes : List Node) (disks : List DiskState) (devices : List Device) (faults : List (Option Bool)) (links : Links) (listed : List HeaderDevice)
     → cluster ≡ first_cluster h → nodes ≡ replicate h.nodes Down → disks ≡ replicate h.nodes (empty_disk cluster.first_valid)

@@ -2,8 +2,8 @@
 ghost use Rattle.std.specs.Prelude.{◌≡◌, None, Some, IfOk, OnOk, IfSome};
 ghost use Rattle.pgr_device.specs.Allowed.{IsAllowed};
 ghost use Rattle.pgr_device.specs.Keys.{HasNoZeroKey};
-ghost use Rattle.world.specs.Devices.{commanded, doing_command, due, due_of, executed, fault_at, fault_place, with_fault, writing};
-ghost use Rattle.world.specs.Worlds.{play};
+ghost use Rattle.world_model.specs.Devices.{commanded, doing_command, due, due_of, executed, fault_at, fault_place, with_fault, writing};
+ghost use Rattle.world_model.specs.Worlds.{play};
 
 use crate::packets::skip;
 use crate::telling::tell;
@@ -82,12 +82,12 @@ impl World {
     ) -> Result<(), AllocError>
         ensures { OnOk result (play self.new out.new.items ≡ doing_command n (play self.old out.old.items)) }
     {
-        self.give(alloc, n, Input::CommandDue, out)?;
+        self.give(alloc, n, &Input::CommandDue, out)?;
         let Some((d, command)) = self.due(n) else {
             return Ok(());
         };
         let answer = self.command(n, d, command);
-        self.give(alloc, n, Input::Answered(answer), out)
+        self.give(alloc, n, &Input::Answered(answer), out)
     }
 
     /// The node, which is up, writes to the device.
@@ -123,7 +123,7 @@ impl World {
             value,
             answer,
         };
-        self.give(alloc, n, input, out)
+        self.give(alloc, n, &input, out)
     }
 }
 

@@ -3,9 +3,9 @@ ghost use Rattle.std.specs.Prelude.{◌≡◌, ◌≤◌, ◌++◌, OnOk};
 ghost use Rattle.status_report.specs.declared.entry.Entry.TheVariants as trace;
 ghost use Rattle.status_report.specs.Lines.{printed};
 ghost use Rattle.node_model.specs.Inputs.{IsAnswered};
-ghost use Rattle.world.specs.Devices.{on_disk};
-ghost use Rattle.world.specs.Lines.{IsPlayable, booting, giving_up, left_by, line_on, on_packets, with_stop};
-ghost use Rattle.world.specs.Worlds.{play};
+ghost use Rattle.world_model.specs.Devices.{on_disk};
+ghost use Rattle.world_model.specs.Lines.{IsPlayable, booting, giving_up, left_by, line_on, on_packets, with_stop};
+ghost use Rattle.world_model.specs.Worlds.{play};
 
 use crate::packets::skip;
 use crate::telling::tell;
@@ -30,7 +30,7 @@ impl World {
     {
         match event {
             Event::Boot(n) => self.boot(alloc, *n, out),
-            Event::Crash(n) => self.give_up(alloc, *n, Input::Crash, out),
+            Event::Crash(n) => self.give_up(alloc, *n, &Input::Crash, out),
             Event::CrashAt {
                 node,
                 calls,
@@ -39,7 +39,7 @@ impl World {
                 self.arm_stop(*node, *calls, left_by(*choice));
                 note(alloc, out, ScheduleEntry::Armed)
             }
-            Event::Tick(n) => self.give_up(alloc, *n, Input::Tick, out),
+            Event::Tick(n) => self.give_up(alloc, *n, &Input::Tick, out),
             Event::Disk(n) => self.disk(alloc, *n, out),
             Event::Fault { node, device, done } => {
                 self.arm(*node, *device, *done);
@@ -105,7 +105,7 @@ impl World {
         if self.is_up(n) {
             return skip(alloc, out, SkipCause::Up);
         }
-        self.give(alloc, n, Input::Boot, out)
+        self.give(alloc, n, &Input::Boot, out)
     }
 
     /// This happens to the node, if it is up.
@@ -113,11 +113,11 @@ impl World {
         &mut self,
         alloc: Global,
         n: NodeId,
-        input: Input,
+        input: &Input,
         out: &mut Vec<u8>,
     ) -> Result<(), AllocError>
-        requires answer { IsAnswered input }
-        ensures { OnOk result (play self.new out.new.items ≡ giving_up n input (play self.old out.old.items)) }
+        requires answer { IsAnswered input.now }
+        ensures { OnOk result (play self.new out.new.items ≡ giving_up n input.now (play self.old out.old.items)) }
     {
         if !self.is_up(n) {
             return skip(alloc, out, SkipCause::Down);

@@ -4,7 +4,7 @@ ghost use Rattle.cl_base.specs.Limits.{most_devices, most_nodes};
 ghost use Rattle.cl_base.specs.Numbers.{first_numbers};
 ghost use Rattle.node_model.specs.declared.node.Node.TheVariants.{Down};
 ghost use Rattle.record_disk.specs.Disks.{empty_disk};
-ghost use Rattle.world.specs.First.{attached_from, first_cluster, first_device, first_world, quorum_devices, with_quorum};
+ghost use Rattle.world_model.specs.First.{attached_from, first_cluster, first_device, first_world, quorum_devices, with_quorum};
 
 use crate::world::World;
 use cl_base::{DevId, DevSet, DeviceKind, Header, HeaderDevice, NodeSet};

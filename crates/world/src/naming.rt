@@ -1,6 +1,6 @@
 // Messages as the trace names them.
 ghost use Rattle.std.specs.Prelude.{◌≡◌};
-ghost use Rattle.world.specs.Sends.{name_of, number_in};
+ghost use Rattle.world_model.specs.Sends.{name_of, number_in};
 
 use cl_base::MessageName;
 use wire::Body;

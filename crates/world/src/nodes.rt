@@ -1,8 +1,8 @@
 // Something happens to a node.
 ghost use Rattle.std.specs.Prelude.{◌≡◌, IfOk, OnOk};
 ghost use Rattle.node_model.specs.Inputs.{IsAnswered};
-ghost use Rattle.world.specs.Sends.{giving, passing, passing_one, posting, stepping};
-ghost use Rattle.world.specs.Worlds.{play};
+ghost use Rattle.world_model.specs.Sends.{giving, passing, passing_one, posting, stepping};
+ghost use Rattle.world_model.specs.Worlds.{play};
 
 use crate::naming::name_of;
 use crate::telling::tell;
@@ -11,9 +11,8 @@ use cl_base::{Bytes, NodeId};
 use node::{Input, step};
 use node_model::{Cluster, Node, Output};
 use record_disk::SimulatedDisk;
-use status_report::{Entry, PacketEntry};
+use status_report::{Entry, PacketEntry, print_onto, print_sent};
 use std::alloc::{AllocError, Global};
-use std::mem;
 use wire::{Message, encode};
 
 /// The most bytes of a packet.
@@ -25,11 +24,11 @@ impl World {
         &mut self,
         alloc: Global,
         me: NodeId,
-        input: Input,
+        input: &Input,
         out: &mut Vec<u8>,
     ) -> Result<(), AllocError>
-        requires answer { IsAnswered input }
-        ensures { OnOk result (play self.new out.new.items ≡ giving me input (play self.old out.old.items)) }
+        requires answer { IsAnswered input.now }
+        ensures { OnOk result (play self.new out.new.items ≡ giving me input.now (play self.old out.old.items)) }
     {
         let outputs = step_in(
             alloc,
@@ -55,7 +54,7 @@ impl World {
         ensures { OnOk result (play self.new out.new.items ≡ passing_one me output (play self.old out.old.items)) }
     {
         match output {
-            Output::Tells(entry) => tell(alloc, out, entry),
+            Output::Tells(entry) => print_onto(alloc, out, &entry),
             Output::Sends { to, body } => self.send(alloc, to, Message { sender: me, body }, out),
         }
     }
@@ -81,14 +80,8 @@ impl World {
         }
         let from = message.sender;
         let sent = self.links.send(from, to, &bytes);
-        let entry = PacketEntry::Sent {
-            number,
-            from,
-            to,
-            message: name_of(&message.body),
-            bytes: Bytes::new(bytes),
-        };
-        tell(alloc, out, Entry::Packet(entry))?;
+        let (name, bytes) = (name_of(&message.body), Bytes::new(bytes));
+        print_sent(out, number, from, to, name, &bytes)?;
         if let Some((number, cause)) = sent.dropped {
             tell(
                 alloc,
@@ -107,26 +100,24 @@ fn step_in(
     nodes: &mut Vec<Node>,
     disks: &mut Vec<SimulatedDisk>,
     me: NodeId,
-    input: Input,
+    input: &Input,
 ) -> Result<Vec<Output>, AllocError>
-    requires answer { IsAnswered input }
-    ensures { IfOk result (λ given. record { nodes = nodes.new.items; disks = disks.new.items; given = given.items } ≡ stepping cluster.now me input nodes.old.items disks.old.items) }
+    requires answer { IsAnswered input.now }
+    ensures { IfOk result (λ given. record { nodes = nodes.new.items; disks = disks.new.items; given = given.items } ≡ stepping cluster.now me input.now nodes.old.items disks.old.items) }
 {
     let mut given = Vec::new(alloc);
     let place = me.number() as usize - 1;
     if place >= nodes.len() || place >= disks.len() {
         return Ok(given);
     }
-    let node = mem::replace(&mut nodes[place], Node::Down);
-    let after = step(
+    step(
         alloc,
         cluster,
         me,
         &mut disks[place],
-        node,
+        &mut nodes[place],
         input,
         &mut given,
     )?;
-    nodes[place] = after;
     Ok(given)
 }

@@ -3,8 +3,8 @@ ghost use Rattle.std.specs.Prelude.{◌≡◌, ◌++◌, OnOk};
 ghost use Rattle.status_report.specs.declared.entry.Entry.TheVariants as trace;
 ghost use Rattle.status_report.specs.declared.schedule_entry.ScheduleEntry.TheVariants.{Skipped};
 ghost use Rattle.status_report.specs.Lines.{printed};
-ghost use Rattle.world.specs.Packets.{arriving, delivering, losing, repeating_one};
-ghost use Rattle.world.specs.Worlds.{is_up, play};
+ghost use Rattle.world_model.specs.Packets.{arriving, delivering, losing, repeating_one};
+ghost use Rattle.world_model.specs.Worlds.{is_up, play};
 
 use crate::telling::tell;
 use crate::world::World;
@@ -12,7 +12,7 @@ use cl_base::{DropCause, NodeId};
 use interconnect::Delivery;
 use node::Input;
 use node_model::Node;
-use status_report::{Entry, PacketEntry, ScheduleEntry, SkipCause};
+use status_report::{Entry, PacketEntry, ScheduleEntry, SkipCause, print_delivered};
 use std::alloc::{AllocError, Global};
 use wire::{Message, decode};
 
@@ -63,13 +63,9 @@ impl World {
                 Entry::Packet(PacketEntry::Dropped { number, cause }),
             );
         }
-        tell(
-            alloc,
-            out,
-            Entry::Packet(PacketEntry::Delivered { number, from, to }),
-        )?;
+        print_delivered(out, number, from, to)?;
         match message {
-            Some(message) => self.give(alloc, to, Input::Packet { from, message }, out),
+            Some(message) => self.give(alloc, to, &Input::Packet { from, message }, out),
             None => Ok(()),
         }
     }

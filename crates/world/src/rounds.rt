@@ -1,8 +1,8 @@
 // Rounds.
 ghost use Rattle.std.specs.Prelude.{◌≡◌, ◌≤◌, ◌<◌, ℕ, None, OnOk};
 ghost use Rattle.interconnect.specs.Links.{packet_of};
-ghost use Rattle.world.specs.Rounds.{bringing, bringing_all, doing_all, doing_some, for_each, round_of, rounds, rounds_of, ticking_one};
-ghost use Rattle.world.specs.Worlds.{play};
+ghost use Rattle.world_model.specs.Rounds.{bringing, bringing_all, doing_all, doing_some, for_each, round_of, rounds, rounds_of, ticking_one};
+ghost use Rattle.world_model.specs.Worlds.{play};
 
 use crate::world::World;
 use cl_base::{NodeId, NodeSet};
@@ -15,7 +15,7 @@ const COMMANDS: u64 = 4_096;
 
 impl World {
     /// So many rounds among these nodes.
-    #[tactic(auto, unfolding(crate::specs::Rounds::rounds))]
+    #[tactic(auto, unfolding(world_model::specs::Rounds::rounds))]
     pub(crate) fn rounds(
         &mut self,
         alloc: Global,
@@ -124,7 +124,7 @@ impl World {
     }
 
     /// The node does its queued commands until none is left.
-    #[tactic(auto, unfolding(crate::specs::Rounds::doing_all))]
+    #[tactic(auto, unfolding(world_model::specs::Rounds::doing_all))]
     fn do_commands(&mut self, alloc: Global, n: NodeId, out: &mut Vec<u8>) -> Result<(), AllocError>
         ensures { OnOk result (play self.new out.new.items ≡ doing_all n (play self.old out.old.items)) }
     {
@@ -168,7 +168,7 @@ impl World {
         ensures { OnOk result (play self.new out.new.items ≡ ticking_one n (play self.old out.old.items)) }
     {
         if self.is_up(n) {
-            self.give(alloc, n, Input::Tick, out)?;
+            self.give(alloc, n, &Input::Tick, out)?;
         }
         Ok(())
     }

@@ -25,7 +25,7 @@ pub struct World {
 
 impl Model for World {
     ghost use Rattle.std.specs.Prelude.{◌≡◌, length};
-    ghost use Rattle.world.specs.Worlds.{WorldState};
+    ghost use Rattle.world_model.specs.Worlds.{WorldState};
 
     ghost Value = { WorldState };
 

@@ -1,5 +1,5 @@
 use Rattle.std.proofs.Common.{◌≡◌, take}
-use Rattle.world.specs.First.{attached_from}
+use Rattle.world_model.specs.First.{attached_from}
 use Rattle.world.proofs.making.attached_devices.Given as goal
 
 abbrev pub invariant-loop-index : goal.invariant-loop-index

@@ -1,5 +1,5 @@
 use Rattle.std.proofs.Common.{◌≡◌, map, take}
-use Rattle.world.specs.First.{first_device}
+use Rattle.world_model.specs.First.{first_device}
 use Rattle.world.proofs.making.first_devices.Given as goal
 
 abbrev pub invariant-loop-device : goal.invariant-loop-device

@@ -1,5 +1,5 @@
 use Rattle.std.proofs.Common.{◌≡◌, take}
-use Rattle.world.specs.First.{quorum_from}
+use Rattle.world_model.specs.First.{quorum_from}
 use Rattle.world.proofs.making.quorum_devices.Given as goal
 
 abbrev pub invariant-loop-index : goal.invariant-loop-index

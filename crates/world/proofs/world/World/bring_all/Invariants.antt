@@ -1,6 +1,6 @@
 use Rattle.std.proofs.Common.{◌≡◌, ◌≤◌, ◌-◌}
-use Rattle.world.specs.Worlds.{play}
-use Rattle.world.specs.Rounds.{bringing_below}
+use Rattle.world_model.specs.Worlds.{play}
+use Rattle.world_model.specs.Rounds.{bringing_below}
 use Rattle.world.proofs.world.World.bring_all.Given as goal
 
 abbrev pub invariant-loop-number : goal.invariant-loop-number

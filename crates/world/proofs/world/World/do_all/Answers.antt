@@ -1,5 +1,5 @@
 use Rattle.std.proofs.Common.{arith, sym}
-use Rattle.world.specs.Rounds.{doing_all}
+use Rattle.world_model.specs.Rounds.{doing_all}
 use Rattle.world.proofs.Each.{each_more}
 use Rattle.world.proofs.world.World.do_all.Goals as goal
 

@@ -1,6 +1,6 @@
 use Rattle.std.proofs.Common.{◌≡◌, take}
-use Rattle.world.specs.Worlds.{play}
-use Rattle.world.specs.Rounds.{for_each, doing_all}
+use Rattle.world_model.specs.Worlds.{play}
+use Rattle.world_model.specs.Rounds.{for_each, doing_all}
 use Rattle.world.proofs.world.World.do_all.Given as goal
 
 abbrev pub invariant-loop-n : goal.invariant-loop-n

@@ -1,6 +1,6 @@
 use Rattle.std.proofs.Common.{◌≡◌}
-use Rattle.world.specs.Worlds.{play}
-use Rattle.world.specs.Rounds.{rounds_of}
+use Rattle.world_model.specs.Worlds.{play}
+use Rattle.world_model.specs.Rounds.{rounds_of}
 use Rattle.world.proofs.world.World.do_rounds.Given as goal
 
 abbrev pub invariant-loop : goal.invariant-loop

@@ -1,6 +1,6 @@
 use Rattle.std.proofs.Common.{◌≡◌}
-use Rattle.world.specs.Sends.{passing}
-use Rattle.world.specs.Worlds.{play}
+use Rattle.world_model.specs.Sends.{passing}
+use Rattle.world_model.specs.Worlds.{play}
 use Rattle.world.proofs.world.World.give.Given as goal
 
 abbrev pub invariant-loop-output : goal.invariant-loop-output

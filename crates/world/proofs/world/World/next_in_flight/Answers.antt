@@ -1,6 +1,6 @@
 use Rattle.std.proofs.Common.{arith, ◌≡◌, ◌<◌, sym, ap, unwrap_or}
 use Rattle.interconnect.specs.Links.{first_from_of}
-use Rattle.world.specs.Worlds.{WorldState}
+use Rattle.world_model.specs.Worlds.{WorldState}
 use Rattle.world.proofs.Brings.{none_between}
 use Rattle.world.proofs.world.World.next_in_flight.Goals as goal
 

@@ -1,5 +1,5 @@
 use Rattle.std.proofs.Common.{arith, sym}
-use Rattle.world.specs.Rounds.{ticking_one}
+use Rattle.world_model.specs.Rounds.{ticking_one}
 use Rattle.world.proofs.Each.{each_more}
 use Rattle.world.proofs.world.World.tick_all.Goals as goal
 

@@ -9,8 +9,8 @@ use Rattle.status_report.specs.declared.schedule_entry.SkipCause.TheVariants.{No
 use Rattle.wire.specs.declared.message.Message.{Message}
 use Rattle.wire.specs.Reads.{whole_of}
 use Rattle.node_model.specs.declared.input.Input.TheVariants as input
-use Rattle.world.specs.Worlds.{Play, is_up, skipping, telling}
-use Rattle.world.specs.Sends.{dropped_so, giving, with_links}
+use Rattle.world_model.specs.Worlds.{Play, is_up, skipping, telling}
+use Rattle.world_model.specs.Sends.{dropped_so, giving, with_links}
 
 -- a packet that holds no message is foreign, and no node sends such
 abbrev pub taking : ℕ → ℕ → Option Message → Play → Play

@@ -6,10 +6,10 @@ use Rattle.cl_base.specs.Sets.{has}
 use Rattle.interconnect.specs.Links.{Packet, packet_of}
 use Rattle.pgr_device.specs.declared.command.PrCommand.{PrCommand}
 use Rattle.node_model.specs.declared.input.Input.TheVariants as input
-use Rattle.world.specs.Worlds.{Play, is_up}
-use Rattle.world.specs.Sends.{giving}
-use Rattle.world.specs.Packets.{delivering}
-use Rattle.world.specs.Devices.{doing_command, due}
+use Rattle.world_model.specs.Worlds.{Play, is_up}
+use Rattle.world_model.specs.Sends.{giving}
+use Rattle.world_model.specs.Packets.{delivering}
+use Rattle.world_model.specs.Devices.{doing_command, due}
 
 -- A packet between these nodes arrives.
 

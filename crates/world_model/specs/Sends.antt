@@ -18,7 +18,7 @@ use Rattle.node_model.specs.declared.node.Node.{Node}
 use Rattle.node_model.specs.declared.output.Output.{Output}
 use Rattle.node_model.specs.declared.output.Output.TheVariants.{Tells, Sends}
 use Rattle.node_model.specs.Steps.{DiskRules, Outcome, stepped}
-use Rattle.world.specs.Worlds.{Play, telling, with_world}
+use Rattle.world_model.specs.Worlds.{Play, telling, with_world}
 
 -- the number that follows a message's kind in its name
 abbrev pub number_in : Body → Option ℕ

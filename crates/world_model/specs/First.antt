@@ -13,7 +13,7 @@ use Rattle.node_model.specs.declared.node.Node.TheVariants.{Down}
 use Rattle.pgr_device.specs.Device.{Device, fresh, with_keys}
 use Rattle.quorum_votes.specs.Votes.{first_of}
 use Rattle.record_disk.specs.Disks.{empty_disk}
-use Rattle.world.specs.Worlds.{WorldState}
+use Rattle.world_model.specs.Worlds.{WorldState}
 
 -- the set, and the number if it is that of a quorum device
 abbrev pub with_quorum : DeviceKind → ℕ → ℕ → ℕ

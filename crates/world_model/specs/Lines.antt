@@ -12,11 +12,11 @@ use Rattle.status_report.specs.declared.schedule_entry.ScheduleEntry.TheVariants
 use Rattle.status_report.specs.declared.schedule_entry.SkipCause.TheVariants as skip
 use Rattle.node_model.specs.declared.input.Input.{Input}
 use Rattle.node_model.specs.declared.input.Input.TheVariants as input
-use Rattle.world.specs.Worlds.{Play, WorldState, is_up, noting, skipping, with_world}
-use Rattle.world.specs.Sends.{giving}
-use Rattle.world.specs.Packets.{delivering, losing, on_oldest, repeating_one}
-use Rattle.world.specs.Devices.{on_disk, with_fault, writing}
-use Rattle.world.specs.Rounds.{rounds}
+use Rattle.world_model.specs.Worlds.{Play, WorldState, is_up, noting, skipping, with_world}
+use Rattle.world_model.specs.Sends.{giving}
+use Rattle.world_model.specs.Packets.{delivering, losing, on_oldest, repeating_one}
+use Rattle.world_model.specs.Devices.{on_disk, with_fault, writing}
+use Rattle.world_model.specs.Rounds.{rounds}
 
 abbrev pub booting : ℕ → Play → Play
 booting n p = if is_up p.world n then skipping skip.Up p else giving n input.Boot p

@@ -16,8 +16,8 @@ use Rattle.node_model.specs.declared.node.Node.{Node}
 use Rattle.node_model.specs.declared.node.Node.TheVariants.{Down, Up}
 use Rattle.node_model.specs.declared.node.UpNode.{UpNode}
 use Rattle.node_model.specs.Devices.{may_write_as}
-use Rattle.world.specs.Worlds.{Play, WorldState, is_up, node_at, skipping, telling, with_world}
-use Rattle.world.specs.Sends.{giving}
+use Rattle.world_model.specs.Worlds.{Play, WorldState, is_up, node_at, skipping, telling, with_world}
+use Rattle.world_model.specs.Sends.{giving}
 
 -- Which command is due at a node, and at which device.
 

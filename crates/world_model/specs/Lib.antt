@@ -1,0 +1,7 @@
+pub mod Worlds
+pub mod Sends
+pub mod Packets
+pub mod Devices
+pub mod Rounds
+pub mod Lines
+pub mod First
