@@ -1,0 +1,12 @@
+pub mod Doings
+pub mod Courses
+pub mod Cuts
+pub mod Steps
+pub mod Ties
+pub mod Guards
+pub mod Facts
+pub mod Events
+pub mod Whole
+pub mod Runs
+pub mod Widths
+pub mod Worlds

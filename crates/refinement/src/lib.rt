@@ -1,0 +1,55 @@
+//! Each step of a node is small steps, and each small step is events of the abstract machine of memberships.
+//!
+//! `specs/Doings` has the small steps: what each makes of a node with its disk, and what it gives. `specs/Courses` and `specs/Cuts`
+//! cut the plan of each input into them; `specs/Guards` says when a node may take each, by its own state and the delivered packet
+//! alone; `specs/Ties` says when a node, its disk and what it says are those of the machine.
+//!
+//! Each function here is a law. It has no body, and its contract is proved of every node, every disk and every input.
+#![tactic(auto)]
+
+ghost use Rattle.refinement.specs.Steps.{DisksKeepRules, StepsAreCut};
+ghost use Rattle.refinement.specs.Whole.{NodesGo};
+ghost use Rattle.refinement.specs.Runs.{CollectsAgree, EveryRunIsOne, InstallsAgree};
+ghost use Rattle.refinement.specs.Worlds.{WorldRunsAreOne};
+
+/// The simulated disk keeps what is supposed of a disk: a save that is done leaves the record, one that is lost leaves it or the
+/// one before, and a mounting changes no record.
+pub fn disks_keep_rules()
+    ensures { DisksKeepRules }
+{}
+
+/// Each step of a node is small steps, for some replies of its disk to the saves: they lead to the same node, the same record on
+/// the disk, and the same outputs in the same order.
+pub fn steps_are_cut()
+    ensures { StepsAreCut }
+{}
+
+/// Where a node with its disk is tied to the machine of memberships, and the delivered packet is true, the node's step is a run of
+/// the machine: the node is tied after it, other nodes stay as they are, and each message that it sends is true.
+pub fn nodes_go()
+    ensures { NodesGo }
+{}
+
+/// Every run of all nodes is a run of the machine of memberships: any node takes any input at any time, a save is done or lost, and
+/// what was sent comes late, twice or not at all, and to anyone; a device answers anything in 64 bits. Each node with its disk is tied to the machine's, and all that was
+/// ever sent is true there. So each law of the machine is one of these runs.
+pub fn every_run_is_one()
+    ensures { EveryRunIsOne }
+{}
+
+/// Each run of the simulated world, from its header on through any lines, is a run of all nodes, and so one of the machine of
+/// memberships: its nodes and disks are those of that run, and each packet in flight holds what its sender sent. The header has at
+/// most 32 nodes, at most 16 devices and a cluster below 2^32, and the lines name nodes from number 1 on. Supposed, and proved
+/// nowhere yet, is that messages but heartbeats go to nodes from number 1 on, and what is left to say of their numbers and lists
+/// (`MessagesFit`). Of heartbeats all is proved, and of a Collect, a Promise, an Install, a Ready and a Start that their epochs have
+/// 64 bits.
+pub fn world_runs_are_one()
+    ensures { WorldRunsAreOne }
+{}
+
+/// Of all that was ever sent in a run, two Collects of one number name the same members, and two Installs of one epoch bring the
+/// same members and the same updates.
+pub fn messages_agree()
+    ensures collects { CollectsAgree }
+    ensures installs { InstallsAgree }
+{}
