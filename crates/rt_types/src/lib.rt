@@ -3,8 +3,6 @@
 #![tactic(auto)]
 
 mod resource_type;
-#[cfg(test)]
-mod tests;
 mod types;
 
 pub use resource_type::{ResourceType, TypeError};

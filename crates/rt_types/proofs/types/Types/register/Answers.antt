@@ -2,7 +2,7 @@ use Rattle.std.proofs.Common.{◌≡◌, ◌∙◌, None, Some}
 use Rattle.indexmap.proofs.CallerLemmas.{insert_entry-new}
 use Rattle.indexmap.specs.IndexMap.{get}
 use Rattle.cl_base.specs.contracts.name.NamePartialEq.TheImpl.{eq-value}
-use Rattle.rt_types.proofs.NameLemmas.{name_found, found_at}
+use Rattle.cl_base.proofs.NameLemmas.{name_found, found_at}
 use Rattle.rt_types.proofs.types.Types.register.Goals as goal
 use Rattle.rt_types.proofs.types.Types.register.Goals.{in-Ok, in-Err}
 

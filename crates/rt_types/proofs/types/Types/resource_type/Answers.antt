@@ -1,5 +1,5 @@
 use Rattle.std.proofs.Common.{◌∙◌}
-use Rattle.rt_types.proofs.NameLemmas.{name_found}
+use Rattle.cl_base.proofs.NameLemmas.{name_found}
 use Rattle.rt_types.proofs.types.Types.resource_type.Goals as goal
 
 pub returns : goal.returns

@@ -1,5 +1,5 @@
 use Rattle.std.proofs.Common.{◌∙◌, None}
-use Rattle.rt_types.proofs.NameLemmas.{name_removed, found_at}
+use Rattle.cl_base.proofs.NameLemmas.{name_removed, found_at}
 use Rattle.rt_types.proofs.types.Types.unregister.Goals as goal
 
 pub returns-clause-value : goal.returns-clause-value

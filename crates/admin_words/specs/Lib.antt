@@ -1,0 +1,5 @@
+pub mod Methods
+pub mod Operands
+pub mod Spellings
+pub mod Answers
+pub mod Commands

@@ -1,0 +1,7 @@
+use Rattle.std.proofs.Common.{◌≡◌, ◌++◌, ◌∷◌, [], take}
+use Rattle.std.specs.List.{flat_map}
+use Rattle.ccr_rows.specs.Rows.{group_rows}
+use Rattle.ccr_rows.proofs.groups.push_groups.Given as goal
+
+abbrev pub invariant-loop-place : goal.invariant-loop-place
+invariant-loop-place l = l.rows.items ≡ l.fn.rows.items ++ flat_map (λ p. group_rows l.groups.version p.0 p.1) (take l.place l.groups.groups)

@@ -1,0 +1,11 @@
+use Rattle.std.proofs.Common.{rules}
+use Rattle.ccr_tables.specs.Uses.{group_passes}
+use Rattle.ccr_tables.proofs.Firsts.{none_more, none_past}
+use Rattle.ccr_tables.proofs.config.Config.first_group.Goals as goal
+use Rattle.ccr_tables.proofs.config.Config.first_group.Goals.{in_default-via-in-None-1, in_default-via-in-Some+else-group_passes}
+
+pub loop-place-preserved : goal.loop-place-preserved
+loop-place-preserved c = elim c.in_default.branch [
+  | in_default-via-in-None-1 w ↦ none_past (group_passes c.args.test.now) c.args.self.now.groups.groups c.loop-place.place c.loop-place.invariant (search rules)
+  | in_default-via-in-Some+else-group_passes w ↦ none_more (group_passes c.args.test.now) c.args.self.now.groups.groups c.loop-place.place (w.in-Some.name.now, w.in-Some.group.now) c.loop-place.invariant (search rules) (search rules)
+]

@@ -1,0 +1,7 @@
+use Rattle.std.proofs.Common.{◌≡◌, None, take}
+use Rattle.std.specs.List.{find}
+use Rattle.ccr_tables.specs.Uses.{resource_passes}
+use Rattle.ccr_tables.proofs.config.Config.first_resource.Given as goal
+
+abbrev pub invariant-loop-place : goal.invariant-loop-place
+invariant-loop-place l = find (λ p. resource_passes l.self l.test p.1) (take l.place l.self.groups.resources) ≡ None

@@ -1,0 +1,5 @@
+pub mod Changes
+pub mod Refusals
+pub mod State
+pub mod Updates
+pub mod Uses

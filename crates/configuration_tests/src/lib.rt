@@ -1,0 +1,5 @@
+//! Tests of the configuration.
+#![tactic(auto)]
+
+#[cfg(test)]
+mod tables;

@@ -1,0 +1,9 @@
+pub mod Choice
+pub mod Cycles
+pub mod Edges
+pub mod Flags
+pub mod Laws
+pub mod Orderings
+pub mod Order
+pub mod Places
+pub mod Things

@@ -1,0 +1,31 @@
+use Rattle.std.proofs.Common.{◌≡◌, ◌∙◌, Option, ap, refl}
+use Rattle.indexmap.specs.IndexMap.{IndexMap}
+use Rattle.rg_props.specs.declared.group.Group.{Group}
+use Rattle.rg_props.specs.Lookups.{change_group, with_group}
+use Rattle.rg_props.specs.Table.{GroupTable}
+use Rattle.rg_props.specs.contracts.groups.Groups.{the_view}
+use Rattle.rg_props.proofs.TableLemmas.{group_written, group_missing}
+use Rattle.rg_props.proofs.groups.Groups.change_group.Goals as goal
+use Rattle.rg_props.proofs.groups.Groups.change_group.Goals.{in-Some, in_default+in-Nodelist-1, in_default+in-Dependencies-1, in_default+in-Affinities-1, in_default+in-Factors-1, in_default+in-Maximum-1}
+
+pub returns : goal.returns
+returns c =
+    let t : GroupTable = the_view c.self.inside in
+    let made : Option Group → GroupTable = λ found. change_group t c.args.g.now c.args.setting found in
+    record {
+      value = rw (← c.self.view_is)
+          (elim c.match-get_mut.branch [
+            | in-Some w ↦ ap the_view w.self-inside-is ∙ group_written t c.args.g.now made w.in-Some.group.now w.change.new.self (c.get_mut.follows.lender w.change.new.self).entries
+                w.in-Some.ensures.value (c.get_mut.follows.holds w.change.new.self).0 (ap (λ (x : Group). with_group t c.args.g.now x) w.change.ensures)
+            | in_default+in-Nodelist-1 w ↦ ap the_view w.self-inside-is ∙ group_missing t c.args.g.now made c.get_mut.follows.lender-at-none.entries
+                w.in_default.ensures.value (ap (λ m. m.entries) c.get_mut.follows.holds-at-none) refl
+            | in_default+in-Dependencies-1 w ↦ ap the_view w.self-inside-is ∙ group_missing t c.args.g.now made c.get_mut.follows.lender-at-none.entries
+                w.in_default.ensures.value (ap (λ m. m.entries) c.get_mut.follows.holds-at-none) refl
+            | in_default+in-Affinities-1 w ↦ ap the_view w.self-inside-is ∙ group_missing t c.args.g.now made c.get_mut.follows.lender-at-none.entries
+                w.in_default.ensures.value (ap (λ m. m.entries) c.get_mut.follows.holds-at-none) refl
+            | in_default+in-Factors-1 w ↦ ap the_view w.self-inside-is ∙ group_missing t c.args.g.now made c.get_mut.follows.lender-at-none.entries
+                w.in_default.ensures.value (ap (λ m. m.entries) c.get_mut.follows.holds-at-none) refl
+            | in_default+in-Maximum-1 w ↦ ap the_view w.self-inside-is ∙ group_missing t c.args.g.now made c.get_mut.follows.lender-at-none.entries
+                w.in_default.ensures.value (ap (λ m. m.entries) c.get_mut.follows.holds-at-none) refl
+          ]);
+    }

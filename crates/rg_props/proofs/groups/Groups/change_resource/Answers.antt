@@ -1,0 +1,29 @@
+use Rattle.std.proofs.Common.{◌≡◌, ◌∙◌, Option, ap, refl}
+use Rattle.indexmap.specs.IndexMap.{IndexMap}
+use Rattle.rg_props.specs.declared.group.Resource.{Resource}
+use Rattle.rg_props.specs.Lookups.{change_resource, with_resource}
+use Rattle.rg_props.specs.Table.{GroupTable}
+use Rattle.rg_props.specs.contracts.groups.Groups.{the_view}
+use Rattle.rg_props.proofs.TableLemmas.{resource_written, resource_missing}
+use Rattle.rg_props.proofs.groups.Groups.change_resource.Goals as goal
+use Rattle.rg_props.proofs.groups.Groups.change_resource.Goals.{in-Some, in_default+in-Strong-1, in_default+in-Weak-1, in_default+in-OfflineRestart-1, in_default+in-Mode-1}
+
+pub returns : goal.returns
+returns c =
+    let t : GroupTable = the_view c.self.inside in
+    let made : Option Resource → GroupTable = λ found. change_resource t c.args.r.now c.args.setting found in
+    record {
+      value = rw (← c.self.view_is)
+          (elim c.match-get_mut.branch [
+            | in-Some w ↦ ap the_view w.self-inside-is ∙ resource_written t c.args.r.now made w.in-Some.resource.now w.change.new.self (c.get_mut.follows.lender w.change.new.self).entries
+                w.in-Some.ensures.value (c.get_mut.follows.holds w.change.new.self).0 (ap (λ (x : Resource). with_resource t c.args.r.now x) w.change.ensures)
+            | in_default+in-Strong-1 w ↦ ap the_view w.self-inside-is ∙ resource_missing t c.args.r.now made c.get_mut.follows.lender-at-none.entries
+                w.in_default.ensures.value (ap (λ m. m.entries) c.get_mut.follows.holds-at-none) refl
+            | in_default+in-Weak-1 w ↦ ap the_view w.self-inside-is ∙ resource_missing t c.args.r.now made c.get_mut.follows.lender-at-none.entries
+                w.in_default.ensures.value (ap (λ m. m.entries) c.get_mut.follows.holds-at-none) refl
+            | in_default+in-OfflineRestart-1 w ↦ ap the_view w.self-inside-is ∙ resource_missing t c.args.r.now made c.get_mut.follows.lender-at-none.entries
+                w.in_default.ensures.value (ap (λ m. m.entries) c.get_mut.follows.holds-at-none) refl
+            | in_default+in-Mode-1 w ↦ ap the_view w.self-inside-is ∙ resource_missing t c.args.r.now made c.get_mut.follows.lender-at-none.entries
+                w.in_default.ensures.value (ap (λ m. m.entries) c.get_mut.follows.holds-at-none) refl
+          ]);
+    }

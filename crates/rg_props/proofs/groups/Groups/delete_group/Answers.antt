@@ -1,0 +1,14 @@
+use Rattle.std.proofs.Common.{◌≡◌, ◌∙◌, ℕ, List, None, ap}
+use Rattle.cl_base.proofs.NameLemmas.{name_removed, found_at}
+use Rattle.rg_props.specs.Table.{GroupTable}
+use Rattle.rg_props.specs.declared.group.Group.{Group}
+use Rattle.rg_props.proofs.groups.Groups.delete_group.Goals as goal
+
+pub returns-clause-value : goal.returns-clause-value
+returns-clause-value c = rw (← c.self.view_is)
+    (ap (λ (es : List (List ℕ × Group)). let t : GroupTable = record { version = c.self.inside.version; groups = es; resources = c.self.inside.resources.entries } in t)
+    (c.shift_remove.ensures.entries ∙ name_removed c.args.g.now c.self.inside.groups.entries))
+
+pub returns-clause-found : goal.returns-clause-found
+returns-clause-found c = rw (← c.self.view_is)
+    (λ other. found_at c.args.g.now other c.self.inside.groups.entries c.shift_remove.new.self.entries None (c.shift_remove.ensures.updates.0 other))

@@ -1,0 +1,5 @@
+//! Tests of the rows of tables.
+#![tactic(auto)]
+
+#[cfg(test)]
+mod rows;

@@ -1,0 +1,3 @@
+pub mod Joined
+pub mod Methods
+pub mod Words

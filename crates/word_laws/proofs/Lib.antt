@@ -1,0 +1,4 @@
+pub mod Split
+pub mod Reading
+pub mod Methods
+pub mod Commands

@@ -1,0 +1,12 @@
+//! Each law is a function that does nothing, and its clauses are the law.
+ghost use Rattle.word_laws.specs.Laws.{SameWordsSameUpdate, WordsAreRead};
+
+/// The canonical words of an update whose operands have the forms of operands are read as this update.
+pub fn words_are_read()
+    ensures { WordsAreRead }
+{}
+
+/// Two such updates with the same words are one.
+pub fn same_words_same_update()
+    ensures { SameWordsSameUpdate }
+{}

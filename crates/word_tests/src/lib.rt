@@ -1,0 +1,5 @@
+//! Tests of the words of commands.
+#![tactic(auto)]
+
+#[cfg(test)]
+mod words;
