@@ -1,0 +1,9 @@
+pub mod Scans
+pub mod Sums
+pub mod Picks
+pub mod Orders
+pub mod Members
+pub mod Leads
+pub mod Best
+pub mod Reasons
+pub mod Within

@@ -1,0 +1,9 @@
+pub mod Resources
+pub mod Histories
+pub mod Targets
+pub mod Loads
+pub mod Scores
+pub mod Eligibility
+pub mod Goals
+pub mod Best
+pub mod Decisions

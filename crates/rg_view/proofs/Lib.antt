@@ -1,0 +1,5 @@
+mod Filters
+mod GoalLists
+mod MarkLists
+mod HeldOrders
+mod Tables

@@ -1,0 +1,9 @@
+pub mod Goals
+pub mod Histories
+pub mod Kept
+pub mod Marks
+pub mod Orders
+pub mod PlaceLaws
+pub mod Places
+pub mod States
+pub mod Tables

@@ -1,0 +1,4 @@
+mod Kept
+mod OrderLaws
+mod Places
+mod Reports

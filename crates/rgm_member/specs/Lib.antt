@@ -1,0 +1,9 @@
+pub mod State
+pub mod Settings
+pub mod Calls
+pub mod Outcomes
+pub mod Orders
+pub mod Keeping
+pub mod Probes
+pub mod Reports
+pub mod Laws

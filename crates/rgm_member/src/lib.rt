@@ -1,0 +1,25 @@
+//! A member's side of the resource groups: it carries out the president's orders, keeps the flags,
+//! marks and histories of its node, and reports them. All of it is lost with the node.
+#![tactic(auto)]
+
+mod agents;
+mod carried;
+mod keeping;
+mod laws;
+mod memory;
+mod names;
+mod outcomes;
+mod past;
+mod probed;
+mod probing;
+mod reporting;
+mod settings;
+mod tables;
+mod worker;
+
+pub use carried::Carried;
+pub use laws::{flags_change_by_success, orders_call_once, restarts_are_few};
+pub use memory::NoMemory;
+pub use past::Past;
+pub use probed::Probed;
+pub use worker::Worker;

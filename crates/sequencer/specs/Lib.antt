@@ -1,0 +1,10 @@
+pub mod Standing
+pub mod Scopes
+pub mod Leaving
+pub mod Fields
+pub mod Stopping
+pub mod Loads
+pub mod Starting
+pub mod Allowed
+pub mod Outlooks
+pub mod Next

@@ -1,0 +1,223 @@
+ghost use Rattle.std.specs.Prelude.{◌≡◌, [], fold, IfOk, OnOk};
+ghost use Rattle.std.specs.Option.{option_copied};
+ghost use Rattle.rg_view.specs.Marks.{is_marked, marks_with};
+ghost use Rattle.sequencer.specs.Leaving.{going_of, with_place, with_places, with_resource};
+ghost use Rattle.sequencer.specs.Outlooks.{members_of, outlook_of, with_rising, with_risings, without_risings};
+
+use crate::direction::Direction;
+use crate::leaving::must_go;
+use crate::methods::has_up_call;
+use cl_base::{Name, NodeId};
+use load_limits::Limits;
+use rg_props::{Groups, Resource};
+use rg_view::{GroupView, Marks, NoMemory};
+use rt_types::Types;
+use std::alloc::Global;
+use std::marker::Model;
+
+/// What the calls of one decision rest on: the places that must go down, and those where an up call
+/// is allowed. A place is a resource and a member. It holds until the view changes.
+#[derive(Drop)]
+pub struct Outlook {
+    members: Vec<NodeId>,
+    for_down: Marks,
+    for_up: Marks,
+    rising: Marks,
+}
+
+impl Model for Outlook {
+    ghost use Rattle.sequencer.specs.Fields.{OutlookFields};
+
+    ghost Value = { OutlookFields };
+
+    ghost view = { λ o. record { members = o.members.items; for_down = o.for_down; for_up = o.for_up; rising = o.rising } };
+}
+
+impl Outlook {
+    #[tactic(auto, unfolding(crate::specs::Outlooks::outlook_of))]
+    /// The outlook of these groups under this view. `order` has the resources, targets before those
+    /// that rest on them: group by group in the order of groups.
+    pub fn find(
+        alloc: Global,
+        g: &Groups,
+        types: &Types,
+        limits: &Limits,
+        view: &GroupView,
+        order: &[Name],
+    ) -> Result<Outlook, NoMemory>
+        ensures value { IfOk result (λ o. o ≡ outlook_of g.now types.now limits.now view.entry.now order.now) }
+    {
+        let mut outlook = without_risings(alloc, g, view, order)?;
+        add_risings(g, types, limits, view, order, &mut outlook)?;
+        Ok(outlook)
+    }
+
+    /// The members in ascending order.
+    pub fn members(&self) -> &[NodeId]
+        ensures value { result.now ≡ self.now.members }
+    {
+        self.members.as_slice()
+    }
+
+    /// Whether the resource must go down on the node, as a down call is tested.
+    pub fn must_go(&self, r: &Name, n: NodeId) -> bool
+        ensures value { result ≡ is_marked self.now.for_down r.now n }
+    {
+        self.for_down.has(r, n)
+    }
+
+    /// The places that must go down, as an up call is tested.
+    pub fn for_up(&self) -> &Marks
+        ensures value { result.now ≡ self.now.for_up }
+    {
+        &self.for_up
+    }
+
+    /// The places where an up call is allowed.
+    pub fn rising(&self) -> &Marks
+        ensures value { result.now ≡ self.now.rising }
+    {
+        &self.rising
+    }
+}
+
+/// The places that must go down.
+fn without_risings(
+    alloc: Global,
+    g: &Groups,
+    view: &GroupView,
+    order: &[Name],
+) -> Result<Outlook, NoMemory>
+    ensures { IfOk result (λ o. o ≡ without_risings g.now view.entry.now order.now) }
+{
+    let Ok(members) = view.members.nodes(alloc) else {
+        return Err(NoMemory);
+    };
+    let for_down = going(alloc, Direction::Down, g, view, &members, order)?;
+    let for_up = going(alloc, Direction::Up, g, view, &members, order)?;
+    Ok(Outlook {
+        members,
+        for_down,
+        for_up,
+        rising: Marks::new(alloc),
+    })
+}
+
+#[tactic(auto, unfolding(crate::specs::Leaving::going_of))]
+fn going(
+    alloc: Global,
+    direction: Direction,
+    g: &Groups,
+    view: &GroupView,
+    members: &[NodeId],
+    order: &[Name],
+) -> Result<Marks, NoMemory>
+    ensures { IfOk result (λ going. going ≡ going_of direction g.now view.entry.now members.now order.now) }
+{
+    let mut going = Marks::new(alloc);
+    for name in order {
+        add_resource(direction, g, view, members, name, &mut going)?;
+    }
+    Ok(going)
+}
+
+fn add_resource(
+    direction: Direction,
+    g: &Groups,
+    view: &GroupView,
+    members: &[NodeId],
+    name: &Name,
+    going: &mut Marks,
+) -> Result<(), NoMemory>
+    ensures { OnOk result (going.new ≡ with_resource direction g.now view.entry.now members.now going.old name.now) }
+{
+    match g.resource(name) {
+        Some(r) => add_places(direction, g, view, members, name, r, going),
+        None => Ok(()),
+    }
+}
+
+fn add_places(
+    direction: Direction,
+    g: &Groups,
+    view: &GroupView,
+    members: &[NodeId],
+    name: &Name,
+    r: &Resource,
+    going: &mut Marks,
+) -> Result<(), NoMemory>
+    ensures { OnOk result (going.new ≡ fold (with_place direction g.now view.entry.now members.now name.now r.now) going.old members.now) }
+{
+    for n in members {
+        add_place(direction, g, view, members, name, r, *n, going)?;
+    }
+    Ok(())
+}
+
+fn add_place(
+    direction: Direction,
+    g: &Groups,
+    view: &GroupView,
+    members: &[NodeId],
+    name: &Name,
+    r: &Resource,
+    n: NodeId,
+    going: &mut Marks,
+) -> Result<(), NoMemory>
+    ensures { OnOk result (going.new ≡ with_place direction g.now view.entry.now members.now name.now r.now going.old n) }
+{
+    if must_go(direction, g, view, members, going, name, r, n) {
+        going.add(name, n)?;
+    }
+    Ok(())
+}
+
+fn add_risings(
+    g: &Groups,
+    types: &Types,
+    limits: &Limits,
+    view: &GroupView,
+    order: &[Name],
+    outlook: &mut Outlook,
+) -> Result<(), NoMemory>
+    ensures { OnOk result (outlook.new ≡ fold (with_risings g.now types.now limits.now view.entry.now) outlook.old order.now) }
+{
+    for name in order {
+        add_rising(g, types, limits, view, name, outlook)?;
+    }
+    Ok(())
+}
+
+fn add_rising(
+    g: &Groups,
+    types: &Types,
+    limits: &Limits,
+    view: &GroupView,
+    name: &Name,
+    outlook: &mut Outlook,
+) -> Result<(), NoMemory>
+    ensures { OnOk result (outlook.new ≡ with_risings g.now types.now limits.now view.entry.now outlook.old name.now) }
+{
+    for place in 0..outlook.members.len() {
+        let n = outlook.members[place];
+        add_rising_at(g, types, limits, view, name, n, outlook)?;
+    }
+    Ok(())
+}
+
+fn add_rising_at(
+    g: &Groups,
+    types: &Types,
+    limits: &Limits,
+    view: &GroupView,
+    name: &Name,
+    n: NodeId,
+    outlook: &mut Outlook,
+) -> Result<(), NoMemory>
+    ensures value { OnOk result (outlook.new ≡ with_rising g.now types.now limits.now view.entry.now name.now outlook.old n) }
+{
+    if has_up_call(g, types, limits, view, outlook, n, name) {
+        outlook.rising.add(name, n)?;
+    }
+    Ok(())
+}

@@ -1,0 +1,5 @@
+pub mod Choosing
+pub mod History
+pub mod Laws
+pub mod Places
+pub mod States
