@@ -1,2 +1,4 @@
-pub mod Answers
+-- what a reader must believe
 pub mod State
+-- what only the proofs need
+pub mod Answers

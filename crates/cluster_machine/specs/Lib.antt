@@ -1,5 +1,7 @@
+-- what a reader must believe
 pub mod Cluster
 pub mod Agreement
 pub mod Parts
-pub mod Machines
 pub mod Sample
+-- what only the proofs need
+pub mod Machines

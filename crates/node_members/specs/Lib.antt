@@ -1,1 +1,2 @@
+-- what only the proofs need
 pub mod Installs

@@ -1,12 +1,14 @@
+-- what a reader must believe
 pub mod Access
 pub mod Allowed
 pub mod Device
-pub mod Kept
-pub mod KeyFields
 pub mod Keys
-pub mod Ports
 pub mod Registered
 pub mod Runs
-pub mod Seen
 pub mod Spc
 pub mod Statements
+-- what only the proofs need
+pub mod Kept
+pub mod KeyFields
+pub mod Ports
+pub mod Seen

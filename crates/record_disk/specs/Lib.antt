@@ -1,5 +1,7 @@
+-- what a reader must believe
 pub mod Disks
 pub mod Images
-pub mod Inside
 pub mod Laws
 pub mod Savings
+-- what only the proofs need
+pub mod Inside

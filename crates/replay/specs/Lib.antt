@@ -1,9 +1,11 @@
+-- what a reader must believe
 pub mod Closings
-pub mod Loops
 pub mod Outcomes
-pub mod Readers
 pub mod Replays
 pub mod Runs
 pub mod Sessions
 pub mod Statuses
 pub mod Tasks
+-- what only the proofs need
+pub mod Loops
+pub mod Readers

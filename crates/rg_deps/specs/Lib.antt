@@ -1,9 +1,11 @@
-pub mod Choice
+-- what a reader must believe
 pub mod Cycles
 pub mod Edges
-pub mod Flags
 pub mod Laws
 pub mod Orderings
 pub mod Order
-pub mod Places
 pub mod Things
+-- what only the proofs need
+pub mod Choice
+pub mod Flags
+pub mod Places

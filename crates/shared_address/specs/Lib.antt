@@ -1,5 +1,7 @@
+-- what a reader must believe
 pub mod Choosing
 pub mod History
 pub mod Laws
-pub mod Places
 pub mod States
+-- what only the proofs need
+pub mod Places
