@@ -96,8 +96,13 @@ pub fn print_sent(
 fn push_number(text: &mut Vec<u8>, number: u64, after: u8) -> Result<(), AllocError>
     ensures { OnOk result (text.new.items ≡ (text.old.items ++ decimal number) ++ after ∷ []) }
 {
-    let mut buffer = Buffer::new();
-    text.extend_from_slice(buffer.format(number).as_bytes())?;
+    // Most numbers of nodes have one digit.
+    if number < 10 {
+        text.push(b'0' + number as u8)?;
+    } else {
+        let mut buffer = Buffer::new();
+        text.extend_from_slice(buffer.format(number).as_bytes())?;
+    }
     text.push(after)?;
     Ok(())
 }

@@ -8,7 +8,7 @@ use crate::lists::{Keys, Texts};
 use crate::message::{Body, Install, Message, Order, SeizedResult};
 use crate::report::Report;
 use crate::writer::Writer;
-use cl_base::{Bytes, DevId, Epoch, NodeSet};
+use cl_base::{Bytes, DevId, Epoch, NodeId, NodeSet};
 use std::alloc::{AllocError, Global};
 
 fn put_epochs(writer: &mut Writer, first: Epoch, second: Epoch) -> Result<(), AllocError>
@@ -254,9 +254,18 @@ pub fn encode(alloc: Global, m: &Message) -> Result<Vec<u8>, AllocError>
     // So the message that `decode` finds in these bytes is this one.
     ensures range { OnOk result (Fits m.now) }
 {
+    encode_body(alloc, m.sender, &m.body)
+}
+
+/// The spelling of the message that this sender sends with this in it.
+pub fn encode_body(alloc: Global, sender: NodeId, body: &Body) -> Result<Vec<u8>, AllocError>
+    requires { IsShort body.now }
+    ensures spelled { IfOk result (λ bytes. bytes.items ≡ spelling (record { sender = sender; body = body.now })) }
+    ensures range { OnOk result (Fits (record { sender = sender; body = body.now })) }
+{
     let mut writer = Writer::new(alloc)?;
-    writer.byte(m.body.kind().byte())?;
-    writer.node(m.sender)?;
-    put_body(&mut writer, &m.body)?;
+    writer.byte(body.kind().byte())?;
+    writer.node(sender)?;
+    put_body(&mut writer, body)?;
     Ok(writer.into_bytes())
 }

@@ -18,7 +18,7 @@ mod writer;
 
 pub use copying::{copy_install, copy_pending, copy_promise, copy_ready, copy_texts};
 pub use decoding::decode;
-pub use encoding::encode;
+pub use encoding::{encode, encode_body};
 pub use laws::{spellings_are_apart, spellings_have_their_length};
 pub use lists::{Keys, Reading, Readings, Texts};
 pub use message::{Body, Install, Message, Order, SeizedResult};
