@@ -3,6 +3,7 @@ pub mod Places
 pub mod Removals
 pub mod Brings
 pub mod Each
+pub mod Outputs
 pub mod Commands
 pub mod DeviceLists
 pub mod FirstWorlds

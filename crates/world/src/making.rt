@@ -48,6 +48,7 @@ impl World {
             faults: no_faults(alloc, header.nodes, header.devices.items().len())?,
             links: Net::new(alloc, cells)?,
             bytes: vec![in alloc; 0; MOST]?,
+            outputs: Vec::new(alloc),
         })
     }
 }

@@ -1,5 +1,5 @@
 // Something happens to a node.
-ghost use Rattle.std.specs.Prelude.{◌≡◌, IfOk, OnOk};
+ghost use Rattle.std.specs.Prelude.{◌≡◌, [], OnOk};
 ghost use Rattle.node_model.specs.Inputs.{IsAnswered};
 ghost use Rattle.world_model.specs.Sends.{giving, passing, passing_one, posting, stepping};
 ghost use Rattle.world_model.specs.Worlds.{play};
@@ -13,7 +13,8 @@ use node_model::{Cluster, Node, Output};
 use record_disk::SimulatedDisk;
 use status_report::{Entry, PacketEntry, print_onto, print_sent};
 use std::alloc::{AllocError, Global};
-use wire::{Message, encode};
+use std::mem;
+use wire::{Body, encode_body};
 
 /// The most bytes of a packet.
 const MOST: usize = 131_072;
@@ -30,14 +31,31 @@ impl World {
         requires answer { IsAnswered input.now }
         ensures { OnOk result (play self.new out.new.items ≡ giving me input.now (play self.old out.old.items)) }
     {
-        let outputs = step_in(
+        let mut outputs = mem::replace(&mut self.outputs, Vec::new(alloc));
+        step_in(
             alloc,
             &self.cluster,
             &mut self.nodes,
             &mut self.disks,
             me,
             input,
+            &mut outputs,
         )?;
+        self.pass_all(alloc, me, &outputs, out)?;
+        outputs.clear();
+        self.outputs = outputs;
+        Ok(())
+    }
+
+    fn pass_all(
+        &mut self,
+        alloc: Global,
+        me: NodeId,
+        outputs: &[Output],
+        out: &mut Vec<u8>,
+    ) -> Result<(), AllocError>
+        ensures { OnOk result (play self.new out.new.items ≡ passing me outputs.now (play self.old out.old.items)) }
+    {
         for output in outputs {
             self.pass_on(alloc, me, output, out)?;
         }
@@ -48,14 +66,14 @@ impl World {
         &mut self,
         alloc: Global,
         me: NodeId,
-        output: Output,
+        output: &Output,
         out: &mut Vec<u8>,
     ) -> Result<(), AllocError>
-        ensures { OnOk result (play self.new out.new.items ≡ passing_one me output (play self.old out.old.items)) }
+        ensures { OnOk result (play self.new out.new.items ≡ passing_one me output.now (play self.old out.old.items)) }
     {
         match output {
-            Output::Tells(entry) => print_onto(alloc, out, &entry),
-            Output::Sends { to, body } => self.send(alloc, to, Message { sender: me, body }, out),
+            Output::Tells(entry) => print_onto(alloc, out, entry),
+            Output::Sends { to, body } => self.send(alloc, me, *to, body, out),
         }
     }
 
@@ -64,23 +82,23 @@ impl World {
     fn send(
         &mut self,
         alloc: Global,
+        from: NodeId,
         to: NodeId,
-        message: Message,
+        body: &Body,
         out: &mut Vec<u8>,
     ) -> Result<(), AllocError>
-        ensures { OnOk result (play self.new out.new.items ≡ posting message.sender to message (play self.old out.old.items)) }
+        ensures { OnOk result (play self.new out.new.items ≡ posting from to (record { sender = from; body = body.now }) (play self.old out.old.items)) }
     {
-        if !message.body.is_short() {
+        if !body.is_short() {
             return Ok(());
         }
-        let bytes = encode(alloc, &message)?;
+        let bytes = encode_body(alloc, from, body)?;
         let number = self.links.next_number();
         if bytes.len() > MOST || number >= 1 << 63 {
             return Ok(());
         }
-        let from = message.sender;
         let sent = self.links.send(from, to, &bytes);
-        let (name, bytes) = (name_of(&message.body), Bytes::new(bytes));
+        let (name, bytes) = (name_of(body), Bytes::new(bytes));
         print_sent(out, number, from, to, name, &bytes)?;
         if let Some((number, cause)) = sent.dropped {
             tell(
@@ -93,7 +111,7 @@ impl World {
     }
 }
 
-/// The node takes a step with its disk, and these are what it gives; none where there is no such node.
+/// The node takes a step with its disk, and gives these; none where there is no such node.
 fn step_in(
     alloc: Global,
     cluster: &Cluster,
@@ -101,14 +119,15 @@ fn step_in(
     disks: &mut Vec<SimulatedDisk>,
     me: NodeId,
     input: &Input,
-) -> Result<Vec<Output>, AllocError>
+    given: &mut Vec<Output>,
+) -> Result<(), AllocError>
+    requires empty { given.old.items ≡ [] }
     requires answer { IsAnswered input.now }
-    ensures { IfOk result (λ given. record { nodes = nodes.new.items; disks = disks.new.items; given = given.items } ≡ stepping cluster.now me input.now nodes.old.items disks.old.items) }
+    ensures { OnOk result (record { nodes = nodes.new.items; disks = disks.new.items; given = given.new.items } ≡ stepping cluster.now me input.now nodes.old.items disks.old.items) }
 {
-    let mut given = Vec::new(alloc);
     let place = me.number() as usize - 1;
     if place >= nodes.len() || place >= disks.len() {
-        return Ok(given);
+        return Ok(());
     }
     step(
         alloc,
@@ -117,7 +136,6 @@ fn step_in(
         &mut disks[place],
         &mut nodes[place],
         input,
-        &mut given,
-    )?;
-    Ok(given)
+        given,
+    )
 }

@@ -1,5 +1,5 @@
 use interconnect::Net;
-use node_model::{Cluster, Node};
+use node_model::{Cluster, Node, Output};
 use pgr_device::Pgr;
 use record_disk::SimulatedDisk;
 use std::marker::Model;
@@ -21,15 +21,17 @@ pub struct World {
     pub(crate) links: Net,
     /// Room for the bytes of a packet.
     pub(crate) bytes: Vec<u8>,
+    /// Room for what a node gives in a step; between steps there is nothing in it.
+    pub(crate) outputs: Vec<Output>,
 }
 
 impl Model for World {
-    ghost use Rattle.std.specs.Prelude.{◌≡◌, length};
+    ghost use Rattle.std.specs.Prelude.{◌≡◌, [], length};
     ghost use Rattle.world_model.specs.Worlds.{WorldState};
 
     ghost Value = { WorldState };
 
     ghost view = { λ w. record { cluster = w.cluster; nodes = w.nodes.items; disks = w.disks.items; devices = w.devices.items; faults = w.faults.items; links = w.links } };
 
-    ghost invariant = { λ w. length w.bytes.items ≡ 131072 };
+    ghost invariant = { λ w. (length w.bytes.items ≡ 131072) × (w.outputs.items ≡ []) };
 }
