@@ -1,7 +1,8 @@
 -- Texts joined to texts, and lines that are appended word by word, each word with a byte after it.
 use Rattle.std.specs.Prelude.{codes, Some, None}
 use Rattle.std.specs.Fmt.{decimal}
-use Rattle.std.proofs.Common.{◌≡◌, ℕ, List, [], ◌∷◌, ◌++◌, append_assoc, refl, sym, ap, ◌∙◌}
+use Rattle.std.proofs.Common.{◌≡◌, ℕ, ◌+◌, ◌<◌, List, [], ◌∷◌, ◌++◌, append_assoc, refl, sym, ap, ◌∙◌}
+use Rattle.std.proofs.lemmas.Fmt.{decimal_digit}
 use Rattle.hex.specs.Hex.{encode_lower}
 use Rattle.cl_base.specs.declared.packet.MessageKind.{MessageKind}
 use Rattle.cl_base.specs.declared.packet.MessageName.{MessageName}
@@ -66,6 +67,10 @@ module _ (t : List ℕ) (number from to : ℕ) (name : MessageName) (bytes : Lis
       (word_within (decimal from) 32 (decimal to ++ 32 ∷ (message_text name ++ 32 ∷ encode_lower bytes)) to_last end
       (word_within (decimal to) 32 (message_text name ++ 32 ∷ encode_lower bytes) named_last end
       (word_within (message_text name) 32 (encode_lower bytes) last end refl)))))
+
+-- a number of one digit
+pub one_digit : (n : ℕ) → n < 10 → decimal n ≡ (48 + n) ∷ []
+one_digit = decimal_digit
 
 -- the words of a message with a number
 pub numbered : (t : List ℕ) (kind : MessageKind) (n : ℕ) → ((((t ++ kind_text kind) ++ 32 ∷ []) ++ decimal n) ++ 32 ∷ []) ≡ (t ++ message_text (record { kind = kind; number = Some n })) ++ 32 ∷ []

@@ -96,15 +96,23 @@ pub fn print_sent(
 fn push_number(text: &mut Vec<u8>, number: u64, after: u8) -> Result<(), AllocError>
     ensures { OnOk result (text.new.items ≡ (text.old.items ++ decimal number) ++ after ∷ []) }
 {
+    push_decimal(text, number)?;
+    text.push(after)?;
+    Ok(())
+}
+
+/// Appends the number.
+#[tactic(auto, using(crate::proofs::Joins::one_digit))]
+fn push_decimal(text: &mut Vec<u8>, number: u64) -> Result<(), AllocError>
+    ensures { OnOk result (text.new.items ≡ text.old.items ++ decimal number) }
+{
     // Most numbers of nodes have one digit.
     if number < 10 {
         text.push(b'0' + number as u8)?;
-    } else {
-        let mut buffer = Buffer::new();
-        text.extend_from_slice(buffer.format(number).as_bytes())?;
+        return Ok(());
     }
-    text.push(after)?;
-    Ok(())
+    let mut buffer = Buffer::new();
+    text.extend_from_slice(buffer.format(number).as_bytes())
 }
 
 /// Appends the words of a message and a space.
