@@ -1,3 +1,4 @@
+pub mod Copies
 pub mod ListLemmas
 pub mod NameLemmas
 pub mod NumberLemmas

@@ -5,11 +5,12 @@ ghost use Rattle.rg_props.specs.Properties.{new_group, new_resource};
 
 use crate::affinity::Affinity;
 use crate::change::{is_allowed_group, is_allowed_resource};
+use crate::copying::{copy_groups, copy_resources};
 use crate::group::{Flag, Group, Resource, Scope};
 use crate::setting::{GroupSetting, ResourceSetting, SetError, group_setting, resource_setting};
 use cl_base::{Name, NodeId, Version};
 use indexmap::IndexMap;
-use std::alloc::Global;
+use std::alloc::{AllocError, Global};
 use std::marker::Model;
 use thiserror::Error;
 
@@ -45,6 +46,17 @@ impl Groups {
             groups: IndexMap::new(alloc),
             resources: IndexMap::new(alloc),
         }
+    }
+
+    /// The same groups and resources once more.
+    pub fn copy(&self, alloc: Global) -> Result<Groups, AllocError>
+        ensures value { IfOk result (λ groups. groups ≡ self.now) }
+    {
+        Ok(Groups {
+            version: self.version,
+            groups: copy_groups(alloc, &self.groups)?,
+            resources: copy_resources(alloc, &self.resources)?,
+        })
     }
 
     /// The version of the schedule.

@@ -4,6 +4,7 @@
 
 mod affinity;
 mod change;
+mod copying;
 mod fresh;
 mod group;
 mod groups;
