@@ -1,4 +1,4 @@
--- What a command is answered: the first refusal in the order of their numbers, or that it is accepted.
+-- What a command is answered: the first refusal in the order of their numbers, or acceptance.
 use Rattle.std.specs.Prelude.{ℕ, List, Option, Some, None, Result, Ok, Err}
 use Rattle.cl_base.specs.declared.command.Query.TheVariants as question
 use Rattle.cl_base.specs.declared.command.Table.{Table}
@@ -37,7 +37,8 @@ late_refusal s v members held length u =
     (or_else (record_full s length u)
     (node_has_vote s u)))))))
 
--- The first of the numbers 7 to 25. Of these `told` is what the configuration alone tells: one of 7, 8, 9, 12, 15 and 16.
+-- The first of the numbers 7 to 25. Of these `told` is what the configuration alone tells: one of
+-- 7, 8, 9, 12, 15 and 16.
 abbrev pub first_refusal : Option Refusal → ConfigState → GroupView → ℕ → ℕ → ℕ → Update → Option Refusal
 first_refusal told s v members held length u =
     before 10 told
@@ -61,10 +62,12 @@ abbrev pub rows_of : Option Table → List ℕ → Result Accepted CheckError
 rows_of None name = Err (Refused (Unknown (Named name)))
 rows_of (Some table) name = Ok (accepted.Query (question.Rows table))
 
--- What a command is answered over a configuration, with what is known of groups, in a membership of these nodes that holds these
--- devices, where the record has this length without what the command adds.
+-- What a command is answered over a configuration, with what is known of groups, in a membership
+-- of these nodes that holds these devices, where the record has this length without the command.
 abbrev pub answer_to : ConfigState → GroupView → ℕ → ℕ → ℕ → AdminCommand → Result Accepted CheckError
-answer_to s v members held length (Change u) = unless_refused (refusal_in s v members held length u) (accepted.Change u)
-answer_to s v members held length (Act ask) = unless_refused (refusal_of_ask s v ask) (accepted.Act ask)
+answer_to s v members held length (Change u) =
+    unless_refused (refusal_in s v members held length u) (accepted.Change u)
+answer_to s v members held length (Act ask) =
+    unless_refused (refusal_of_ask s v ask) (accepted.Act ask)
 answer_to s v members held length (Status query) = Ok (accepted.Query query)
 answer_to s v members held length (Rows name) = rows_of (table_named s.groups.version name) name

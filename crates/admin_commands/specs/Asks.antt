@@ -1,5 +1,5 @@
 -- Refusals of what is asked without an update.
-use Rattle.std.specs.Prelude.{ℕ, List, Option, Some, None}
+use Rattle.std.specs.Prelude.{ℕ, List, Option}
 use Rattle.cl_base.specs.declared.command.Ask.{Ask}
 use Rattle.cl_base.specs.declared.command.Ask.TheVariants.{Restart, Move, Remaster, Evacuate, Clear}
 use Rattle.cl_base.specs.declared.refusal.Refusal.{Refusal}
@@ -23,8 +23,10 @@ refusal_to_remaster s group =
 
 -- a resource or a node that is not there, or a mark
 abbrev pub refusal_of_ask : ConfigState → GroupView → Ask → Option Refusal
-refusal_of_ask s v (Restart resource) = unknown (missing (named s.groups.resources resource) (Named resource))
-refusal_of_ask s v (Move resource) = unknown (missing (named s.groups.resources resource) (Named resource))
+refusal_of_ask s v (Restart resource) =
+    unknown (missing (named s.groups.resources resource) (Named resource))
+refusal_of_ask s v (Move resource) =
+    unknown (missing (named s.groups.resources resource) (Named resource))
 refusal_of_ask s v (Remaster group) = refusal_to_remaster s group
 refusal_of_ask s v (Evacuate node) = unknown (unless (is_configured s.votes node) (Numbered node))
 refusal_of_ask s v (Clear resource node) =

@@ -1,4 +1,5 @@
--- Refusals of commands that rest on what a group is: whether it is managed, its Nodelist, its Maximum_primaries.
+-- Refusals that rest on what a group is: whether it is managed, its Nodelist, its
+-- Maximum_primaries.
 use Rattle.std.specs.Prelude.{ℕ, nat_lt, Bool, true, false, not, ◌&&◌, List, length, find, Option, Some, None}
 use Rattle.std.specs.Option.{option_map}
 use Rattle.cl_base.specs.declared.refusal.Refusal.{Refusal}
@@ -32,7 +33,8 @@ group_of t (Some r) = named t.groups r.group
 -- 10: the group that is to be deleted is managed, or the group of the resource that is
 abbrev pub managed : ConfigState → Update → Option Refusal
 managed s (DeleteGroup name) = where_so (is_managed (named s.groups.groups name)) Managed
-managed s (DeleteResource name) = where_so (is_managed (group_of s.groups (named s.groups.resources name))) Managed
+managed s (DeleteResource name) =
+    where_so (is_managed (group_of s.groups (named s.groups.resources name))) Managed
 managed s _ = None
 
 -- all but those that manage it and no longer manage it
@@ -46,7 +48,8 @@ wants_managed to.Resume = true
 
 -- 11: the group is not managed
 abbrev pub unmanaged : ConfigState → Update → Option Refusal
-unmanaged s (ChangeGroup name change) = where_so (wants_managed change && is_unmanaged (named s.groups.groups name)) Unmanaged
+unmanaged s (ChangeGroup name change) =
+    where_so (wants_managed change && is_unmanaged (named s.groups.groups name)) Unmanaged
 unmanaged s (SwitchGroup name nodes) = where_so (is_unmanaged (named s.groups.groups name)) Unmanaged
 unmanaged s _ = None
 
@@ -56,7 +59,8 @@ first_outside nodelist nodes = find (λ n. not (has_node n nodelist)) nodes
 
 -- 13: the group is to be on a node that its Nodelist lacks
 abbrev pub not_listed : ConfigState → Update → Option Refusal
-not_listed s (SwitchGroup name nodes) = option_map (λ n. NotListed n) (first_outside (nodelist_of (named s.groups.groups name)) nodes)
+not_listed s (SwitchGroup name nodes) =
+    option_map (λ n. NotListed n) (first_outside (nodelist_of (named s.groups.groups name)) nodes)
 not_listed s _ = None
 
 abbrev pub are_too_many : Option Group → List ℕ → Bool

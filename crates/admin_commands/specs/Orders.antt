@@ -1,5 +1,5 @@
 -- Refusals of what may not be together: things in a cycle, two resources of a type that allows one.
-use Rattle.std.specs.Prelude.{ℕ, Bool, true, false, ◌&&◌, List, Option, Some, None, if◌then◌else◌}
+use Rattle.std.specs.Prelude.{ℕ, Bool, false, ◌&&◌, List, Option, Some, None, if◌then◌else◌}
 use Rattle.std.specs.List.{list_any}
 use Rattle.std.specs.Option.{option_map}
 use Rattle.cl_base.specs.declared.refusal.Refusal.{Refusal}
@@ -19,7 +19,8 @@ use Rattle.admin_commands.specs.Settings.{is_dependency, orders_groups}
 
 -- only updates that set dependencies or affinities say what comes after what
 abbrev pub makes_order : ConfigState → Update → Bool
-makes_order s (SetGroup name property value) = orders_groups (group_setting_in s.groups.version property value)
+makes_order s (SetGroup name property value) =
+    orders_groups (group_setting_in s.groups.version property value)
 makes_order s (SetResource name property value) = is_dependency (resource_setting_in property value)
 makes_order s _ = false
 
@@ -41,5 +42,6 @@ has_resource s of_type = list_any (λ p. is_of_type of_type p.1) s.groups.resour
 
 -- 19: the type allows one resource alone, and there is one
 abbrev pub single : ConfigState → Update → Option Refusal
-single s (CreateResource name of_group of_type) = where_so (is_single (type_of s.types of_type) && has_resource s of_type) Single
+single s (CreateResource name of_group of_type) =
+    where_so (is_single (type_of s.types of_type) && has_resource s of_type) Single
 single s _ = None

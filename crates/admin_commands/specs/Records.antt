@@ -26,11 +26,15 @@ row_length place words = 9 + length (decimal place) + length words
 abbrev pub report_length : GroupTable → ℕ
 report_length t = 64 * length t.groups + 37 * length t.resources
 
--- the record with the update's row, which comes behind those that are there, and what is added for the groups and resources that are
--- then configured
+-- the record with the update's row, which comes behind those that are there, and what is added for
+-- the groups and resources that are then configured
 abbrev pub length_with : ConfigState → ℕ → Update → ℕ
-length_with s before u = before + row_length (updates_in s.generations + 1) (words_of u) + report_length (changed s u).groups
+length_with s before u =
+    before + row_length (updates_in s.generations + 1) (words_of u)
+    + report_length (changed s u).groups
 
 -- 24: that is longer than a record may be; a length above 2^64 - 1 is told as that
 abbrev pub record_full : ConfigState → ℕ → Update → Option Refusal
-record_full s before u = if nat_lt most_bytes (length_with s before u) then Some (RecordFull (min (length_with s before u) (2 ^ 64 - 1))) else None
+record_full s before u =
+    if nat_lt most_bytes (length_with s before u)
+    then Some (RecordFull (min (length_with s before u) (2 ^ 64 - 1))) else None

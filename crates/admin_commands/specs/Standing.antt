@@ -1,5 +1,6 @@
--- Refusals that rest on what is known of groups on nodes: whether a group is up, whether a resource has a mark.
-use Rattle.std.specs.Prelude.{ℕ, Bool, true, false, not, ◌&&◌, ◌||◌, List, Option, Some, None, if◌then◌else◌}
+-- Refusals that rest on what is known of groups on nodes: whether a group is up, whether a
+-- resource has a mark.
+use Rattle.std.specs.Prelude.{ℕ, Bool, false, not, ◌&&◌, ◌||◌, List, Option, Some, None, if◌then◌else◌}
 use Rattle.std.specs.List.{list_any}
 use Rattle.std.specs.Str.{bytes_eq}
 use Rattle.cl_base.specs.Sets.{has}
@@ -29,7 +30,8 @@ is_of_group group (Some r) = bytes_eq r.group group
 
 -- it is a resource of the group, on a member, with a flag
 abbrev pub is_up_at : GroupTable → ℕ → List ℕ → ResourceAt → Bool
-is_up_at t members group at = has_flag at && has members at.node && is_of_group group (named t.resources at.resource)
+is_up_at t members group at =
+    has_flag at && has members at.node && is_of_group group (named t.resources at.resource)
 
 -- the group is up on a member: a resource of it has a flag there
 abbrev pub is_up : GroupTable → List ResourceAt → ℕ → List ℕ → Bool
@@ -51,8 +53,11 @@ group_down_for to.Resume name = None
 -- the group that must not be up for the update
 abbrev pub wants_down : ConfigState → Update → Option (List ℕ)
 wants_down s (ChangeGroup name change) = group_down_for change name
-wants_down s (SetGroup name property value) = if binds_group (group_setting_in s.groups.version property value) then Some name else None
-wants_down s (SetResource name property value) = if is_dependency (resource_setting_in property value) then own_group (named s.groups.resources name) else None
+wants_down s (SetGroup name property value) =
+    if binds_group (group_setting_in s.groups.version property value) then Some name else None
+wants_down s (SetResource name property value) =
+    if is_dependency (resource_setting_in property value)
+    then own_group (named s.groups.resources name) else None
 wants_down s _ = None
 
 abbrev pub up_of : GroupTable → GroupView → ℕ → Option (List ℕ) → Bool

@@ -33,7 +33,9 @@ device_not_held held _ = None
 
 -- the members and the devices held have less votes than are needed
 abbrev pub lacking : VoteTable → ℕ → ℕ → Option Refusal
-lacking v members held = if nat_lt (held_of v members held) (needed_of v) then Some (LoseQuorum (held_of v members held) (needed_of v)) else None
+lacking v members held =
+    if nat_lt (held_of v members held) (needed_of v)
+    then Some (LoseQuorum (held_of v members held) (needed_of v)) else None
 
 -- 23: under the new votes the membership would have no majority
 abbrev pub lose_quorum : ConfigState → ℕ → ℕ → Update → Option Refusal

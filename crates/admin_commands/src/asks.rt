@@ -28,7 +28,8 @@ pub fn refusal_of_ask(config: &Config, view: &GroupView, ask: &Ask) -> Option<Re
 }
 
 fn unknown_resource(config: &Config, resource: &Name) -> Option<Refusal>
-    ensures { result ≡ unknown (missing (named config.now.groups.resources resource.now) (Named resource.now)) }
+    ensures { result ≡ unknown
+        (missing (named config.now.groups.resources resource.now) (Named resource.now)) }
 {
     match config.groups().resource(resource) {
         Some(_) => None,

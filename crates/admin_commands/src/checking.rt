@@ -13,10 +13,10 @@ use cl_base::{DevSet, Name, NodeSet, Query, Refusal, Thing};
 use rg_view::GroupView;
 use std::alloc::Global;
 
-/// Accepts the command over the configuration in force, or refuses it with the first of the refusals
-/// that fits, in the order of their numbers. The view is what is known of groups, the membership has
-/// these members and holds these devices, and the length is that of the longest record without the
-/// command and without what groups and resources add.
+/// Accepts the command over the configuration in force, or refuses it with the first refusal that
+/// fits, in the order of their numbers. The view is what is known of groups, and the membership has
+/// these members and holds these devices. The length is that of the president's record, as long as
+/// it may become, without the command and without what is added for groups and resources.
 pub fn check(
     alloc: Global,
     c: AdminCommand,
@@ -27,8 +27,10 @@ pub fn check(
     length: u64,
 ) -> Result<Accepted, CheckError>
     requires room { length ≤ most_bytes }
-    ensures accepted { IfOk result (λ a. answer_to config.now view.entry.now members held length c ≡ Ok a) }
-    ensures refused { IfErr result (λ e. (e ≡ NoMemory) ⊎ (answer_to config.now view.entry.now members held length c ≡ Err e)) }
+    ensures accepted { IfOk result (λ a.
+        answer_to config.now view.entry.now members held length c ≡ Ok a) }
+    ensures refused { IfErr result (λ e. (e ≡ NoMemory)
+        ⊎ (answer_to config.now view.entry.now members held length c ≡ Err e)) }
 {
     match c {
         AdminCommand::Change(u) => {

@@ -42,7 +42,8 @@ fn cycle_by_group(
     property: &[u8],
     value: &[u8],
 ) -> Result<Option<Refusal>, NoMemory>
-    ensures { IfOk result (λ refusal. refusal ≡ cycle config.now (SetGroup group.now property.now value.now)) }
+    ensures { IfOk result (λ refusal.
+        refusal ≡ cycle config.now (SetGroup group.now property.now value.now)) }
 {
     if !orders_groups(alloc, config.version(), property, value)? {
         return Ok(None);
@@ -58,7 +59,8 @@ fn cycle_by_resource(
     property: &[u8],
     value: &[u8],
 ) -> Result<Option<Refusal>, NoMemory>
-    ensures { IfOk result (λ refusal. refusal ≡ cycle config.now (SetResource resource.now property.now value.now)) }
+    ensures { IfOk result (λ refusal.
+        refusal ≡ cycle config.now (SetResource resource.now property.now value.now)) }
 {
     if !is_dependency(alloc, property, value)? {
         return Ok(None);
@@ -86,7 +88,8 @@ fn with_group_set(
     property: &[u8],
     value: &[u8],
 ) -> Result<Groups, NoMemory>
-    ensures { IfOk result (λ new. new ≡ or_same (group_set groups.now group.now property.now value.now) groups.now) }
+    ensures { IfOk result (λ new.
+        new ≡ or_same (group_set groups.now group.now property.now value.now) groups.now) }
 {
     let mut new = groups.copy(alloc)?;
     if new.group(group).is_none() {
@@ -106,7 +109,8 @@ fn with_resource_set(
     property: &[u8],
     value: &[u8],
 ) -> Result<Groups, NoMemory>
-    ensures { IfOk result (λ new. new ≡ or_same (resource_set groups.now resource.now property.now value.now) groups.now) }
+    ensures { IfOk result (λ new.
+        new ≡ or_same (resource_set groups.now resource.now property.now value.now) groups.now) }
 {
     let mut new = groups.copy(alloc)?;
     if new.resource(resource).is_none() {

@@ -24,7 +24,8 @@ pub fn refusal(
     length: u64,
     u: &Update,
 ) -> Result<Option<Refusal>, NoMemory>
-    ensures { IfOk result (λ refusal. refusal ≡ refusal_in config.now view.entry.now members held length u.now) }
+    ensures { IfOk result (λ refusal.
+        refusal ≡ refusal_in config.now view.entry.now members held length u.now) }
 {
     let told = config.refusal(u)?;
     if is_below(&told, 10) {
@@ -51,7 +52,7 @@ pub fn refusal(
     late_refusal(alloc, config, view, members, held, length, u)
 }
 
-/// The first refusal of those that the configuration does not tell alone, and of greater numbers.
+/// The first refusal of the numbers 17 to 25.
 fn late_refusal(
     alloc: Global,
     config: &Config,
@@ -61,7 +62,8 @@ fn late_refusal(
     length: u64,
     u: &Update,
 ) -> Result<Option<Refusal>, NoMemory>
-    ensures { IfOk result (λ refusal. refusal ≡ late_refusal config.now view.entry.now members held length u.now) }
+    ensures { IfOk result (λ refusal.
+        refusal ≡ late_refusal config.now view.entry.now members held length u.now) }
 {
     if let Some(refusal) = still_up(alloc, config, view, members, u)? {
         return Ok(Some(refusal));
