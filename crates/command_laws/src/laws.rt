@@ -1,0 +1,9 @@
+//! What an answer says: the law is a function that does nothing, and its clause is the law.
+ghost use Rattle.command_laws.specs.Laws.{AcceptedUpdatesHold};
+
+/// An update that is accepted is not refused where it is applied. A group that may not be up for it is
+/// up on no member; where it says what comes after what, no cycle comes of it; the membership has a
+/// majority under the votes that it changes; and the record has room for it.
+pub fn accepted_updates_hold()
+    ensures hold { AcceptedUpdatesHold }
+{}
