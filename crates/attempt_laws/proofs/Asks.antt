@@ -553,6 +553,7 @@ moves_installing t all s d nodes attached apart opened has settled =
       counts = (
         may_count t s.plan.epoch s.plan.members d s.devices held refl opened has apart settled,
         record { nodes = nodes; attached = attached; apart = apart; has = counted_as t s.plan.epoch held },
+        has,
       );
     }
 

@@ -142,11 +142,12 @@ IsAsking q members (Collected p all) = (p ≡ q) × (all ≡ members)
 IsAsking q members (Ask p n quorum) = p ≡ q
 IsAsking q members _ = ⊥
 
--- it counts, where it installs
+-- it counts, where it installs, and until then it has asked as its entry of the device says
 abbrev pub CountsAt : Sharing → AttemptState → ℕ → Option Install → Type 0
 CountsAt t s d None = DeviceHas t s d
 CountsAt t s d (Some i) =
     Allowed t (count_at (is_held_in s.devices d) s.plan.epoch) × DeviceHas (after t (count_at (is_held_in s.devices d) s.plan.epoch)) s d
+    × HasEntry t s.plan.epoch (entry_of s.devices d)
 
 -- the machine has node n as asked to seize the device, so
 abbrev pub HasAsked : Sharing → ℕ → ℕ → SeizeKind → Type 0

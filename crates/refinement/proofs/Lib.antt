@@ -17,7 +17,6 @@ pub mod Disks
 pub mod EveryRun
 pub mod Worlds
 pub mod DeviceWidths
-pub mod Owns
 pub mod Widths
 pub mod Lines
 pub mod Consequences

@@ -1,6 +1,6 @@
 -- Each line of a schedule in the world is moves of the run of all nodes.
 use Rattle.std.specs.Prelude.{ℕ, zero, suc, ◌-◌, ◌+◌, ◌≡◌, ◌≢◌, ◌≤◌, ◌<◌, ◌⊎◌, ◌++◌, ◌==◌, nat_lt, Bool, true, false, All, List, [], ◌∷◌, Option, None, Some, Result, Ok, Err, length, map, replicate, slice_get, slice_set}
-use Rattle.std.proofs.Common.{refl, sym, subst, ◌∙◌, inl, inr, arith}
+use Rattle.std.proofs.Common.{refl, sym, ap, subst, ◌∙◌, inl, inr, arith}
 use Rattle.std.specs.List.{AllByRecursion}
 use Rattle.std.proofs.lemmas.List.{get_or-replicate, length-replicate}
 use Rattle.std.proofs.lemmas.List.Elements.{All-nil, All-cons}
@@ -8,6 +8,8 @@ use Rattle.std.proofs.lemmas.Option.{get_or_from_slice_get, slice_get_within}
 use Rattle.cl_base.specs.Limits.{most_nodes}
 use Rattle.cl_base.specs.Numbers.{numbers_to}
 use Rattle.cl_base.specs.Sets.{has}
+use Rattle.cl_base.specs.declared.header.DeviceKind.{DeviceKind}
+use Rattle.cl_base.specs.declared.header.DeviceKind.TheVariants.{Data, Quorum, Server}
 use Rattle.cl_base.specs.declared.header.Header.{Header}
 use Rattle.cl_base.specs.declared.header.HeaderDevice.{HeaderDevice}
 use Rattle.cmm_attempt.specs.Calls.{IsDevice}
@@ -33,6 +35,8 @@ use Rattle.status_report.specs.declared.packet_entry.PacketEntry.TheVariants as 
 use Rattle.status_report.specs.declared.schedule_entry.SkipCause.TheVariants as skip
 use Rattle.wire.specs.declared.message.Message.{Message}
 use Rattle.wire.specs.Reads.{whole_of}
+use Rattle.wire.specs.Spelling as wire
+use Rattle.wire.specs.Spelling.{IsDevices}
 use Rattle.node_model.specs.declared.cluster.Cluster.{Cluster}
 use Rattle.node_model.specs.declared.input.Input.{Input}
 use Rattle.node_model.specs.declared.input.Input.TheVariants as input
@@ -44,11 +48,14 @@ use Rattle.world_model.specs.Sends.{giving, with_links}
 use Rattle.world_model.specs.Packets.{copying, delivering, delivering_as, losing, losing_as, repeating_as, repeating_one, taking, with_oldest}
 use Rattle.world_model.specs.Devices.{Commanded, Executed, commanded, commanded_at, doing_command, doing_due, due, executed, fault_at, on_disk, on_disk_due, with_fault, writing_at, writing_if}
 use Rattle.world_model.specs.Rounds.{bringing, bringing_all, bringing_below, doing_all, doing_one, doing_some, for_each, is_between, round_of, rounds, rounds_of, ticking_one}
-use Rattle.world_model.specs.First.{attached_from, first_cluster, first_device, first_world, quorum_devices}
+use Rattle.world_model.specs.First.{attached_from, first_cluster, first_device, first_world, quorum_devices, quorum_from, with_quorum}
 use Rattle.world_model.specs.Lines.{giving_up, left_by, line_on, on_packets, with_stop_at}
-use Rattle.refinement.specs.Runs.{AnswerFits, InputFits, IsAmong, Nodes, WasSent, first_nodes, moved}
+use Rattle.node_widths.specs.Widths.{AnswerFits}
+use Rattle.refinement.specs.Runs.{AnswersFit, IsAmong, Nodes, WasSent, first_nodes, moved}
 use Rattle.refinement.specs.Runs.Move.{Arms}
+use Rattle.refinement.specs.Widths.{ClusterFits}
 use Rattle.refinement.specs.Worlds.{DeviceFits, DevicesFit, GivesFit, IsNamed, Keeps, PacketSent, Played, Shows, WorldRunsAreOne, lines_on}
+use Rattle.node_widths.proofs.Sets.{device_with}
 use Rattle.refinement.proofs.DeviceWidths.{first_devices_fit}
 use Rattle.refinement.proofs.EveryRun.{every_run_is_one}
 use Rattle.refinement.proofs.Widths.{devices_fit, gives_fit}
@@ -211,7 +218,7 @@ stop_so c w n calls choice (Some disk) low is h =
 
 -- Rounds.
 
-up_so : (c : Cluster) → GivesFit c → (p : Play) (n : ℕ) (i : Input) → 1 ≤ n → ((v : Nodes) → WasSent v i) → InputFits i → Played c p.world → Played c (giving_up n i p).world
+up_so : (c : Cluster) → GivesFit c → (p : Play) (n : ℕ) (i : Input) → 1 ≤ n → ((v : Nodes) → WasSent v i) → AnswersFit i → Played c p.world → Played c (giving_up n i p).world
 up_so c gives p n i low sent bounded h = if_either (λ (r : Play). Played c r.world) (is_up p.world n) (giving n i p) (skipping skip.Down p) (given_so c gives p n i h low (sent h.nodes) bounded) h
 
 tick_so : (c : Cluster) → GivesFit c → (p : Play) (n : ℕ) → 1 ≤ n → Played c p.world → Played c (ticking_one n p).world
@@ -361,12 +368,40 @@ attached_fit number (d ∷ ds) low high =
     same : (a b : ℕ) → a + suc b ≤ 17 → (a + 1) + b ≤ 17
     same a b h = omega arith
 
+few_attached : (number : ℕ) (ds : List HeaderDevice) → length ds ≤ 16 → length (attached_from number ds) ≤ 16
+few_attached number ds h = subst (λ k. k ≤ 16) (sym (as_many number ds)) h
+  where
+    as_many : (k : ℕ) (es : List HeaderDevice) → length (attached_from k es) ≡ length es
+    as_many k [] = refl
+    as_many k (e ∷ es) = ap suc (as_many (k + 1) es)
+
+-- the quorum devices are devices
+quorum_one : (kind : DeviceKind) (number set : ℕ) → wire.IsDevice number → IsDevices set → IsDevices (with_quorum kind number set)
+quorum_one Data number set is h = h
+quorum_one Quorum number set is h = device_with set number h is
+quorum_one Server number set is h = h
+
+quorum_fits : (number : ℕ) (ds : List HeaderDevice) (set : ℕ) → 1 ≤ number → number + length ds ≤ 17 → IsDevices set → IsDevices (quorum_from number ds set)
+quorum_fits number [] set low high h = h
+quorum_fits number (d ∷ ds) set low high h =
+    quorum_fits (number + 1) ds (with_quorum d.kind number set) (more number) (same number (length ds) high) (quorum_one d.kind number set (low, below number (length ds) high) h)
+  where
+    below : (a b : ℕ) → a + suc b ≤ 17 → a ≤ 16
+    below a b k = omega arith
+
+    more : (a : ℕ) → 1 ≤ a + 1
+    more a = omega arith
+
+    same : (a b : ℕ) → a + suc b ≤ 17 → (a + 1) + b ≤ 17
+    same a b k = omega arith
+
 pub world_runs_are_one : WorldRunsAreOne
-world_runs_are_one h cells text events few devices small named left =
+world_runs_are_one h cells text events few devices small named =
     let c : Cluster = first_cluster h in
     let fits : All IsDevice c.attached = attached_fit 1 h.devices (low_one) (high (length h.devices) devices) in
-    let gives : GivesFit c = gives_fit c fits left in
-    let fit : DevicesFit c = devices_fit c fits small left in
+    let whole : ClusterFits c = record { devices = record { few = few_attached 1 h.devices devices; attached = fits }; first_valid = quorum_fits 1 h.devices 0 low_one (high (length h.devices) devices) (omega arith) } in
+    let gives : GivesFit c = gives_fit c whole in
+    let fit : DevicesFit c = devices_fit c whole small in
     let first : (d : ℕ) (device : Device) → slice_get (map (first_device h) h.devices) d ≡ Some device → DeviceFits device = first_devices_fit h h.devices small in
     let run : Played c (lines_on events (play (first_world h cells) text)).world = lines_so c gives fit events (play (first_world h cells) text) named (first_played h cells few first) in
     record {

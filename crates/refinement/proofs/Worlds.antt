@@ -6,7 +6,7 @@ use Rattle.std.proofs.lemmas.List.{get_or-set_same, get_or-set_other, length-set
 use Rattle.std.proofs.lemmas.Option.{get_or_from_slice_get, slice_get_read, slice_get_within}
 use Rattle.cl_base.specs.declared.packet.DropCause.{DropCause}
 use Rattle.interconnect.specs.Links as links
-use Rattle.interconnect.specs.Links.{Links, Packet, appending, crowding, dropping, oldest_on, packet_of, refusing, removing, sending, free_cells_of, count_on}
+use Rattle.interconnect.specs.Links.{Links, Packet, appending, crowding, dropping, oldest_on, refusing, removing, sending, free_cells_of, count_on}
 use Rattle.machine_base.specs.Put.{put}
 use Rattle.machine_base.proofs.Puts.{put_here, put_there, same_or_not}
 use Rattle.cmm_attempt.proofs.Basics.{if_either, none_some, same_some}
@@ -24,7 +24,7 @@ use Rattle.node_model.specs.declared.output.Output.TheVariants.{Tells, Sends}
 use Rattle.node_model.specs.Steps.{Outcome, stepped}
 use Rattle.world_model.specs.Worlds.{Play, WorldState, telling, with_world}
 use Rattle.world_model.specs.Sends.{come_to, dropped_so, giving, is_sent, passing, posting, rules, sent_as, stepped_to, stepping_at}
-use Rattle.refinement.specs.Runs.{InputFits, IsAmong, Letter, MayMove, Move, Moves, Nodes, WasSent, first_nodes, letters_of, moved, stepped_at}
+use Rattle.refinement.specs.Runs.{AnswersFit, IsAmong, Letter, MayMove, Move, Moves, Nodes, WasSent, first_nodes, letters_of, moved, stepped_at}
 use Rattle.refinement.specs.Runs.Move.{Takes}
 use Rattle.refinement.specs.Steps.{disk_rules}
 use Rattle.refinement.specs.Worlds.{AllFit, GivesFit, PacketSent, Played, Shows}
@@ -169,7 +169,7 @@ run_more c w (first ∷ moves) v m run may = (run.0, run_more c (moved c w first
 pub number_low : (n len : ℕ) → 1 ≤ n → n - 1 < len → len ≤ 32 → n ≤ 32
 number_low n len low h few = grind arith
 
-stepped_show : (c : Cluster) → GivesFit c → (p : Play) (n : ℕ) (i : Input) (node : Node) (disk : DiskState) (h : Played c p.world) → 1 ≤ n → WasSent h.nodes i → InputFits i
+stepped_show : (c : Cluster) → GivesFit c → (p : Play) (n : ℕ) (i : Input) (node : Node) (disk : DiskState) (h : Played c p.world) → 1 ≤ n → WasSent h.nodes i → AnswersFit i
     → slice_get p.world.nodes (n - 1) ≡ Some node → slice_get p.world.disks (n - 1) ≡ Some disk → h.nodes.node n ≡ node → h.nodes.disk n ≡ disk
     → Played c (come_to n (stepped_to n p.world.nodes p.world.disks (stepped rules c n (h.nodes.node n) (h.nodes.disk n) i)) p).world
 stepped_show c gives p n i node disk h low sent bounded at_node at_disk is_node is_disk = record {
@@ -198,7 +198,7 @@ stepped_show c gives p n i node disk h low sent bounded at_node at_disk is_node 
     w : Nodes
     w = stepped_at v n o
 
-given_by : (c : Cluster) → GivesFit c → (p : Play) (n : ℕ) (i : Input) (a : Option Node) (b : Option DiskState) (h : Played c p.world) → 1 ≤ n → WasSent h.nodes i → InputFits i
+given_by : (c : Cluster) → GivesFit c → (p : Play) (n : ℕ) (i : Input) (a : Option Node) (b : Option DiskState) (h : Played c p.world) → 1 ≤ n → WasSent h.nodes i → AnswersFit i
     → slice_get p.world.nodes (n - 1) ≡ a → slice_get p.world.disks (n - 1) ≡ b
     → Played c (come_to n (stepping_at p.world.cluster n i p.world.nodes p.world.disks a b) p).world
 given_by c gives p n i None b h low sent bounded at_node at_disk = h
@@ -211,6 +211,6 @@ given_by c gives p n i (Some node) (Some disk) h low sent bounded at_node at_dis
     (subst (λ d. Played c (come_to n (stepped_to n p.world.nodes p.world.disks (stepped rules c n (h.nodes.node n) d i)) p).world) is_disk
     (stepped_show c gives p n i node disk h low sent bounded at_node at_disk is_node is_disk)))
 
-pub given_so : (c : Cluster) → GivesFit c → (p : Play) (n : ℕ) (i : Input) (h : Played c p.world) → 1 ≤ n → WasSent h.nodes i → InputFits i → Played c (giving n i p).world
+pub given_so : (c : Cluster) → GivesFit c → (p : Play) (n : ℕ) (i : Input) (h : Played c p.world) → 1 ≤ n → WasSent h.nodes i → AnswersFit i → Played c (giving n i p).world
 given_so c gives p n i h low sent bounded =
     given_by c gives p n i (slice_get p.world.nodes (n - 1)) (slice_get p.world.disks (n - 1)) h low sent bounded refl refl

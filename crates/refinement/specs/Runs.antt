@@ -1,13 +1,11 @@
 -- Runs of all nodes of a cluster: any node takes any input at any time, and a message that was sent comes late, twice or not at all, and to anyone.
-use Rattle.std.specs.Prelude.{ℕ, ◌≡◌, ◌≤◌, ◌<◌, ◌^◌, ◌⊎◌, ◌++◌, All, List, [], ◌∷◌, Ok, length}
+use Rattle.std.specs.Prelude.{ℕ, ◌≡◌, ◌≤◌, ◌⊎◌, ◌++◌, All, List, [], ◌∷◌, length}
 use Rattle.std.specs.List.{AllByRecursion}
 use Rattle.cmm_attempt.specs.Calls.{IsDevice}
 use Rattle.local_disk.specs.declared.memory.Choice.{Choice}
 use Rattle.machine_base.specs.Put.{put}
 use Rattle.membership_machine.specs.Events.{Event, Run}
 use Rattle.membership_machine.specs.State.{Memberships, first_memberships}
-use Rattle.pgr_device.specs.declared.command.PrAnswer.TheVariants as given
-use Rattle.seize.specs.Answers.{Answer}
 use Rattle.record_disk.specs.Disks.{DiskState, armed, empty_disk}
 use Rattle.wire.specs.declared.message.Body.{Body}
 use Rattle.wire.specs.declared.message.Body.TheVariants as body
@@ -22,6 +20,7 @@ use Rattle.node_model.specs.declared.node.Node.TheVariants.{Down}
 use Rattle.node_model.specs.declared.output.Output.{Output}
 use Rattle.node_model.specs.declared.output.Output.TheVariants.{Tells, Sends}
 use Rattle.node_model.specs.Steps.{Outcome, stepped}
+use Rattle.node_widths.specs.Widths.{AnswerFits}
 use Rattle.refinement.specs.Steps.{disk_rules}
 use Rattle.refinement.specs.Ties.{MessageTold, setting_of}
 use Rattle.refinement.specs.Whole.{Stands}
@@ -59,19 +58,13 @@ abbrev pub WasSent : Nodes → Input → Type 0
 WasSent w (Packet from m) = IsAmong from m.body w.sent
 WasSent w _ = Unit {0}
 
--- A device's answer has numbers of 64 bits, and at most as many keys as there are nodes.
-abbrev pub AnswerFits : Answer → Type 0
-AnswerFits (Ok (given.Keys keys)) = (length keys ≤ 32) × AllByRecursion (λ k. k < 2 ^ 64) keys
-AnswerFits (Ok (given.Word w)) = w < 2 ^ 64
-AnswerFits (Ok (given.Miscompare w)) = w < 2 ^ 64
-AnswerFits _ = Unit {0}
-
-abbrev pub InputFits : Input → Type 0
-InputFits (Answered a) = AnswerFits a
-InputFits _ = Unit {0}
+-- a device's answer has its widths
+abbrev pub AnswersFit : Input → Type 0
+AnswersFit (Answered a) = AnswerFits a
+AnswersFit _ = Unit {0}
 
 abbrev pub MayMove : Nodes → Move → Type 0
-MayMove w (Takes n i) = (1 ≤ n) × (n ≤ 32) × WasSent w i × InputFits i
+MayMove w (Takes n i) = (1 ≤ n) × (n ≤ 32) × WasSent w i × AnswersFit i
 MayMove w (Arms n calls choice) = Unit {0}
 
 abbrev pub stepped_at : Nodes → ℕ → Outcome DiskState → Nodes

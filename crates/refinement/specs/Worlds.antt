@@ -12,6 +12,7 @@ use Rattle.node_model.specs.declared.node.Node.{Node}
 use Rattle.node_model.specs.declared.output.Output.{Output}
 use Rattle.node_model.specs.declared.output.Output.TheVariants.{Tells, Sends}
 use Rattle.node_model.specs.Steps.{stepped}
+use Rattle.node_widths.specs.Widths.{AnswerFits}
 use Rattle.cl_base.specs.declared.header.Header.{Header}
 use Rattle.schedule_text.specs.declared.event.Event.{Event}
 use Rattle.schedule_text.specs.declared.event.Event.TheVariants as event
@@ -23,10 +24,9 @@ use Rattle.pgr_device.specs.Spc.{step}
 use Rattle.pgr_device.specs.declared.command.PrCommand.{PrCommand}
 use Rattle.world_model.specs.Lines.{line_on}
 use Rattle.world_model.specs.Worlds.{Play, WorldState, play}
-use Rattle.refinement.specs.Runs.{AnswerFits, IsAmong, IsRun, Letter, MayMove, Move, Moves, Nodes, first_nodes}
+use Rattle.refinement.specs.Runs.{IsAmong, IsRun, Letter, MayMove, Move, Moves, Nodes, first_nodes}
 use Rattle.refinement.specs.Runs.Move.{Takes}
 use Rattle.refinement.specs.Steps.{disk_rules}
-use Rattle.refinement.specs.Widths.{AllLeft}
 
 -- What a node gives can be spelled, and goes to nodes from number 1 on.
 abbrev pub AllFit : ℕ → List Output → Type 0
@@ -38,11 +38,6 @@ AllFit n (Sends to b ∷ os) = (1 ≤ to) × Fits (record { sender = n; body = b
 abbrev pub GivesFit : Cluster → Type 0
 GivesFit c = (moves : List Move) (v : Nodes) (n : ℕ) (i : Input) → Moves c (first_nodes c) moves v → MayMove v (Takes n i)
     → AllFit n (stepped disk_rules c n (v.node n) (v.disk n) i).given
-
--- What is left to suppose of messages is so in every run.
-abbrev pub MessagesFit : Cluster → Type 0
-MessagesFit c = (moves : List Move) (v : Nodes) (n : ℕ) (i : Input) → Moves c (first_nodes c) moves v → MayMove v (Takes n i)
-    → AllLeft (stepped disk_rules c n (v.node n) (v.disk n) i).given
 
 -- a packet holds a message that its sender sent, if it holds one
 abbrev pub PacketSent : List Letter → Packet → Type 0
@@ -98,7 +93,7 @@ pub record IsWorldRun (c : Cluster) (w : WorldState) : Type 0 where
   pub shows : Shows c w nodes
   pub is_run : IsRun c nodes
 
--- Each run of the simulated world is a run of the machine of memberships, where messages keep their widths.
+-- Each run of the simulated world is a run of the machine of memberships.
 abbrev pub WorldRunsAreOne : Type 0
-WorldRunsAreOne = (h : Header) (cells : ℕ) (text : List ℕ) (events : List Event) → h.nodes ≤ 32 → length h.devices ≤ 16 → h.cluster < 2 ^ 32 → AllByRecursion IsNamed events → MessagesFit (first_cluster h)
+WorldRunsAreOne = (h : Header) (cells : ℕ) (text : List ℕ) (events : List Event) → h.nodes ≤ 32 → length h.devices ≤ 16 → h.cluster < 2 ^ 32 → AllByRecursion IsNamed events
     → IsWorldRun (first_cluster h) (lines_on events (play (first_world h cells) text)).world

@@ -39,10 +39,7 @@ pub fn every_run_is_one()
 
 /// Each run of the simulated world, from its header on through any lines, is a run of all nodes, and so one of the machine of
 /// memberships: its nodes and disks are those of that run, and each packet in flight holds what its sender sent. The header has at
-/// most 32 nodes, at most 16 devices and a cluster below 2^32, and the lines name nodes from number 1 on. Supposed, and proved
-/// nowhere yet, is that messages but heartbeats go to nodes from number 1 on, and what is left to say of their numbers and lists
-/// (`MessagesFit`). Of heartbeats all is proved, and of a Collect, a Promise, an Install, a Ready and a Start that their epochs have
-/// 64 bits.
+/// most 32 nodes, at most 16 devices and a cluster below 2^32, and the lines name nodes from number 1 on; nothing else is supposed.
 pub fn world_runs_are_one()
     ensures { WorldRunsAreOne }
 {}

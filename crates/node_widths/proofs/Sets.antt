@@ -1,0 +1,31 @@
+-- Sets keep their widths.
+use Rattle.std.specs.Prelude.{ℕ, zero, suc, ◌-◌, ◌^◌, ◌≤◌, ◌<◌, Bool}
+use Rattle.std.specs.Int.Bits.{and_le_l}
+use Rattle.std.proofs.Common.{arith}
+use Rattle.std.proofs.Math.Pow.{pow-lt}
+use Rattle.std.proofs.lemmas.Nat.{or_lt}
+use Rattle.cl_base.specs.Sets.{set_with, set_without}
+use Rattle.cmm_attempt.proofs.Basics.{if_either}
+use Rattle.heartbeats.specs.Views.{set_where}
+use Rattle.wire.specs.Spelling.{IsDevice, IsDevices, IsNodes}
+
+node_with : (s n : ℕ) → IsNodes s → n ≤ 32 → IsNodes (set_with s n)
+unfolding set_with
+node_with s n h high = or_lt 32 s (2 ^ (n - 1)) h (pow-lt {i = n - 1} {j = 32} (omega (arith, high)))
+
+pub device_with : (s d : ℕ) → IsDevices s → IsDevice d → IsDevices (set_with s d)
+unfolding set_with
+device_with s d h is = or_lt 16 s (2 ^ (d - 1)) h (pow-lt {i = d - 1} {j = 16} (omega (arith, is.0, is.1)))
+
+lower : (x y z : ℕ) → x ≤ y → y < z → x < z
+lower x y z le lt = omega (arith, le, lt)
+
+pub device_without : (s d : ℕ) → IsDevices s → IsDevices (set_without s d)
+unfolding set_without
+device_without s d h = lower (set_without s d) s (2 ^ 16) (and_le_l s (2 ^ 32 - 1 - 2 ^ (d - 1))) h
+
+pub nodes_where : (test : ℕ → Bool) (k : ℕ) → k ≤ 32 → IsNodes (set_where test k)
+nodes_where test zero h = omega arith
+nodes_where test (suc k) h =
+    let before : IsNodes (set_where test k) = nodes_where test k (omega (arith, h)) in
+    if_either IsNodes (test (suc k)) (set_with (set_where test k) (suc k)) (set_where test k) (node_with (set_where test k) (suc k) before h) before
