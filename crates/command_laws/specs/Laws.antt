@@ -1,18 +1,19 @@
 -- What is true of an update that is accepted.
-use Rattle.std.specs.Prelude.{◌≡◌, ◌≤◌, ℕ, Bool, true, false, List, Some, None, Ok}
+use Rattle.std.specs.Prelude.{◌≡◌, ◌<◌, ◌≤◌, ◌-◌, ◌^◌, ℕ, Bool, true, false, List, [], ◌∷◌, length, Some, None, Ok}
+use Rattle.cl_base.specs.declared.header.Header.{Header}
 use Rattle.quorum_votes.specs.Votes.{held_of, needed_of}
 use Rattle.rg_deps.specs.Orderings.{first_cycle}
 use Rattle.rg_view.specs.declared.view.GroupView.{GroupView}
 use Rattle.ccr_tables.specs.declared.command.AdminCommand.TheVariants.{Change}
 use Rattle.ccr_tables.specs.declared.update.Update.{Update}
 use Rattle.ccr_tables.specs.declared.update.Update.TheVariants.{Device, NodeVote}
-use Rattle.ccr_tables.specs.Changes.{changed}
+use Rattle.ccr_tables.specs.Changes.{applied, changed, config_of}
 use Rattle.ccr_tables.specs.Refusals.{refusal_of}
-use Rattle.ccr_tables.specs.State.{ConfigState}
+use Rattle.ccr_tables.specs.State.{ConfigState, first_config}
 use Rattle.admin_commands.specs.declared.accepted.Accepted.TheVariants as accepted
 use Rattle.admin_commands.specs.Answers.{answer_to}
 use Rattle.admin_commands.specs.Orders.{makes_order}
-use Rattle.admin_commands.specs.Records.{length_with, most_bytes}
+use Rattle.admin_commands.specs.Records.{length_with, most_bytes, updates_in}
 use Rattle.admin_commands.specs.Standing.{is_up, wants_down}
 
 -- the commands of `clq`
@@ -39,3 +40,14 @@ abbrev pub AcceptedUpdatesHold : Type 0
 AcceptedUpdatesHold =
     (s : ConfigState) (v : GroupView) (members held length : ℕ) (u : Update) → answer_to s v members held length (Change u) ≡ Ok (accepted.Change u)
     → Holds s v members held length u
+
+-- updates that are taken one after the other, none of them refused
+abbrev pub AreTaken : ConfigState → List Update → Type 0
+AreTaken s [] = Unit {0}
+AreTaken s (u ∷ us) = (refusal_of s u ≡ None) × AreTaken (applied s u) us
+
+-- The updates of a configuration are as many as it was made by.
+abbrev pub UpdatesAreCounted : Type 0
+UpdatesAreCounted =
+    (h : Header) (us : List Update) → AreTaken (first_config h) us → length us < 2 ^ 64 - 1
+    → updates_in (config_of h us).generations ≡ length us

@@ -1,6 +1,6 @@
-//! What is true of a command that is accepted.
+//! What is true of commands that are accepted.
 #![tactic(auto)]
 
 mod laws;
 
-pub use laws::accepted_updates_hold;
+pub use laws::{accepted_updates_hold, updates_are_counted};
