@@ -1,21 +1,17 @@
 -- A call that is allowed under a view is an allowed call over each map that the view may stand for.
-use Rattle.std.proofs.Common.{◌≡◌, ℕ, ◌⊎◌, inl, inr, Bool, true, false, cond, not, ◌&&◌, ◌||◌, List, [], ◌∷◌, Option, None, Some, fold, refl, sym, ap, subst, ◌∙◌}
+use Rattle.std.proofs.Common.{◌≡◌, ℕ, ◌⊎◌, inl, inr, Bool, true, false, cond, not, ◌||◌, List, [], ◌∷◌, Option, None, Some, fold, refl, sym, ap, subst, ◌∙◌}
 use Rattle.std.proofs.lemmas.Bool.{and_parts, not-true, or_cases}
 use Rattle.cl_base.specs.declared.method.Method.{Method}
 use Rattle.cl_base.specs.declared.method.Method.TheVariants.{PrenetStart, Start, MonitorStart, MonitorCheck, MonitorStop, Stop, PostnetStop, Validate, Init, Fini, Boot, Update}
-use Rattle.cl_base.specs.Limits.{most_nodes}
-use Rattle.cl_base.specs.Numbers.{numbers_to}
 use Rattle.cl_base.specs.Sets.{has}
 use Rattle.load_limits.specs.declared.limits.Limit.{Limit}
 use Rattle.placement.specs.Resources.{is_stop_failed}
 use Rattle.rg_props.specs.declared.group.Resource.{Resource}
 use Rattle.rg_props.specs.Lookups.{named}
 use Rattle.rg_props.specs.Table.{GroupTable}
-use Rattle.rg_view.specs.declared.orders.Outstanding.{Outstanding}
 use Rattle.rg_view.specs.declared.states.ResourceAt.{ResourceAt}
 use Rattle.rg_view.specs.declared.view.GroupView.{GroupView}
 use Rattle.rg_view.specs.Marks.{is_marked, marks_with}
-use Rattle.rg_view.specs.Orders.{order_of}
 use Rattle.rg_view.specs.States.{state_of}
 use Rattle.rt_types.specs.Fields.{TypeFields}
 use Rattle.rt_types.specs.Types.{type_of}
@@ -27,11 +23,11 @@ use Rattle.sequencer.specs.Outlooks.{members_of, outlook_of, with_rising, with_r
 use Rattle.sequencer.specs.Standing.{is_order_for, is_ordered}
 use Rattle.sequencer.specs.Starting.{may_begin}
 use Rattle.sequencer.specs.Stopping.{has_follower, is_awaited, is_held}
-use Rattle.sequencer_laws.specs.AllowedCall.{IsAllowedCall, MayBeginIn, MayCall, MayStop}
+use Rattle.sequencer_laws.specs.AllowedCall.{IsAllowedCall, MayCall}
 use Rattle.sequencer_laws.specs.Flags.{FlagMap, Flags}
 use Rattle.sequencer_laws.specs.Laws.{AreSafeWhere, GoalsAreManaged, IsIdle, situation}
-use Rattle.sequencer_laws.specs.Situations.{Situation, has_its, type_has}
-use Rattle.sequencer_laws.specs.Views.{MayStandFor, flags_of, seen}
+use Rattle.sequencer_laws.specs.Situations.{Situation, type_has}
+use Rattle.sequencer_laws.specs.Views.{MayStandFor, flags_of}
 use Rattle.sequencer_laws.proofs.Lists.{five, four, six, three}
 use Rattle.sequencer_laws.proofs.Maps.{unordered}
 use Rattle.sequencer_laws.proofs.Starts.{begins}

@@ -1,5 +1,5 @@
 -- Once an order is done, the orders of other nodes stay safe.
-use Rattle.std.proofs.Common.{◌≡◌, ◌≢◌, ℕ, ◌==◌, ◌⊎◌, inl, inr, Bool, true, false, cond, Option, None, Some, List, refl, sym, ap, subst, ◌∙◌}
+use Rattle.std.proofs.Common.{◌≡◌, ◌≢◌, ℕ, ◌==◌, ◌⊎◌, inl, inr, true, false, cond, Option, None, Some, List, refl, sym, ap, subst, ◌∙◌}
 use Rattle.std.proofs.lemmas.Bool.{eq-eqb, ne_eqb}
 use Rattle.std.proofs.lemmas.Bool.Decides.{eqb_tells}
 use Rattle.cl_base.specs.declared.method.Method.{Method}
@@ -11,10 +11,9 @@ use Rattle.rg_view.specs.declared.view.GroupView.{GroupView}
 use Rattle.rg_view.specs.Orders.{order_of}
 use Rattle.rt_types.specs.Fields.{TypeFields}
 use Rattle.sequencer_laws.specs.AllowedCall.{IsAllowedCall}
-use Rattle.sequencer_laws.specs.Flags.{FlagMap, Flags}
+use Rattle.sequencer_laws.specs.Flags.{FlagMap}
 use Rattle.sequencer_laws.specs.Laws.{situation}
 use Rattle.sequencer_laws.specs.Orders.{DoneIsSafe, IsDone, OrdersAreSafe}
-use Rattle.sequencer_laws.specs.Situations.{Situation}
 use Rattle.sequencer_laws.specs.Views.{MayStandFor, after_order, seen, then_seen}
 use Rattle.sequencer_laws.proofs.Counts.{above_zero}
 

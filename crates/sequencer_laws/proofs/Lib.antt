@@ -8,3 +8,4 @@ pub mod Counts
 pub mod Orders
 pub mod Ordered
 pub mod Done
+pub mod Cleared

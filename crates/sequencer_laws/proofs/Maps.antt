@@ -1,5 +1,5 @@
 -- What a view says of each map that it may stand for: what counts as online runs there, and what has a flag there counts as up.
-use Rattle.std.proofs.Common.{◌≡◌, ℕ, ◌==◌, ◌⊎◌, inl, inr, Bool, true, false, cond, not, ◌&&◌, ◌||◌, List, [], ◌∷◌, ◌++◌, Option, None, Some, refl, sym, ap, ◌∙◌}
+use Rattle.std.proofs.Common.{◌≡◌, ℕ, ◌==◌, ◌⊎◌, inl, inr, Bool, true, false, cond, not, ◌&&◌, ◌||◌, List, Option, None, Some, refl, sym, ap, ◌∙◌}
 use Rattle.std.specs.List.{list_all, list_any}
 use Rattle.std.specs.Str.{bytes_eq}
 use Rattle.std.proofs.lemmas.Bool.{and_cases, and_from, and_parts, not-true, not-false, not_from_false, or_left, or_right}
@@ -22,7 +22,7 @@ use Rattle.sequencer.specs.Standing.{has_flag, has_missing, is_group_online, is_
 use Rattle.sequencer_laws.specs.Flags.{FlagMap, Flags, has_any}
 use Rattle.sequencer_laws.specs.Laws.{situation}
 use Rattle.sequencer_laws.specs.Situations.{Situation, has_online, has_up, holds_up, reaches, runs_if_enabled, scope_on, some_in_scope}
-use Rattle.sequencer_laws.specs.Views.{MayStandFor, after_order, flags_of, seen}
+use Rattle.sequencer_laws.specs.Views.{MayStandFor, after_order, seen}
 use Rattle.sequencer_laws.proofs.Lists.{all_but, any_among, any_more, are_members}
 
 -- an order for another resource leaves this one's flags

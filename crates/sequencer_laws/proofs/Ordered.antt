@@ -1,5 +1,5 @@
 -- An allowed call that is ordered is safe, and it leaves the orders of other nodes safe: the whole.
-use Rattle.std.proofs.Common.{◌≡◌, ◌≢◌, ℕ, zero, suc, ◌≤◌, ◌<◌, ◌^◌, ◌==◌, ◌⊎◌, inl, inr, Bool, true, false, cond, not, ◌&&◌, Option, None, Some, List, refl, sym, ap, subst, ◌∙◌, arith}
+use Rattle.std.proofs.Common.{◌≡◌, ◌≢◌, ℕ, ◌<◌, ◌^◌, ◌==◌, ◌⊎◌, inl, inr, Bool, true, false, cond, not, ◌&&◌, Option, None, Some, List, refl, sym, ap, subst, ◌∙◌}
 use Rattle.std.specs.Str.{bytes_eq}
 use Rattle.std.specs.Cmp.Lexicographic.{same_text}
 use Rattle.std.proofs.lemmas.Bool.{and_from, and_parts, and_right, eqb-true, eq-eqb, ne_eqb}
@@ -25,7 +25,7 @@ use Rattle.rt_types.specs.Fields.{TypeFields}
 use Rattle.rt_types.specs.Types.{type_of}
 use Rattle.sequencer.specs.Allowed.{is_allowed, is_callable, is_callable_in, may_call, offers}
 use Rattle.sequencer.specs.Fields.{OutlookFields}
-use Rattle.sequencer.specs.Outlooks.{members_of, outlook_of}
+use Rattle.sequencer.specs.Outlooks.{outlook_of}
 use Rattle.sequencer.specs.Standing.{is_order_for, is_ordered}
 use Rattle.sequencer.specs.Stopping.{depends_on, has_start, is_of_dependent, is_start, is_start_order, starts_dependent}
 use Rattle.sequencer_laws.specs.AllowedCall.{IsAllowedCall}

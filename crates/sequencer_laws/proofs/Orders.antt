@@ -1,20 +1,20 @@
 -- An allowed call that is ordered is safe, and it leaves the outstanding orders of other nodes safe.
-use Rattle.std.proofs.Common.{◌≡◌, ◌≢◌, ℕ, zero, suc, ◌+◌, ◌-◌, ◌^◌, ◌<◌, ◌≤◌, ◌==◌, nat_lt, ◌⊎◌, inl, inr, Bool, true, false, cond, not, ◌&&◌, ◌||◌, Option, None, Some, List, [], ◌∷◌, ◌++◌, length, refl, sym, ap, subst, ◌∙◌, arith}
-use Rattle.std.specs.List.{AllByRecursion, Contains, filter, flat_map, list_all, list_any}
+use Rattle.std.proofs.Common.{◌≡◌, ℕ, ◌^◌, ◌<◌, ◌≤◌, ◌==◌, nat_lt, ◌⊎◌, inl, inr, Bool, true, false, cond, not, ◌&&◌, ◌||◌, Option, None, Some, List, [], ◌++◌, refl, sym, ap, subst, ◌∙◌, arith}
+use Rattle.std.specs.List.{flat_map, list_all, list_any}
 use Rattle.std.specs.Str.{bytes_eq}
 use Rattle.std.specs.Cmp.Lexicographic.{same_text}
 use Rattle.std.proofs.lemmas.Bool.{and_from, and_left, and_parts, and_right, eqb-true, eq-eqb, false_from_ne_true, ltb-true, ne_eqb, not-true, not_from_false, not_from_true, or_cases, or_right, true_from_ne_false}
-use Rattle.std.proofs.lemmas.List.Folds.{list_all-append, list_any-append}
+use Rattle.std.proofs.lemmas.List.Folds.{list_any-append}
 use Rattle.cl_base.specs.declared.method.Method.{Method}
 use Rattle.cl_base.specs.declared.method.Method.TheVariants.{PrenetStart, Start, MonitorStart, MonitorCheck, MonitorStop, Stop, PostnetStop, Validate, Init, Fini, Boot, Update}
 use Rattle.cl_base.specs.Limits.{most_nodes}
 use Rattle.cl_base.specs.Numbers.{numbers_to}
 use Rattle.cl_base.specs.Sets.{has}
-use Rattle.cl_base.proofs.NameLemmas.{text_flips, texts_pass}
+use Rattle.cl_base.proofs.NameLemmas.{texts_pass}
 use Rattle.load_limits.specs.declared.limits.Factor.{Factor}
 use Rattle.load_limits.specs.declared.limits.Limit.{Limit}
 use Rattle.load_limits.specs.Loads.{load}
-use Rattle.placement.specs.Resources.{has_enabled, is_enabled_in, is_stop_failed}
+use Rattle.placement.specs.Resources.{has_enabled, is_enabled_in}
 use Rattle.rg_props.specs.declared.group.Group.{Group}
 use Rattle.rg_props.specs.declared.group.Resource.{Resource}
 use Rattle.rg_props.specs.declared.group.Scope.{Scope}
@@ -25,32 +25,29 @@ use Rattle.rg_props.specs.Affinities.{declares, declares_close, is_close, same_a
 use Rattle.rg_props.specs.Lookups.{named}
 use Rattle.rg_props.specs.Settings.{has_name}
 use Rattle.rg_props.specs.Table.{GroupTable}
-use Rattle.rg_view.specs.declared.orders.Outstanding.{Outstanding}
 use Rattle.rg_view.specs.declared.states.ResourceAt.{ResourceAt}
 use Rattle.rg_view.specs.declared.view.GroupView.{GroupView}
 use Rattle.rg_view.specs.Goals.{goal_of}
 use Rattle.rg_view.specs.Marks.{is_marked}
-use Rattle.rg_view.specs.Orders.{OrdersAfter, order_of}
 use Rattle.rg_view.specs.States.{state_of}
 use Rattle.rt_types.specs.Fields.{TypeFields}
-use Rattle.rt_types.specs.Types.{type_of}
-use Rattle.sequencer.specs.Allowed.{is_allowed, is_callable, is_callable_in, may_call, offers}
+use Rattle.sequencer.specs.Allowed.{may_call}
 use Rattle.sequencer.specs.declared.direction.Direction.TheVariants.{Up}
 use Rattle.sequencer.specs.Fields.{OutlookFields}
 use Rattle.sequencer.specs.Leaving.{has_reason}
 use Rattle.sequencer.specs.Loads.{is_too_much}
-use Rattle.sequencer.specs.Outlooks.{members_of, outlook_of}
+use Rattle.sequencer.specs.Outlooks.{members_of}
 use Rattle.sequencer.specs.Scopes.{any_in_scope, in_scope, is_tied}
-use Rattle.sequencer.specs.Standing.{is_group_online, is_group_up, has_flag, is_online, is_order_for, is_ordered, is_up, is_up_in}
+use Rattle.sequencer.specs.Standing.{is_group_online, is_group_up, has_flag, is_online, is_ordered, is_up, is_up_in}
 use Rattle.sequencer.specs.Starting.{are_suited, has_groups, has_room, is_avoided, is_listed, is_supported, is_there, is_up_elsewhere, is_wanted, may_begin, may_begin_in, others_up, waits}
 use Rattle.sequencer.specs.Stopping.{has_start, is_awaited, is_group_elsewhere, is_held, is_holding, is_online_elsewhere, is_start, starts_dependent}
 use Rattle.sequencer.specs.Stopping as view
-use Rattle.sequencer_laws.specs.AllowedCall.{IsAllowedCall, MayBegin, MayBeginIn, MayCall, MayStop, brings, brought, is_close_by, is_in_the_way, is_met, keeps_away, needs, others, rests_on, stays_with}
+use Rattle.sequencer_laws.specs.AllowedCall.{MayBegin, MayBeginIn, MayCall, MayStop, is_met, needs, others, rests_on}
 use Rattle.sequencer_laws.specs.Flags.{FlagMap, Flags, after_success, has_any}
-use Rattle.sequencer_laws.specs.Laws.{GoalsAreManaged, IsIdle, situation}
-use Rattle.sequencer_laws.specs.Orders.{AreApart, OrdersAreSafe, StaySafeWhere, order_for}
-use Rattle.sequencer_laws.specs.Situations.{Situation, has_online, has_up, holds_up, reaches, runs_if_enabled, scope_on, some_in_scope, some_member}
-use Rattle.sequencer_laws.specs.Views.{MayStandFor, after_order, flags_of, seen}
+use Rattle.sequencer_laws.specs.Laws.{situation}
+use Rattle.sequencer_laws.specs.Orders.{AreApart}
+use Rattle.sequencer_laws.specs.Situations.{Situation, has_online, has_up, holds_up, reaches, runs_if_enabled, scope_on, some_member}
+use Rattle.sequencer_laws.specs.Views.{MayStandFor, flags_of, seen}
 use Rattle.sequencer_laws.proofs.Counts.{all_among, all_or, any_member, any_or, each_found, each_named, no_more, none_among, none_named, passes_named, some_named, within_most}
 use Rattle.sequencer_laws.proofs.Lists.{any_among, are_members, count_among, five, four, seven, six, three}
 use Rattle.sequencer_laws.proofs.Maps.{flagged_is_up, group_online, group_up, online_runs, same_reach}

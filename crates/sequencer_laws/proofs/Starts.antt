@@ -1,6 +1,6 @@
 -- What a start needs under a view is what it needs over each map that the view may stand for.
-use Rattle.std.proofs.Common.{◌≡◌, ℕ, ◌==◌, ◌<◌, ◌≤◌, nat_lt, ◌⊎◌, inl, inr, Bool, true, false, cond, not, ◌&&◌, ◌||◌, List, [], ◌∷◌, ◌++◌, Option, None, Some, length, refl, sym, ap, subst, ◌∙◌, arith}
-use Rattle.std.specs.List.{filter, list_all, list_any}
+use Rattle.std.proofs.Common.{◌≡◌, ℕ, ◌==◌, ◌<◌, nat_lt, Bool, true, false, not, ◌&&◌, ◌||◌, List, ◌++◌, Option, None, Some, refl, sym, subst, ◌∙◌, arith}
+use Rattle.std.specs.List.{list_all, list_any}
 use Rattle.std.proofs.lemmas.Bool.{and_from, and_parts, false_from_ne_true, ltb-true, not-true}
 use Rattle.std.proofs.lemmas.List.Folds.{list_all-append}
 use Rattle.cl_base.specs.Limits.{most_nodes}
@@ -9,7 +9,6 @@ use Rattle.cl_base.specs.Sets.{has}
 use Rattle.load_limits.specs.declared.limits.Limit.{Limit}
 use Rattle.rg_props.specs.declared.affinity.Affinity.{Affinity}
 use Rattle.rg_props.specs.declared.affinity.Affinity.TheVariants.{PlusPlus, Plus, Minus, MinusMinus, PlusPlusPlus}
-use Rattle.rg_props.specs.declared.affinity.Affine.{Affine}
 use Rattle.rg_props.specs.declared.group.Group.{Group}
 use Rattle.rg_props.specs.declared.group.Resource.{Resource}
 use Rattle.rg_props.specs.Affinities.{declares, is_close, same_affinity}

@@ -1,5 +1,5 @@
 -- What STOP needs under a view is what it needs over each map that the view may stand for.
-use Rattle.std.proofs.Common.{◌≡◌, ℕ, ◌==◌, ◌⊎◌, inl, inr, Bool, true, false, not, ◌&&◌, ◌||◌, List, [], ◌∷◌, ◌++◌, refl, sym, ap, subst, ◌∙◌}
+use Rattle.std.proofs.Common.{◌≡◌, ℕ, ◌==◌, true, false, not, ◌&&◌, List, sym, ◌∙◌}
 use Rattle.std.specs.List.{list_any}
 use Rattle.std.specs.Str.{bytes_eq}
 use Rattle.std.proofs.lemmas.Bool.{and_from, and_parts, false_from_ne_true, not-true, not_from_false}
@@ -11,7 +11,6 @@ use Rattle.load_limits.specs.declared.limits.Limit.{Limit}
 use Rattle.rg_props.specs.declared.group.Group.{Group}
 use Rattle.rg_props.specs.declared.group.Resource.{Resource}
 use Rattle.rg_props.specs.Affinities.{declares_close}
-use Rattle.rg_props.specs.Settings.{has_name}
 use Rattle.rg_props.specs.Table.{GroupTable}
 use Rattle.rg_view.specs.declared.view.GroupView.{GroupView}
 use Rattle.rt_types.specs.Fields.{TypeFields}

@@ -47,7 +47,9 @@ is_in_the_way s n a = same_affinity a.affinity MinusMinus && has_up s a.group n
 abbrev pub keeps_away : Situation → List ℕ → ℕ → List ℕ × Group → Bool
 keeps_away s group n e = declares e.1.affinities group MinusMinus && has_up s e.0 n
 
--- PRENET_START and START of a resource r, of a group g, on node n.
+-- PRENET_START and START of a resource r, of a group g, on node n: the node is of the Nodelist, the group is managed and the resource enabled; the group is up on fewer
+-- than Maximum_primaries other members; each strong target is online in scope; each group that it depends on is online on some member; each target of `++` and `+++` is online
+-- on the node, no target of `--` is up there, and no group that declares `--` to it; and the load with the other groups that are up there is within each hard limit.
 pub record MayBegin (s : Situation) (n : ℕ) (r : Resource) (g : Group) : Type 0 where
   pub listed : list_any (λ m. m == n) g.nodelist ≡ true
   pub managed : g.managed ≡ true
@@ -69,23 +71,24 @@ MayBeginIn s n r (Some g) = MayBegin s n r g
 abbrev pub stays_with : Situation → List ℕ → ℕ → List ℕ × Group → Bool
 stays_with s group n e = declares_close e.1.affinities group && has_up s e.0 n
 
--- a resource that needs the one of this name has a flag in scope of node n, while that one is online on no other node in scope
+-- the resource depends strongly on the one of this name
 abbrev pub needs : Resource → List ℕ → Bool
 needs r name = has_name name (r.strong ++ r.offline_restart)
 
+-- a resource that needs the one of this name has a flag in scope of node n, while that one is online on no other node in scope
 abbrev pub rests_on : Situation → List ℕ → ℕ → List ℕ × Resource → Bool
 rests_on s name n e =
     needs e.1 name && some_in_scope s e.1 name n (λ m. has_any (s.flags e.0 m))
     && not (some_in_scope s e.1 name n (λ m. not (m == n) && (s.flags name m).run))
 
--- STOP of a resource r of this name on node n.
+-- STOP of a resource r of this name on node n: it runs without a monitor, no group that is always where its own is is up there, and nothing rests on it.
 pub record MayStop (s : Situation) (n : ℕ) (name : List ℕ) (r : Resource) : Type 0 where
   pub runs : (s.flags name n).run ≡ true
   pub unmonitored : (s.flags name n).mon ≡ false
   pub alone : list_any (stays_with s r.group n) s.table.groups ≡ false
   pub free : list_any (rests_on s name n) s.table.resources ≡ false
 
--- Each method. Those that are not called on nodes so are never allowed.
+-- Each method. Those that no order is for are never allowed.
 abbrev pub MayCall : Situation → ℕ → List ℕ → Resource → Method → Type 0
 MayCall s n name r PrenetStart = MayBeginIn s n r (named s.table.groups r.group)
 MayCall s n name r Start = MayBeginIn s n r (named s.table.groups r.group) × (has_its s.types r PrenetStart ≡ true → (s.flags name n).pre ≡ true)

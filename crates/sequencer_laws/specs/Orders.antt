@@ -15,7 +15,7 @@ use Rattle.sequencer.specs.Allowed.{is_allowed}
 use Rattle.sequencer.specs.Outlooks.{outlook_of}
 use Rattle.sequencer_laws.specs.AllowedCall.{IsAllowedCall}
 use Rattle.sequencer_laws.specs.Flags.{FlagMap}
-use Rattle.sequencer_laws.specs.Laws.{GoalsAreManaged, IsIdle, situation}
+use Rattle.sequencer_laws.specs.Laws.{situation}
 use Rattle.sequencer_laws.specs.Views.{MayStandFor, seen, then_seen}
 
 -- Each outstanding order of a member is an allowed call over each map that the view may stand for and in which it has not succeeded yet.
@@ -48,3 +48,12 @@ pub record IsDone (t : GroupTable) (types : List (List ℕ × TypeFields)) (v : 
 abbrev pub DoneIsSafe : Type 0
 DoneIsSafe = (t : GroupTable) (types : List (List ℕ × TypeFields)) (limits : List Limit) (v w : GroupView) (n : ℕ) → IsDone t types v n w → OrdersAreSafe t types limits v
     → OrdersAreSafe t types limits w
+
+-- an order with this number that calls no method: it clears marks
+abbrev pub clear_for : ℕ → ℕ → List ℕ → Outstanding
+clear_for n number name = record { node = n; number = number; resource = name; method = None }
+
+-- Where marks are to be cleared on a node, the orders of other nodes stay safe.
+abbrev pub ClearIsSafe : Type 0
+ClearIsSafe = (t : GroupTable) (types : List (List ℕ × TypeFields)) (limits : List Limit) (v : GroupView) (n number : ℕ) (name : List ℕ) (orders : List (Option Outstanding))
+    → OrdersAreSafe t types limits v → OrdersAfter v.outstanding n (Some (clear_for n number name)) orders → OrdersAreSafe t types limits (record v { outstanding = orders })

@@ -2,7 +2,7 @@
 //! law.
 ghost use Rattle.std.specs.Prelude.{◌<◌, ◌^◌};
 ghost use Rattle.sequencer_laws.specs.Laws.{AreSafeWhere, GoalsAreManaged, IsIdle};
-ghost use Rattle.sequencer_laws.specs.Orders.{AreApart, DoneIsSafe, OrdersAreSafe, StaySafeWhere};
+ghost use Rattle.sequencer_laws.specs.Orders.{AreApart, ClearIsSafe, DoneIsSafe, OrdersAreSafe, StaySafeWhere};
 ghost use Rattle.sequencer_laws.specs.Views.{MayStandFor};
 
 /// A call that is allowed under a view, on a node without an outstanding order, meets the rule of
@@ -14,8 +14,10 @@ pub fn allowed_calls_are_safe()
 
 /// Outstanding orders stay safe: each is of a call that meets the rule over each map of flags that
 /// the view may stand for, as long as it is not carried out. So it is once an allowed call is
-/// ordered, and once an order is done. The members are nodes, and no two resources have one name.
+/// ordered, once an order is done, and where marks are to be cleared. In the first case the members
+/// are nodes, and no two resources have one name.
 pub fn orders_stay_safe()
     ensures ordered { StaySafeWhere (λ t types limits v n. IsIdle v n × GoalsAreManaged t v × (v.members < 2 ^ 32) × AreApart t × OrdersAreSafe t types limits v) }
     ensures done { DoneIsSafe }
+    ensures clear { ClearIsSafe }
 {}
