@@ -1,6 +1,10 @@
-//! Tests of orders and of places.
+//! Tests of orders, of places and of calls.
 #![tactic(auto)]
 
+#[cfg(test)]
+mod calls;
+#[cfg(test)]
+mod known;
 #[cfg(test)]
 mod orders;
 #[cfg(test)]

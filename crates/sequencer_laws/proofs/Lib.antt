@@ -1,0 +1,11 @@
+pub mod Lists
+pub mod Maps
+pub mod Loads
+pub mod Starts
+pub mod Stops
+pub mod Calls
+pub mod Counts
+pub mod Orders
+pub mod Ordered
+pub mod Done
+pub mod Cleared
