@@ -20,6 +20,8 @@ mod worker;
 pub use carried::Carried;
 pub use laws::{flags_change_by_success, orders_call_once, restarts_are_few};
 pub use memory::NoMemory;
+pub use outcomes::{is_start_failure, marks_after};
 pub use past::Past;
 pub use probed::Probed;
+pub use settings::charged;
 pub use worker::Worker;

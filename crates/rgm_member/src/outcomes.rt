@@ -7,9 +7,10 @@ use ccr_tables::Config;
 use cl_base::{FailoverMode, Method, Name, Outcome};
 use wire::Marks;
 
-/// The resource's flags and marks after the method ended so.
+/// The resource's flags and marks after the method ended so: those that the node keeps, and that the
+/// president knows once it is told.
 pub fn marks_after(c: &Config, r: &Name, method: Method, outcome: Outcome, m: Marks) -> Marks
-    ensures { result ≡ marks_after c.now r.now method outcome m }
+    ensures value { result ≡ marks_after c.now r.now method outcome m }
 {
     if is_success(outcome) {
         after_success(has_postnet_stop(c, r), method, m)
@@ -18,9 +19,10 @@ pub fn marks_after(c: &Config, r: &Name, method: Method, outcome: Outcome, m: Ma
     }
 }
 
-/// Whether this is a start failure of the resource's group.
+/// Whether this is a start failure of the resource's group: PRENET_START or START that did not
+/// succeed, under SOFT or HARD, in a group that is not suspended.
 pub fn is_start_failure(c: &Config, r: &Name, method: Method, outcome: Outcome) -> bool
-    ensures { result ≡ is_start_failure c.now r.now method outcome }
+    ensures value { result ≡ is_start_failure c.now r.now method outcome }
 {
     !is_success(outcome) && starts(method) && takes_away(mode_of(c, r)) && !is_suspended(c, r)
 }

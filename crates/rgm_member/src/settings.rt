@@ -65,9 +65,10 @@ fn suspends(group: Option<&Group>) -> bool
     }
 }
 
-/// The group that its start failures and moves are charged to.
+/// The group that the resource's start failures and moves are charged to: the one that its group
+/// declares `+++` to, or else its own.
 pub fn charged(c: &Config, r: &Name) -> Option<Name>
-    ensures { result ≡ charged c.now r.now }
+    ensures value { result ≡ charged c.now r.now }
 {
     match c.groups().resource(r) {
         Some(resource) => Some(charged_by(resource.group, c.groups().group(&resource.group))),

@@ -1,0 +1,6 @@
+pub mod State
+pub mod Acts
+pub mod Sequence
+pub mod Goals
+pub mod Decisions
+pub mod Status
