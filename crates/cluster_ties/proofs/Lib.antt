@@ -1,0 +1,13 @@
+pub mod First
+pub mod Moves
+pub mod Frames
+pub mod Tasks
+pub mod Commands
+pub mod Sessions
+pub mod Asks
+pub mod Calls
+pub mod Seizes
+pub mod Marks
+pub mod Installs
+pub mod Writes
+pub mod Counts

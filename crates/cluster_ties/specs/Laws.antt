@@ -1,0 +1,131 @@
+-- The laws of this crate, each as a statement.
+use Rattle.std.specs.Prelude.{ℕ, ◌≡◌, ◌≢◌, ◌<◌, All, true, false, List, [], ◌∷◌, Some}
+use Rattle.cl_base.specs.Sets.{has}
+use Rattle.cluster_machine.specs.Cluster.{Cluster as Whole}
+use Rattle.device_queue.specs.declared.progress.Progress.{Progress}
+use Rattle.device_queue.specs.declared.progress.Progress.TheVariants as progress
+use Rattle.device_queue.specs.Queue.{begins_plainly, due_device, next_of, progress_after}
+use Rattle.device_ties.specs.Commands.{Completion, executed, learned}
+use Rattle.device_machine.specs.Sharing.{Sharing}
+use Rattle.device_ties.specs.Tasks.{is_member}
+use Rattle.machine_base.specs.Put.{put}
+use Rattle.attempt_laws.specs.Asking.{IsToldAt}
+use Rattle.attempt_laws.specs.Machine.{MachineHas}
+use Rattle.cmm_attempt.specs.Attempts.{AttemptState}
+use Rattle.attempt_laws.specs.Laws.{is_held_in}
+use Rattle.cmm_attempt.specs.Calls as calls
+use Rattle.cmm_attempt.specs.Calls.{Call, IsReached as IsReachedAttempt, May as MayCall, installs_in, turn}
+use Rattle.machine_base.specs.Epochs.{coordinator}
+use Rattle.cmm_member.specs.Nodes.{NodeState}
+use Rattle.cmm_member.specs.Records.{NodeRecord}
+use Rattle.membership_machine.specs.Events as membership
+use Rattle.membership_machine.specs.Votes.{Setting}
+use Rattle.node_model.specs.declared.cluster.Cluster.{Cluster}
+use Rattle.node_model.specs.declared.node.Node.{Node}
+use Rattle.node_model.specs.declared.node.Node.TheVariants.{Down, Up}
+use Rattle.node_model.specs.declared.node.UpNode.{UpNode}
+use Rattle.node_model.specs.Devices.{joining_so}
+use Rattle.node_model.specs.declared.seat.Seat.TheVariants.{Forming}
+use Rattle.node_model.specs.Attempts.{installing, votes_in}
+use Rattle.node_model.specs.Members.{promised_so}
+use Rattle.node_model.specs.Seats.{record_of, state_of}
+use Rattle.pgr_device.specs.declared.command.PrCommand.{PrCommand}
+use Rattle.pgr_device.specs.declared.command.PrCommand.TheVariants as command
+use Rattle.refinement.specs.Doings.{accepting, answered_so, going}
+use Rattle.refinement.specs.Ties.{setting_of}
+use Rattle.seize.specs.Answers.{Answer}
+use Rattle.seize.specs.Shows.{is_vote}
+use Rattle.seize.specs.declared.kind.SeizeKind.{SeizeKind}
+use Rattle.seize.specs.declared.kind.JoinResult.TheVariants as join
+use Rattle.wire.specs.declared.lists.Reading.{Reading}
+use Rattle.wire.specs.declared.message.Install.{Install}
+use Rattle.wire.specs.Spelling.{IsDevice, IsDevices, IsNode}
+use Rattle.cluster_ties.specs.Moves.{CallGoes, DeviceGoes, IsReached, MembershipGoes}
+use Rattle.cluster_ties.specs.Ties.{AttemptAt, Devices, DevicesTied, NodeAt, UpAt}
+
+-- the node with the answer to its command taken: where a joining has come to its end by it, it has joined the device
+abbrev pub taken_by : UpNode → Answer → Progress → UpNode
+taken_by x a (progress.Joined d join.Joined) = joining_so (answered_so x a) d
+taken_by x a _ = answered_so x a
+
+-- where a seizing is about to register, the record calls the key not validated
+abbrev pub IsReadied : UpNode → Type 0
+IsReadied x = (d : ℕ) → begins_plainly x.tasks ≡ Some d → has (record_of x).valid d ≡ false
+
+-- what is on the disk is what a node keeps
+abbrev pub IsKept : NodeRecord → Node → Type 0
+IsKept disk Down = Unit {0}
+IsKept disk (Up x) = disk ≡ record_of x
+
+-- The command that is due at a node is carried out, answered, or fails, done or not done; the node takes what it learns: this is steps of
+-- the whole, at that device alone.
+abbrev pub CommandsGo : Type 0
+CommandsGo = (S : Setting) (c : Cluster) (W : Whole) (n : ℕ) (x : UpNode) (devices : Devices) (f : Completion) (d : ℕ) (k : PrCommand) → IsReached S W → IsNode n → IsDevice d
+    → DevicesTied c devices W → UpAt c W n x → IsReadied x → due_device x.tasks ≡ Some d → next_of x.tasks ≡ Some k
+    → DeviceGoes S c W n (put devices d (executed f (devices d) n k)) (taken_by x (learned f (devices d) n k) (progress_after x.tasks (learned f (devices d) n k)))
+
+-- A node that promises is in the session of what it promises: what it had joined is past, and so are its tasks and its attempt.
+abbrev pub PromisesGo : Type 0
+PromisesGo = (S : Setting) (c : Cluster) (W : Whole) (n q : ℕ) (x : UpNode) (devices : Devices) → IsReached S W → DevicesTied c devices W → UpAt c W n x
+    → membership.Allowed S W.memberships (membership.Promise n q)
+    → MembershipGoes S c W n (membership.Promise n q) devices (record_of (promised_so x q)) (Up (promised_so x q))
+
+-- One that goes down keeps what its record says.
+abbrev pub CrashesGo : Type 0
+CrashesGo = (S : Setting) (c : Cluster) (W : Whole) (n : ℕ) (disk : NodeRecord) (node : Node) (devices : Devices) → IsReached S W → DevicesTied c devices W → NodeAt c W n disk node
+    → IsKept disk node → MembershipGoes S c W n (membership.Crash n) devices disk Down
+
+-- A call on an attempt, which tells what is so at each device, is steps of the whole: all have promised, or nodes are asked.
+abbrev pub CallsGo : Type 0
+CallsGo = (S : Setting) (W : Whole) (n : ℕ) (a : AttemptState) (k : Call) → IsReached S W → IsReachedAttempt a → MayCall a k → coordinator a.plan.epoch ≡ n
+    → MachineHas W.memberships a → MachineHas W.memberships (turn a k).after → AttemptAt W (Some a) → ((d : ℕ) → IsToldAt (W.device d) a d k) → CallGoes S W n (turn a k)
+
+-- A node that is asked to seize a device in its session, which it has not installed, begins to, unless it did already.
+pub record IsAskedTo (s : Sharing) (epoch members n : ℕ) (kind : SeizeKind) : Type 0 where
+  pub collected : (s.attempt epoch).collected ≡ true
+  pub asked : (s.attempt epoch).asked n ≡ true
+  pub as_kind : (s.attempt epoch).quorum ≡ is_vote kind
+  pub of_members : (m : ℕ) → (s.attempt epoch).members m ≡ is_member members m
+
+abbrev pub SeizesGo : Type 0
+SeizesGo = (S : Setting) (c : Cluster) (W : Whole) (n : ℕ) (x : UpNode) (devices : Devices) (kind : SeizeKind) (epoch members d : ℕ) → IsReached S W → DevicesTied c devices W → UpAt c W n x
+    → IsAskedTo (W.device d) epoch members n kind → is_member members n ≡ true → 0 < epoch → (W.memberships.node n).session ≡ epoch → (W.memberships.node n).saved.installed < epoch
+    → DeviceGoes S c W n devices (accepting c n x kind epoch members d)
+
+-- What an Install tells of devices: its readings are of devices that the attempt holds, each by the node that seized it, and no two are of one.
+pub record IsRead (W : Whole) (q : ℕ) (r : Reading) : Type 0 where
+  pub holds : ((W.device r.device).attempt q).holds ≡ true
+  pub seizer : ((W.device r.device).attempt q).seizer ≡ r.seizer
+  pub device : IsDevice r.device
+
+abbrev pub LacksDevice : ℕ → List Reading → Type 0
+LacksDevice d [] = Unit {0}
+LacksDevice d (r ∷ readings) = (r.device ≢ d) × LacksDevice d readings
+
+abbrev pub AreRead : Whole → ℕ → List Reading → Type 0
+AreRead W q [] = Unit {0}
+AreRead W q (r ∷ readings) = IsRead W q r × LacksDevice r.device readings × AreRead W q readings
+
+-- A member that installs joins each device that was read, at once or by registering anew.
+abbrev pub InstallsGo : Type 0
+InstallsGo = (S : Setting) (c : Cluster) (W : Whole) (n : ℕ) (x : UpNode) (s : NodeState) (i : Install) (devices : Devices) → IsReached S W → DevicesTied c devices W → UpAt c W n x
+    → x.seat ≡ Forming s → s.me ≡ n → IsDevices s.saved.valid → membership.Allowed S W.memberships (membership.Install n i.epoch) → AreRead W i.epoch i.readings
+    → MembershipGoes S c W n (membership.Install n i.epoch) devices (record_of (installing c n x s x.tasks i)) (Up (installing c n x s x.tasks i))
+
+-- A member's write to a device that it has joined is taken, answered or not, or changes nothing.
+abbrev pub WritesGo : Type 0
+WritesGo = (S : Setting) (c : Cluster) (W : Whole) (n : ℕ) (x : UpNode) (devices : Devices) (f : Completion) (d value : ℕ) → IsReached S W → DevicesTied c devices W → UpAt c W n x
+    → (W.memberships.node n).member ≡ true → has (state_of x.seat).joined d ≡ true → DeviceGoes S c W n (put devices d (executed f (devices d) n (command.Write value))) x
+
+-- its votes are counted
+abbrev pub count_of : AttemptState → membership.Event
+count_of t = membership.Count t.plan.epoch t.newest (is_held_in t.devices)
+
+-- The coordinator's attempt takes a call, by which it has its majority: nodes may be asked, the votes are counted at each device, and it installs itself.
+abbrev pub CountsGo : Type 0
+CountsGo = (c : Cluster) (W : Whole) (n : ℕ) (x : UpNode) (s : NodeState) (a : AttemptState) (k : Call) (i : Install) (devices : Devices) → IsReached (setting_of c) W → DevicesTied c devices W → UpAt c W n x
+    → x.seat ≡ Forming s → x.attempt ≡ Some a → s.me ≡ n → IsDevices s.saved.valid → IsReachedAttempt a → MayCall a k → coordinator a.plan.epoch ≡ n
+    → MachineHas W.memberships a → MachineHas W.memberships (turn a k).after → ((d : ℕ) → IsToldAt (W.device d) a d k)
+    → installs_in (turn a k).steps ≡ Some i → (turn a k).after.votes ≡ Some (votes_in c) → All calls.IsDevice a.plan.attached
+    → membership.Allowed (setting_of c) W.memberships (count_of (turn a k).after)
+    → MembershipGoes (setting_of c) c W n (count_of (turn a k).after) devices (record_of (installing c n (going x a k) s [] i)) (Up (installing c n (going x a k) s [] i))

@@ -1,0 +1,47 @@
+//! What nodes do at devices, in the abstract machine of the whole cluster.
+//!
+//! `specs/Ties` says when a node with its tasks, its marks and its attempt is the machine's at each device; the laws say that what
+//! it does there is steps of the machine, after which it is so again.
+//!
+//! Each function here is a law. It has no body, and its contract is proved of every node, every device and every state of the machine.
+#![tactic(auto)]
+
+ghost use Rattle.cluster_ties.specs.Laws.{CallsGo, CommandsGo, CountsGo, CrashesGo, InstallsGo, PromisesGo, SeizesGo, WritesGo};
+
+/// The command that is due at a node, answered or failed, done or not done, is steps of the whole cluster.
+pub fn commands_go()
+    ensures { CommandsGo }
+{}
+
+/// A node that promises, or goes down, is so in the machine: its tasks and what it had joined are past, at each device.
+pub fn sessions_go()
+    ensures promises { PromisesGo }
+    ensures crashes { CrashesGo }
+{}
+
+/// A call on an attempt is steps of the whole: with every Promise in hand it goes on to seize, or it asks nodes. The machine of each
+/// device has the attempt after it, with all that the steps of the call ask for.
+pub fn calls_go()
+    ensures { CallsGo }
+{}
+
+/// A node that is asked to seize a device begins to, where it has no seizing of the device yet.
+pub fn seizes_go()
+    ensures { SeizesGo }
+{}
+
+/// A member that installs joins each device that was read: at once where it seized the device or its key was seen there and validated,
+/// and by registering anew else.
+pub fn installs_go()
+    ensures { InstallsGo }
+{}
+
+/// A member's write to a device that it has joined is the machine's write, or changes nothing.
+pub fn writes_go()
+    ensures { WritesGo }
+{}
+
+/// An attempt that has its majority is counted at each device, held there or not, and its coordinator installs it.
+pub fn counts_go()
+    ensures { CountsGo }
+{}
