@@ -48,7 +48,7 @@ use Rattle.refinement.proofs.Attempts.{reached_more}
 
 -- What the events of a call are at one device, by what the machine has of the attempt before and after them.
 
-true_false : (b : Bool) → b ≡ true → b ≡ false → ⊥
+pub true_false : (b : Bool) → b ≡ true → b ≡ false → ⊥
 true_false b h k = cc
 
 grown : (s : Sharing) (events : List sharing.Event) (q : ℕ) → Inv s → MayCome s events → (s.attempt q).collected ≡ true → ((all_after s events).attempt q).collected ≡ true

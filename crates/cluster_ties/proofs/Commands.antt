@@ -79,7 +79,7 @@ joining_under_way cluster n s j join.Register k due h = h
 joining_under_way cluster n s j join.ReadWord k due h = h
 
 -- .. and back
-seizing_at : (cluster n : ℕ) (s : Sharing) (t : SeizeState) (step : SeizeStep) → t.step ≡ step → SeizingTied cluster n s t → (s.node n).installed < (s.node n).session → SeizingAt cluster n s t step
+pub seizing_at : (cluster n : ℕ) (s : Sharing) (t : SeizeState) (step : SeizeStep) → t.step ≡ step → SeizingTied cluster n s t → (s.node n).installed < (s.node n).session → SeizingAt cluster n s t step
 seizing_at cluster n s t (seize.Ended r) is h low = (results_true cluster n s t r h (ap seizing.result_at is), h.session)
 seizing_at cluster n s t seize.Check is h low = (h, low)
 seizing_at cluster n s t seize.Register is h low = (h, low)
@@ -130,7 +130,7 @@ pub has_same : (set d e : ℕ) → 1 ≤ d → d ≤ 32 → e ≢ d → has (set
 has_same set d e low high ne = has_more set d e low high ∙ ap (λ b. b || has set e) (number_test e d ne)
 
 -- Of a node with its state changed.
-state_with : (seat : Seat) (s : NodeState) → state_of (with_state seat s) ≡ s
+pub state_with : (seat : Seat) (s : NodeState) → state_of (with_state seat s) ≡ s
 state_with (Forming t) s = refl
 state_with (Member t) s = refl
 

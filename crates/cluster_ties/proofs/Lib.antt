@@ -11,3 +11,6 @@ pub mod Marks
 pub mod Installs
 pub mod Writes
 pub mod Counts
+pub mod Safe
+pub mod Distrusts
+pub mod Begins

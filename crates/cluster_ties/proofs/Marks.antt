@@ -43,10 +43,10 @@ itself a = grind arith
 has_less : (set d e : ℕ) → IsDevices set → IsDevice d → has (set_without set d) e ≡ (not (e == d) && has set e)
 has_less set d e small is = ap (λ s. has s e) (sym (and_bit_value set d (few d is.1))) ∙ has_without set d is.0 (few d is.1) (wide set small) e
 
-less_here : (set d : ℕ) → IsDevices set → IsDevice d → has (set_without set d) d ≡ false
+pub less_here : (set d : ℕ) → IsDevices set → IsDevice d → has (set_without set d) d ≡ false
 less_here set d small is = has_less set d d small is ∙ ap (λ b. not b && has set d) (itself d)
 
-less_there : (set d e : ℕ) → IsDevices set → IsDevice d → e ≢ d → has (set_without set d) e ≡ has set e
+pub less_there : (set d e : ℕ) → IsDevices set → IsDevice d → e ≢ d → has (set_without set d) e ≡ has set e
 less_there set d e small is ne = has_less set d e small is ∙ ap (λ b. not b && has set e) (differ e d ne)
 
 -- One reading.

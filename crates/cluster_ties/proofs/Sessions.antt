@@ -27,7 +27,7 @@ use Rattle.cluster_ties.specs.Moves.{Moves}
 use Rattle.cluster_ties.proofs.First.{in_order}
 use Rattle.machine_base.specs.Put.{put}
 
-abbrev nowhere_joined : ℕ → Joining
+abbrev pub nowhere_joined : ℕ → Joining
 nowhere_joined d = Apart
 
 -- The machine of one device, after the promise, and after the crash.

@@ -157,6 +157,20 @@ taken_tasks c W V n a (first ∷ tasks) t found g once new h = by_test (is_queue
         (subst (λ (z : Task). WorkAt c.id n (V.device z.device) (work_answered a z.work)) (sym same) new, rest_stays c W V n t.device tasks g none h.1)
     by_test false is f rest = (one_stays c W V n t.device first g (inr is) h.0, rest f)
 
+-- .. or stays what it is
+pub due_tasks : (c : Cluster) (W V : Whole) (n : ℕ) (tasks : List Task) (t : Task) → find is_queued tasks ≡ Some t → Changed W V n t.device → QueuedOnce tasks
+    → WorkAt c.id n (V.device t.device) t.work → AllByRecursion (TaskAt c W n) tasks → AllByRecursion (TaskAt c V n) tasks
+due_tasks c W V n [] t found g once new h = absurd (none_some t found)
+due_tasks c W V n (first ∷ tasks) t found g once new h = by_test (is_queued first) refl found (λ f. due_tasks c W V n tasks t f g once.1 new h.1)
+  where
+    by_test : (b : Bool) → is_queued first ≡ b → (if b then Some first else find is_queued tasks) ≡ Some t
+        → (find is_queued tasks ≡ Some t → AllByRecursion (TaskAt c V n) tasks) → TaskAt c V n first × AllByRecursion (TaskAt c V n) tasks
+    by_test true is f rest =
+        let same : first ≡ t = same_some first t f in
+        let none : has_task t.device tasks ≡ false = subst (λ (z : Task). has_task z.device tasks ≡ false) same (once.0 is) in
+        (subst (λ (z : Task). WorkAt c.id n (V.device z.device) z.work) (sym same) new, rest_stays c W V n t.device tasks g none h.1)
+    by_test false is f rest = (one_stays c W V n t.device first g (inr is) h.0, rest f)
+
 pub taken_once : (a : Answer) (tasks : List Task) → QueuedOnce tasks → QueuedOnce (after_answer tasks a)
 taken_once a [] h = tt
 taken_once a (t ∷ tasks) h = by_test (is_queued t) refl (taken_once a tasks h.1)

@@ -1,17 +1,18 @@
 -- The laws of this crate, each as a statement.
-use Rattle.std.specs.Prelude.{ℕ, ◌≡◌, ◌≢◌, ◌<◌, All, true, false, List, [], ◌∷◌, Some}
+use Rattle.std.specs.Prelude.{ℕ, ◌≡◌, ◌≢◌, ◌<◌, ◌≤◌, ◌%◌, All, true, false, List, [], ◌∷◌, Some}
 use Rattle.cl_base.specs.Sets.{has}
 use Rattle.cluster_machine.specs.Cluster.{Cluster as Whole}
+use Rattle.cluster_machine.specs.Parts.{WriteIsSafe}
 use Rattle.device_queue.specs.declared.progress.Progress.{Progress}
 use Rattle.device_queue.specs.declared.progress.Progress.TheVariants as progress
 use Rattle.device_queue.specs.Queue.{begins_plainly, due_device, next_of, progress_after}
 use Rattle.device_ties.specs.Commands.{Completion, executed, learned}
-use Rattle.device_machine.specs.Sharing.{Sharing}
+use Rattle.device_machine.specs.Sharing.{Sharing, Writes}
 use Rattle.device_ties.specs.Tasks.{is_member}
 use Rattle.machine_base.specs.Put.{put}
-use Rattle.attempt_laws.specs.Asking.{IsToldAt}
+use Rattle.attempt_laws.specs.Asking.{AreApart, IsToldAt, numbers_of}
 use Rattle.attempt_laws.specs.Machine.{MachineHas}
-use Rattle.cmm_attempt.specs.Attempts.{AttemptState}
+use Rattle.cmm_attempt.specs.Attempts.{AttemptState, beginning}
 use Rattle.attempt_laws.specs.Laws.{is_held_in}
 use Rattle.cmm_attempt.specs.Calls as calls
 use Rattle.cmm_attempt.specs.Calls.{Call, IsReached as IsReachedAttempt, May as MayCall, installs_in, turn}
@@ -19,19 +20,22 @@ use Rattle.machine_base.specs.Epochs.{coordinator}
 use Rattle.cmm_member.specs.Nodes.{NodeState}
 use Rattle.cmm_member.specs.Records.{NodeRecord}
 use Rattle.membership_machine.specs.Events as membership
+use Rattle.membership_machine.specs.Starts.{Alike, DevicesMeet, Follows, last_start}
 use Rattle.membership_machine.specs.Votes.{Setting}
 use Rattle.node_model.specs.declared.cluster.Cluster.{Cluster}
 use Rattle.node_model.specs.declared.node.Node.{Node}
 use Rattle.node_model.specs.declared.node.Node.TheVariants.{Down, Up}
 use Rattle.node_model.specs.declared.node.UpNode.{UpNode}
-use Rattle.node_model.specs.Devices.{joining_so}
+use Rattle.node_model.specs.Devices.{distrusting, joining_so}
 use Rattle.node_model.specs.declared.seat.Seat.TheVariants.{Forming}
-use Rattle.node_model.specs.Attempts.{installing, votes_in}
+use Rattle.node_model.specs.Attempts.{installing, own_promise, votes_in}
 use Rattle.node_model.specs.Members.{promised_so}
-use Rattle.node_model.specs.Seats.{record_of, state_of}
+use Rattle.node_model.specs.Seats.{promising, record_of, state_of}
+use Rattle.pgr_device.specs.declared.command.PrAnswer.TheVariants as given
 use Rattle.pgr_device.specs.declared.command.PrCommand.{PrCommand}
 use Rattle.pgr_device.specs.declared.command.PrCommand.TheVariants as command
-use Rattle.refinement.specs.Doings.{accepting, answered_so, going}
+use Rattle.pgr_device.specs.Spc as spc
+use Rattle.refinement.specs.Doings.{accepting, answered_so, begun_by, going}
 use Rattle.refinement.specs.Ties.{setting_of}
 use Rattle.seize.specs.Answers.{Answer}
 use Rattle.seize.specs.Shows.{is_vote}
@@ -74,6 +78,10 @@ PromisesGo = (S : Setting) (c : Cluster) (W : Whole) (n q : ℕ) (x : UpNode) (d
 abbrev pub CrashesGo : Type 0
 CrashesGo = (S : Setting) (c : Cluster) (W : Whole) (n : ℕ) (disk : NodeRecord) (node : Node) (devices : Devices) → IsReached S W → DevicesTied c devices W → NodeAt c W n disk node
     → IsKept disk node → MembershipGoes S c W n (membership.Crash n) devices disk Down
+
+-- the node with a number of its own promised
+abbrev pub leading_so : UpNode → ℕ → UpNode
+leading_so x p = record (promising x p) { greatest = p }
 
 -- A call on an attempt, which tells what is so at each device, is steps of the whole: all have promised, or nodes are asked.
 abbrev pub CallsGo : Type 0
@@ -129,3 +137,34 @@ CountsGo = (c : Cluster) (W : Whole) (n : ℕ) (x : UpNode) (s : NodeState) (a :
     → installs_in (turn a k).steps ≡ Some i → (turn a k).after.votes ≡ Some (votes_in c) → All calls.IsDevice a.plan.attached
     → membership.Allowed (setting_of c) W.memberships (count_of (turn a k).after)
     → MembershipGoes (setting_of c) c W n (count_of (turn a k).after) devices (record_of (installing c n (going x a k) s [] i)) (Up (installing c n (going x a k) s [] i))
+
+-- A node begins an attempt of its own: it promises its number, and where it is alone all have promised.
+abbrev pub BeginsGo : Type 0
+BeginsGo = (S : Setting) (c : Cluster) (W : Whole) (n p members : ℕ) (x : UpNode) (devices : Devices) → IsReached S W → DevicesTied c devices W → UpAt c W n x → p % 64 ≡ n
+    → All calls.IsDevice c.attached → AreApart (numbers_of c.attached) → membership.Allowed S W.memberships (membership.Begin p (is_member members))
+    → MachineHas (membership.after W.memberships (membership.Begin p (is_member members))) (beginning p members (own_promise n (leading_so x p) p) c.attached c.id).after
+    → MembershipGoes S c W n (membership.Begin p (is_member members)) devices (record_of (begun_by c n (leading_so x p) p members)) (Up (begun_by c n (leading_so x p) p members))
+
+-- Before a plain seizing registers the node's key, its record says that the key there is not validated: this is a step of the task.
+abbrev pub DistrustsGo : Type 0
+DistrustsGo = (S : Setting) (c : Cluster) (W : Whole) (n d : ℕ) (x : UpNode) (devices : Devices) → IsReached S W → IsDevice d → IsDevices (record_of x).valid → DevicesTied c devices W → UpAt c W n x
+    → begins_plainly x.tasks ≡ Some d → has (record_of x).valid d ≡ true → DeviceGoes S c W n devices (distrusting x d)
+
+-- What is so of each state that is reached: attempts meet at a device with votes that both held, Lineage, Kept, and that no attempt that counted with
+-- a device held is above the session of a node that joined the device and may write there.
+pub record IsSafe (S : Setting) (W : Whole) : Type 0 where
+  pub devices_meet : DevicesMeet S W.memberships
+  pub lineage : (q : ℕ) → (W.memberships.epoch q).counted ≡ true → Follows W.memberships q (last_start W.memberships q)
+  pub first_empty : (q : ℕ) → (W.memberships.epoch q).counted ≡ true → last_start W.memberships q ≡ 0 → (W.memberships.epoch q).base ≡ []
+  pub kept : (e q : ℕ) → (W.memberships.epoch e).started ≡ true → e < q → (W.memberships.epoch q).counted ≡ true
+      → Alike (W.memberships.epoch e).acked (W.memberships.epoch e).log (W.memberships.epoch q).base
+  pub none_above : (d n f : ℕ) → Writes (W.device d) n → (W.memberships.epoch f).counted ≡ true → (W.memberships.epoch f).holds d ≡ true → f ≤ (W.memberships.node n).session
+
+abbrev pub ReachedIsSafe : Type 0
+ReachedIsSafe = (S : Setting) (W : Whole) → IsReached S W → IsSafe S W
+
+-- The disk rule: where a device, as it is, takes a write of a member that has joined it, the member is of a membership that started and holds the
+-- device, and no greater attempt counted a majority with it held.
+abbrev pub WritesAreSafe : Type 0
+WritesAreSafe = (S : Setting) (c : Cluster) (W : Whole) (n d value : ℕ) (x : UpNode) (devices : Devices) → IsReached S W → DevicesTied c devices W → UpAt c W n x
+    → (W.memberships.node n).member ≡ true → has (state_of x.seat).joined d ≡ true → (spc.step (devices d) n (command.Write value)).answer ≡ given.Good → WriteIsSafe W d n

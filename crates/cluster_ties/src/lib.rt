@@ -6,17 +6,28 @@
 //! Each function here is a law. It has no body, and its contract is proved of every node, every device and every state of the machine.
 #![tactic(auto)]
 
-ghost use Rattle.cluster_ties.specs.Laws.{CallsGo, CommandsGo, CountsGo, CrashesGo, InstallsGo, PromisesGo, SeizesGo, WritesGo};
+ghost use Rattle.cluster_ties.specs.Laws.{BeginsGo, CallsGo, CommandsGo, CountsGo, CrashesGo, DistrustsGo, InstallsGo, PromisesGo, ReachedIsSafe, SeizesGo, WritesAreSafe, WritesGo};
 
 /// The command that is due at a node, answered or failed, done or not done, is steps of the whole cluster.
 pub fn commands_go()
     ensures { CommandsGo }
 {}
 
+/// Before a plain seizing registers the node's key, its record says that the key is not validated: that is a step of the task.
+pub fn distrusts_go()
+    ensures { DistrustsGo }
+{}
+
 /// A node that promises, or goes down, is so in the machine: its tasks and what it had joined are past, at each device.
 pub fn sessions_go()
     ensures promises { PromisesGo }
     ensures crashes { CrashesGo }
+{}
+
+/// A node that begins an attempt of its own has promised its number, at each device, and the machine of each has the attempt; where it is alone all have
+/// promised.
+pub fn begins_go()
+    ensures { BeginsGo }
 {}
 
 /// A call on an attempt is steps of the whole: with every Promise in hand it goes on to seize, or it asks nodes. The machine of each
@@ -44,4 +55,11 @@ pub fn writes_go()
 /// An attempt that has its majority is counted at each device, held there or not, and its coordinator installs it.
 pub fn counts_go()
     ensures { CountsGo }
+{}
+
+/// In each state that is reached attempts meet at devices, and Lineage and Kept hold; and a write of a member that a device takes, as it is, obeys the
+/// disk rule.
+pub fn reached_states_are_safe()
+    ensures reached { ReachedIsSafe }
+    ensures writes { WritesAreSafe }
 {}
