@@ -14,3 +14,4 @@ pub mod Counts
 pub mod Safe
 pub mod Distrusts
 pub mod Begins
+pub mod Others

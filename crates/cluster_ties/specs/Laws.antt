@@ -1,5 +1,5 @@
 -- The laws of this crate, each as a statement.
-use Rattle.std.specs.Prelude.{ℕ, ◌≡◌, ◌≢◌, ◌<◌, ◌≤◌, ◌%◌, All, true, false, List, [], ◌∷◌, Some}
+use Rattle.std.specs.Prelude.{ℕ, ◌≡◌, ◌≢◌, ◌<◌, ◌≤◌, ◌%◌, All, true, false, List, [], ◌∷◌, Option, None, Some}
 use Rattle.cl_base.specs.Sets.{has}
 use Rattle.cluster_machine.specs.Cluster.{Cluster as Whole}
 use Rattle.cluster_machine.specs.Parts.{WriteIsSafe}
@@ -7,7 +7,8 @@ use Rattle.device_queue.specs.declared.progress.Progress.{Progress}
 use Rattle.device_queue.specs.declared.progress.Progress.TheVariants as progress
 use Rattle.device_queue.specs.Queue.{begins_plainly, due_device, next_of, progress_after}
 use Rattle.device_ties.specs.Commands.{Completion, executed, learned}
-use Rattle.device_machine.specs.Sharing.{Sharing, Writes}
+use Rattle.device_machine.specs.Sharing as sharing
+use Rattle.device_machine.specs.Sharing.{Sharing}
 use Rattle.device_ties.specs.Tasks.{is_member}
 use Rattle.machine_base.specs.Put.{put}
 use Rattle.attempt_laws.specs.Asking.{AreApart, IsToldAt, numbers_of}
@@ -28,14 +29,15 @@ use Rattle.node_model.specs.declared.node.Node.TheVariants.{Down, Up}
 use Rattle.node_model.specs.declared.node.UpNode.{UpNode}
 use Rattle.node_model.specs.Devices.{distrusting, joining_so}
 use Rattle.node_model.specs.declared.seat.Seat.TheVariants.{Forming}
-use Rattle.node_model.specs.Attempts.{installing, own_promise, votes_in}
-use Rattle.node_model.specs.Members.{promised_so}
-use Rattle.node_model.specs.Seats.{promising, record_of, state_of}
+use Rattle.node_model.specs.Attempts.{installing, own_promise, starting_as, votes_in}
+use Rattle.node_model.specs.Members.{promised_so, sitting}
+use Rattle.node_model.specs.Seats.{promising, record_of, state_of, up_with}
 use Rattle.pgr_device.specs.declared.command.PrAnswer.TheVariants as given
 use Rattle.pgr_device.specs.declared.command.PrCommand.{PrCommand}
 use Rattle.pgr_device.specs.declared.command.PrCommand.TheVariants as command
 use Rattle.pgr_device.specs.Spc as spc
-use Rattle.refinement.specs.Doings.{accepting, answered_so, begun_by, going}
+use Rattle.refinement.specs.Doings.{Act, accepting, acted, answered_so, begun_by, going}
+use Rattle.refinement.specs.Doings.Act.{Ends, Hears, Ticks, Waits, Writes}
 use Rattle.refinement.specs.Ties.{setting_of}
 use Rattle.seize.specs.Answers.{Answer}
 use Rattle.seize.specs.Shows.{is_vote}
@@ -44,7 +46,7 @@ use Rattle.seize.specs.declared.kind.JoinResult.TheVariants as join
 use Rattle.wire.specs.declared.lists.Reading.{Reading}
 use Rattle.wire.specs.declared.message.Install.{Install}
 use Rattle.wire.specs.Spelling.{IsDevice, IsDevices, IsNode}
-use Rattle.cluster_ties.specs.Moves.{CallGoes, DeviceGoes, IsReached, MembershipGoes}
+use Rattle.cluster_ties.specs.Moves.{CallGoes, DeviceGoes, IsReached, MembershipGoes, Moves}
 use Rattle.cluster_ties.specs.Ties.{AttemptAt, Devices, DevicesTied, NodeAt, UpAt}
 
 -- the node with the answer to its command taken: where a joining has come to its end by it, it has joined the device
@@ -150,6 +152,53 @@ abbrev pub DistrustsGo : Type 0
 DistrustsGo = (S : Setting) (c : Cluster) (W : Whole) (n d : ℕ) (x : UpNode) (devices : Devices) → IsReached S W → IsDevice d → IsDevices (record_of x).valid → DevicesTied c devices W → UpAt c W n x
     → begins_plainly x.tasks ≡ Some d → has (record_of x).valid d ≡ true → DeviceGoes S c W n devices (distrusting x d)
 
+-- What a node does apart from devices.
+
+-- One that boots, whose session is past, has begun nothing.
+abbrev pub BootsGo : Type 0
+BootsGo = (S : Setting) (c : Cluster) (W : Whole) (n first_valid : ℕ) (disk : NodeRecord) → IsReached S W → (W.memberships.node n).session ≡ 0 → NodeAt c W n disk Down
+    → UpAt c W n (up_with n first_valid disk)
+
+-- An act in memory that is of no device, and of no attempt but its end
+abbrev pub IsApart : Act → Type 0
+IsApart (Hears from b) = Unit {0}
+IsApart Ticks = Unit {0}
+IsApart Waits = Unit {0}
+IsApart (Ends a e) = Unit {0}
+IsApart (Writes to b) = Unit {0}
+IsApart _ = ⊥
+
+abbrev pub RestsGo : Type 0
+RestsGo = (c : Cluster) (W : Whole) (n : ℕ) (x : UpNode) (act : Act) → IsApart act → UpAt c W n x → UpAt c W n (acted c n x act)
+
+-- A membership starts, and a node sits in it, which no device takes part in.
+abbrev pub StartsGo : Type 0
+StartsGo = (S : Setting) (c : Cluster) (W : Whole) (n q : ℕ) (x : UpNode) (s : NodeState) (devices : Devices) → DevicesTied c devices W → UpAt c W n x → x.seat ≡ Forming s → coordinator q ≡ n
+    → membership.Allowed S W.memberships (membership.Start q) → MembershipGoes S c W n (membership.Start q) devices (record_of (starting_as x s)) (Up (starting_as x s))
+
+abbrev pub SitsGo : Type 0
+SitsGo = (S : Setting) (c : Cluster) (W : Whole) (n q : ℕ) (x : UpNode) (s : NodeState) (devices : Devices) → DevicesTied c devices W → UpAt c W n x → x.seat ≡ Forming s
+    → membership.Allowed S W.memberships (membership.Join n q) → MembershipGoes S c W n (membership.Join n q) devices (record_of (sitting x s)) (Up (sitting x s))
+
+-- The others.
+
+-- a node's attempt is its own
+abbrev pub IsOf : ℕ → Option AttemptState → Type 0
+IsOf k None = Unit {0}
+IsOf k (Some a) = coordinator a.plan.epoch ≡ k
+
+abbrev pub OwnsAttempt : ℕ → Node → Type 0
+OwnsAttempt k Down = Unit {0}
+OwnsAttempt k (Up x) = IsOf k x.attempt
+
+-- What one node does leaves each other as it is, and the whole is reached again.
+abbrev pub OthersStay : Type 0
+OthersStay = (S : Setting) (c : Cluster) (W V : Whole) (n k : ℕ) (disk : NodeRecord) (node : Node) → IsReached S W → Moves S W n V → k ≢ n → OwnsAttempt k node → NodeAt c W k disk node
+    → NodeAt c V k disk node
+
+abbrev pub ReachedStays : Type 0
+ReachedStays = (S : Setting) (W V : Whole) (n : ℕ) → IsReached S W → Moves S W n V → IsReached S V
+
 -- What is so of each state that is reached: attempts meet at a device with votes that both held, Lineage, Kept, and that no attempt that counted with
 -- a device held is above the session of a node that joined the device and may write there.
 pub record IsSafe (S : Setting) (W : Whole) : Type 0 where
@@ -158,7 +207,7 @@ pub record IsSafe (S : Setting) (W : Whole) : Type 0 where
   pub first_empty : (q : ℕ) → (W.memberships.epoch q).counted ≡ true → last_start W.memberships q ≡ 0 → (W.memberships.epoch q).base ≡ []
   pub kept : (e q : ℕ) → (W.memberships.epoch e).started ≡ true → e < q → (W.memberships.epoch q).counted ≡ true
       → Alike (W.memberships.epoch e).acked (W.memberships.epoch e).log (W.memberships.epoch q).base
-  pub none_above : (d n f : ℕ) → Writes (W.device d) n → (W.memberships.epoch f).counted ≡ true → (W.memberships.epoch f).holds d ≡ true → f ≤ (W.memberships.node n).session
+  pub none_above : (d n f : ℕ) → sharing.Writes (W.device d) n → (W.memberships.epoch f).counted ≡ true → (W.memberships.epoch f).holds d ≡ true → f ≤ (W.memberships.node n).session
 
 abbrev pub ReachedIsSafe : Type 0
 ReachedIsSafe = (S : Setting) (W : Whole) → IsReached S W → IsSafe S W

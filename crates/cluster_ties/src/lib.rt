@@ -6,7 +6,7 @@
 //! Each function here is a law. It has no body, and its contract is proved of every node, every device and every state of the machine.
 #![tactic(auto)]
 
-ghost use Rattle.cluster_ties.specs.Laws.{BeginsGo, CallsGo, CommandsGo, CountsGo, CrashesGo, DistrustsGo, InstallsGo, PromisesGo, ReachedIsSafe, SeizesGo, WritesAreSafe, WritesGo};
+ghost use Rattle.cluster_ties.specs.Laws.{BeginsGo, BootsGo, CallsGo, CommandsGo, CountsGo, CrashesGo, DistrustsGo, InstallsGo, OthersStay, PromisesGo, ReachedIsSafe, ReachedStays, RestsGo, SeizesGo, SitsGo, StartsGo, WritesAreSafe, WritesGo};
 
 /// The command that is due at a node, answered or failed, done or not done, is steps of the whole cluster.
 pub fn commands_go()
@@ -55,6 +55,24 @@ pub fn writes_go()
 /// An attempt that has its majority is counted at each device, held there or not, and its coordinator installs it.
 pub fn counts_go()
     ensures { CountsGo }
+{}
+
+/// A node that boots has begun nothing, and what it does in memory, apart from devices, leaves it so.
+pub fn rests_go()
+    ensures boots { BootsGo }
+    ensures rests { RestsGo }
+{}
+
+/// A membership starts, and a node sits in it.
+pub fn starts_go()
+    ensures starts { StartsGo }
+    ensures sits { SitsGo }
+{}
+
+/// What one node does leaves each other node as it is, at each device, and the whole is reached again.
+pub fn others_stay()
+    ensures others { OthersStay }
+    ensures reached { ReachedStays }
 {}
 
 /// In each state that is reached attempts meet at devices, and Lineage and Kept hold; and a write of a member that a device takes, as it is, obeys the
