@@ -1,5 +1,5 @@
 -- A node begins an attempt of its own.
-use Rattle.std.specs.Prelude.{ℕ, ◌≡◌, ◌≢◌, ◌<◌, ◌≤◌, ◌%◌, ◌==◌, All, Bool, true, false, List, [], ◌∷◌, Option, None, Some}
+use Rattle.std.specs.Prelude.{ℕ, ◌≡◌, ◌<◌, ◌≤◌, ◌%◌, ◌==◌, All, Bool, true, false, List, [], ◌∷◌, Option, None, Some}
 use Rattle.std.proofs.Common.{refl, sym, ap, subst, ◌∙◌, arith}
 use Rattle.attempt_laws.specs.Asking.{AreApart, CountsAt, DeviceHas, HasIn, IsFresh, IsUnasked, Moves as CallMoves, numbers_of}
 use Rattle.attempt_laws.specs.Machine.{MachineHas}
@@ -38,7 +38,6 @@ use Rattle.node_model.specs.declared.node.Node.TheVariants.{Up}
 use Rattle.node_model.specs.declared.node.UpNode.{UpNode}
 use Rattle.node_model.specs.Attempts.{own_promise}
 use Rattle.node_model.specs.Seats.{record_of}
-use Rattle.pgr_device.specs.Device as pgr
 use Rattle.refinement.specs.Doings.{begun_by}
 use Rattle.refinement.proofs.Heads.{ArePlain, first_plain}
 use Rattle.wire.specs.declared.message.Message.{Message}

@@ -14,7 +14,7 @@ use Rattle.cl_base.specs.Seizings.{SeizeResult}
 use Rattle.cl_base.specs.Sets.{has}
 use Rattle.cl_base.specs.declared.seizing.SeizeEnd.TheVariants as end
 use Rattle.cluster_machine.specs.Cluster as whole
-use Rattle.cluster_machine.specs.Cluster.{Cluster as Whole, Joining, Membership, count_at, install_at}
+use Rattle.cluster_machine.specs.Cluster.{Apart, Cluster as Whole, Joining, Known, Membership, New, Seizer, count_at, install_at}
 use Rattle.cluster_machine.proofs.Whole.{InOrder, run_goes}
 use Rattle.cmm_attempt.specs.declared.attached.AttachedDevice.{AttachedDevice}
 use Rattle.cmm_attempt.specs.declared.plan.Plan.{Plan}
@@ -308,22 +308,41 @@ collected_of : (s : Sharing) (q : ℕ) (b : Bool) → sharing.Allowed s (count_a
 collected_of s q true h = h.0
 collected_of s q false h = h.0
 
+-- installing leaves the attempts of a device
+install_attempts : (s : Sharing) (j : Joining) (n : ℕ) → (sharing.after s (install_at j n)).attempt ≡ s.attempt
+install_attempts s Apart n = refl
+install_attempts s Seizer n = refl
+install_attempts s Known n = refl
+install_attempts s New n = refl
+
+read_same : (W V : Whole) (q : ℕ) (rs : List Reading) → ((d : ℕ) → (V.device d).attempt ≡ (W.device d).attempt) → AreRead W q rs → AreRead V q rs
+read_same W V q [] same h = tt
+read_same W V q (r ∷ rs) same h = (
+  record { holds = ap (λ f. (f q).holds) (same r.device) ∙ h.0.holds; seizer = ap (λ f. (f q).seizer) (same r.device) ∙ h.0.seizer; device = h.0.device },
+  h.1,
+  read_same W V q rs same h.2,
+)
+
 pub counts_go : CountsGo
 counts_go c W n x st a k i devices reached tied at seat under me small is_reached may own known has_after told given votes fits count = record {
-  machine = V;
-  moves = and_on S W W1 V n g.moves (record {
-    events = Membership (count_of t) joined ∷ [];
-    run = ((subst (λ z. membership.Allowed S z (count_of t)) (sym g.memberships) count, (λ d. (counted d, (subst (λ z. sharing.Allowed (U d) (install_at (joined d) z)) (sym at_node) (may_join d), tt))), quorum), refl);
-    others = λ j ne. put_there W1.memberships.node (coordinator q) _ j (λ is. ne (is ∙ at_node));
-    others_at = λ d j ne. ap (λ z. z.node j) (is_so d) ∙ (others_at c UW n q st i inv may_at in_session valid_here me small read d j ne ∙ ap (λ f. f j) (counting_nodes (W1.device d) q (is_held_in t.devices d)));
-    attempts = λ b ne h d. subst (λ z. DeviceHas z b d) (sym (is_so d))
-        (has_at c UW n q st i inv may_at in_session valid_here me small read b d
-        (others_leave (W1.device d) (count_at (is_held_in t.devices d) q) b d (h d) (counted d) (count_others b.plan.epoch q (is_held_in t.devices d) (λ same. ne (ap coordinator same ∙ at_node)))));
-  });
-  memberships = ap (λ M. membership.after M (count_of t)) g.memberships;
-  devices_so = λ d. subst (λ z. DeviceTied c.id (devices d) z)
-      (sym (ap (λ z. z.device) (is_so d) ∙ (device_so c UW n q st i inv may_at in_session valid_here me small read d ∙ (counting_device (W1.device d) q (is_held_in t.devices d) ∙ g.device d)))) (tied d);
-  at = installed_at c UW n q st i inv may_at in_session valid_here me small read V (going x a k) [] is_so tt tt counted_at epoch;
+  goes = record {
+    machine = V;
+    moves = and_on S W W1 V n g.moves (record {
+      events = Membership (count_of t) joined ∷ [];
+      run = ((subst (λ z. membership.Allowed S z (count_of t)) (sym g.memberships) count, (λ d. (counted d, (subst (λ z. sharing.Allowed (U d) (install_at (joined d) z)) (sym at_node) (may_join d), tt))), quorum), refl);
+      others = λ j ne. put_there W1.memberships.node (coordinator q) _ j (λ is. ne (is ∙ at_node));
+      others_at = λ d j ne. ap (λ z. z.node j) (is_so d) ∙ (others_at c UW n q st i inv may_at in_session valid_here me small read d j ne ∙ ap (λ f. f j) (counting_nodes (W1.device d) q (is_held_in t.devices d)));
+      attempts = λ b ne h d. subst (λ z. DeviceHas z b d) (sym (is_so d))
+          (has_at c UW n q st i inv may_at in_session valid_here me small read b d
+          (others_leave (W1.device d) (count_at (is_held_in t.devices d) q) b d (h d) (counted d) (count_others b.plan.epoch q (is_held_in t.devices d) (λ same. ne (ap coordinator same ∙ at_node)))));
+    });
+    memberships = ap (λ M. membership.after M (count_of t)) g.memberships;
+    devices_so = λ d. subst (λ z. DeviceTied c.id (devices d) z)
+        (sym (ap (λ z. z.device) (is_so d) ∙ (device_so c UW n q st i inv may_at in_session valid_here me small read d ∙ (counting_device (W1.device d) q (is_held_in t.devices d) ∙ g.device d)))) (tied d);
+    at = installed_at c UW n q st i inv may_at in_session valid_here me small read V (going x a k) [] is_so tt tt counted_at epoch;
+  };
+  counted = λ d. subst (λ z. ((V.device d).attempt z).counted ≡ true) epoch (ap (λ f. (f q).counted) (attempts_same d) ∙ ap (λ (z : attempt.Attempt). z.counted) (attempt_so d));
+  read = subst (λ z. AreRead V z i.readings) epoch (read_same UW V q i.readings attempts_same read);
 }
   where
     S : Setting
@@ -442,3 +461,6 @@ counts_go c W n x st a k i devices reached tied at seat under me small is_reache
 
     epoch : q ≡ i.epoch
     epoch = sym (ap (λ z. z.epoch) ((goes_by_call a k may (chosen_reached a is_reached)).install i given).1 ∙ install_epoch t)
+
+    attempts_same : (d : ℕ) → (V.device d).attempt ≡ (U d).attempt
+    attempts_same d = ap (λ (z : Sharing). z.attempt) (is_so d) ∙ install_attempts (U d) (joined d) n

@@ -1,11 +1,11 @@
 -- A node saves that its key on a device is not validated, before it registers there.
-use Rattle.std.specs.Prelude.{ℕ, ◌≡◌, ◌≢◌, ◌<◌, ◌⊎◌, Bool, true, false, Option, None, Some, if◌then◌else◌}
+use Rattle.std.specs.Prelude.{ℕ, ◌≡◌, ◌≢◌, ◌<◌, ◌⊎◌, Bool, false, Option, None, Some, if◌then◌else◌}
 use Rattle.std.specs.Option.{option_and_then}
 use Rattle.std.proofs.Common.{refl, sym, ap, subst, ◌∙◌, inl, inr}
 use Rattle.cl_base.specs.Sets.{has, set_without}
 use Rattle.cluster_machine.specs.Cluster.{Cluster as Whole}
 use Rattle.cluster_machine.proofs.Whole.{InOrder}
-use Rattle.cmm_attempt.proofs.Basics.{false_true, none_some, same_some}
+use Rattle.cmm_attempt.proofs.Basics.{none_some, same_some}
 use Rattle.cmm_member.specs.Nodes.{NodeState, with_valid}
 use Rattle.device_machine.specs.Sharing.{Sharing}
 use Rattle.device_queue.specs.declared.task.Task.{Task}

@@ -15,3 +15,4 @@ pub mod Safe
 pub mod Distrusts
 pub mod Begins
 pub mod Others
+pub mod Told

@@ -1,5 +1,5 @@
 -- What a node does apart from devices, and what others do.
-use Rattle.std.specs.Prelude.{ℕ, ◌≡◌, ◌≢◌, ◌<◌, [], ◌∷◌, ◌++◌, Option, None, Some}
+use Rattle.std.specs.Prelude.{ℕ, ◌≡◌, ◌<◌, [], ◌∷◌, ◌++◌, Option, None, Some}
 use Rattle.std.proofs.Common.{refl, sym, ap, ◌∙◌, arith}
 use Rattle.cl_base.specs.Sets.{has}
 use Rattle.cl_base.proofs.SetLemmas.{none_of_zero}
@@ -16,15 +16,14 @@ use Rattle.device_machine.proofs.Grown.{run_grows}
 use Rattle.machine_base.specs.Epochs.{coordinator}
 use Rattle.machine_base.proofs.Puts.{put_there}
 use Rattle.membership_machine.specs.Events as membership
-use Rattle.membership_machine.specs.Votes.{Setting}
 use Rattle.node_model.specs.declared.cluster.Cluster.{Cluster}
 use Rattle.node_model.specs.declared.node.Node.TheVariants.{Down, Up}
 use Rattle.node_model.specs.declared.node.UpNode.{UpNode}
 use Rattle.node_model.specs.declared.seat.Seat.TheVariants.{Forming}
-use Rattle.node_model.specs.Seats.{record_of, state_of}
+use Rattle.node_model.specs.Seats.{state_of}
 use Rattle.refinement.specs.Doings.Act.{Accepts, Ends, Goes_on, Hears, Makes, Queues, Stores, Takes, Ticks, Waits, Writes}
 use Rattle.cluster_ties.specs.Ties.{AttemptAt, MarksTied, UpAt}
-use Rattle.cluster_ties.specs.Moves.{IsReached, Moves, first_whole}
+use Rattle.cluster_ties.specs.Moves.{first_whole}
 use Rattle.cluster_ties.specs.Laws.{BootsGo, IsOf, OthersStay, ReachedStays, RestsGo, SitsGo, StartsGo}
 use Rattle.cluster_ties.proofs.First.{in_order}
 use Rattle.cluster_ties.proofs.Frames.{up_stays}

@@ -131,6 +131,12 @@ WritesGo = (S : Setting) (c : Cluster) (W : Whole) (n : ℕ) (x : UpNode) (devic
 abbrev pub count_of : AttemptState → membership.Event
 count_of t = membership.Count t.plan.epoch t.newest (is_held_in t.devices)
 
+-- It goes so, and what the install tells of devices is so.
+pub record CountGoes (S : Setting) (c : Cluster) (W : Whole) (n : ℕ) (e : membership.Event) (devices : Devices) (disk : NodeRecord) (node : Node) (i : Install) : Type 0 where
+  pub goes : MembershipGoes S c W n e devices disk node
+  pub counted : (d : ℕ) → ((goes.machine.device d).attempt i.epoch).counted ≡ true
+  pub read : AreRead goes.machine i.epoch i.readings
+
 -- The coordinator's attempt takes a call, by which it has its majority: nodes may be asked, the votes are counted at each device, and it installs itself.
 abbrev pub CountsGo : Type 0
 CountsGo = (c : Cluster) (W : Whole) (n : ℕ) (x : UpNode) (s : NodeState) (a : AttemptState) (k : Call) (i : Install) (devices : Devices) → IsReached (setting_of c) W → DevicesTied c devices W → UpAt c W n x
@@ -138,7 +144,7 @@ CountsGo = (c : Cluster) (W : Whole) (n : ℕ) (x : UpNode) (s : NodeState) (a :
     → MachineHas W.memberships a → MachineHas W.memberships (turn a k).after → ((d : ℕ) → IsToldAt (W.device d) a d k)
     → installs_in (turn a k).steps ≡ Some i → (turn a k).after.votes ≡ Some (votes_in c) → All calls.IsDevice a.plan.attached
     → membership.Allowed (setting_of c) W.memberships (count_of (turn a k).after)
-    → MembershipGoes (setting_of c) c W n (count_of (turn a k).after) devices (record_of (installing c n (going x a k) s [] i)) (Up (installing c n (going x a k) s [] i))
+    → CountGoes (setting_of c) c W n (count_of (turn a k).after) devices (record_of (installing c n (going x a k) s [] i)) (Up (installing c n (going x a k) s [] i)) i
 
 -- A node begins an attempt of its own: it promises its number, and where it is alone all have promised.
 abbrev pub BeginsGo : Type 0

@@ -7,6 +7,7 @@
 #![tactic(auto)]
 
 ghost use Rattle.cluster_ties.specs.Laws.{BeginsGo, BootsGo, CallsGo, CommandsGo, CountsGo, CrashesGo, DistrustsGo, InstallsGo, OthersStay, PromisesGo, ReachedIsSafe, ReachedStays, RestsGo, SeizesGo, SitsGo, StartsGo, WritesAreSafe, WritesGo};
+ghost use Rattle.cluster_ties.specs.Told.{OwnRequestsAreTold, PromisesAreTold, RequestsAreTold, ResultsAreTold, TakesAreTold, ToldOfStays};
 
 /// The command that is due at a node, answered or failed, done or not done, is steps of the whole cluster.
 pub fn commands_go()
@@ -73,6 +74,20 @@ pub fn starts_go()
 pub fn others_stay()
     ensures others { OthersStay }
     ensures reached { ReachedStays }
+{}
+
+/// What a message tells of devices stays so, whatever comes, and is what a call takes that takes the message.
+pub fn told_of_stays()
+    ensures stays { ToldOfStays }
+    ensures takes { TakesAreTold }
+{}
+
+/// What an attempt asks of a node, its own or another, and what a node tells of its promises and its seizings, is so.
+pub fn sends_are_told()
+    ensures requests { RequestsAreTold }
+    ensures own_requests { OwnRequestsAreTold }
+    ensures promises { PromisesAreTold }
+    ensures results { ResultsAreTold }
 {}
 
 /// In each state that is reached attempts meet at devices, and Lineage and Kept hold; and a write of a member that a device takes, as it is, obeys the
