@@ -1,7 +1,8 @@
 //! What nodes do at devices, in the abstract machine of the whole cluster.
 //!
-//! `specs/Ties` says when a node with its tasks, its marks and its attempt is the machine's at each device; the laws say that what
-//! it does there is steps of the machine, after which it is so again.
+//! `specs/Ties` says when a node with its tasks, its marks and its attempt is the machine's at each device; the laws of `specs/Laws` say
+//! that each thing that it does is steps of the machine, after which it is so again, and that each other node stays as it is. Those of
+//! `specs/Told` say what messages tell of devices. The last law says what follows: attempts meet, Lineage, Kept, and the disk rule.
 //!
 //! Each function here is a law. It has no body, and its contract is proved of every node, every device and every state of the machine.
 #![tactic(auto)]
