@@ -1,5 +1,5 @@
 -- The laws of this crate, each as a statement.
-use Rattle.std.specs.Prelude.{ℕ, ◌≡◌, ◌≢◌, ◌<◌, ◌≤◌, ◌%◌, All, true, false, List, [], ◌∷◌, Option, None, Some}
+use Rattle.std.specs.Prelude.{ℕ, ◌≡◌, ◌≢◌, ◌<◌, ◌≤◌, ◌%◌, ◌&&◌, All, Bool, true, false, List, [], ◌∷◌, Option, None, Some}
 use Rattle.cl_base.specs.Sets.{has}
 use Rattle.cluster_machine.specs.Cluster.{Cluster as Whole}
 use Rattle.cluster_machine.specs.Parts.{WriteIsSafe}
@@ -7,6 +7,8 @@ use Rattle.device_queue.specs.declared.progress.Progress.{Progress}
 use Rattle.device_queue.specs.declared.progress.Progress.TheVariants as progress
 use Rattle.device_queue.specs.Queue.{begins_plainly, due_device, next_of, progress_after}
 use Rattle.device_ties.specs.Commands.{Completion, executed, learned}
+use Rattle.device_ties.specs.Devices.{DeviceTied}
+use Rattle.device_machine.specs.Device as machine
 use Rattle.device_machine.specs.Sharing as sharing
 use Rattle.device_machine.specs.Sharing.{Sharing}
 use Rattle.device_ties.specs.Tasks.{is_member}
@@ -39,6 +41,8 @@ use Rattle.pgr_device.specs.Spc as spc
 use Rattle.refinement.specs.Doings.{Act, accepting, acted, answered_so, begun_by, going}
 use Rattle.refinement.specs.Doings.Act.{Ends, Hears, Ticks, Waits, Writes}
 use Rattle.refinement.specs.Ties.{setting_of}
+use Rattle.cl_base.specs.declared.header.DeviceKind.{DeviceKind}
+use Rattle.cl_base.specs.declared.header.DeviceKind.TheVariants.{Quorum}
 use Rattle.seize.specs.Answers.{Answer}
 use Rattle.seize.specs.Shows.{is_vote}
 use Rattle.seize.specs.declared.kind.SeizeKind.{SeizeKind}
@@ -46,7 +50,8 @@ use Rattle.seize.specs.declared.kind.JoinResult.TheVariants as join
 use Rattle.wire.specs.declared.lists.Reading.{Reading}
 use Rattle.wire.specs.declared.message.Install.{Install}
 use Rattle.wire.specs.Spelling.{IsDevice, IsDevices, IsNode}
-use Rattle.cluster_ties.specs.Moves.{CallGoes, DeviceGoes, IsReached, MembershipGoes, Moves}
+use Rattle.world_model.specs.First.{first_device_of}
+use Rattle.cluster_ties.specs.Moves.{CallGoes, DeviceGoes, IsReached, MembershipGoes, Moves, first_whole}
 use Rattle.cluster_ties.specs.Ties.{AttemptAt, Devices, DevicesTied, NodeAt, UpAt}
 
 -- the node with the answer to its command taken: where a joining has come to its end by it, it has joined the device
@@ -204,6 +209,26 @@ OthersStay = (S : Setting) (c : Cluster) (W V : Whole) (n k : ℕ) (disk : NodeR
 
 abbrev pub ReachedStays : Type 0
 ReachedStays = (S : Setting) (W V : Whole) (n : ℕ) → IsReached S W → Moves S W n V → IsReached S V
+
+-- At first.
+
+-- the nodes that are registered on a device of the schedule's header
+abbrev pub registered_by : DeviceKind → ℕ → ℕ → ℕ → Bool
+registered_by Quorum attached configured n = is_member configured n && has attached n
+registered_by _ attached configured n = false
+
+abbrev pub FirstDevicesAreTied : Type 0
+FirstDevicesAreTied = (kind : DeviceKind) (attached configured cluster : ℕ) → DeviceTied cluster (first_device_of kind attached configured cluster) (machine.first_device (registered_by kind attached configured))
+
+-- With such devices, and each node down with the record of its disk, all is the machine's first state.
+pub record IsFirst (S : Setting) (c : Cluster) (devices : Devices) (disk : ℕ → NodeRecord) (W : Whole) : Type 0 where
+  pub reached : IsReached S W
+  pub devices_so : DevicesTied c devices W
+  pub at : (n : ℕ) → NodeAt c W n (disk n) Down
+
+abbrev pub FirstIsTied : Type 0
+FirstIsTied = (S : Setting) (c : Cluster) (registered valid : ℕ → ℕ → Bool) (devices : Devices) (disk : ℕ → NodeRecord) → ((d : ℕ) → DeviceTied c.id (devices d) (machine.first_device (registered d)))
+    → ((d n : ℕ) → valid d n ≡ has (disk n).valid d) → IsFirst S c devices disk (first_whole registered valid)
 
 -- What is so of each state that is reached: attempts meet at a device with votes that both held, Lineage, Kept, and that no attempt that counted with
 -- a device held is above the session of a node that joined the device and may write there.

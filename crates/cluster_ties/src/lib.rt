@@ -7,8 +7,14 @@
 //! Each function here is a law. It has no body, and its contract is proved of every node, every device and every state of the machine.
 #![tactic(auto)]
 
-ghost use Rattle.cluster_ties.specs.Laws.{BeginsGo, BootsGo, CallsGo, CommandsGo, CountsGo, CrashesGo, DistrustsGo, InstallsGo, OthersStay, PromisesGo, ReachedIsSafe, ReachedStays, RestsGo, SeizesGo, SitsGo, StartsGo, WritesAreSafe, WritesGo};
+ghost use Rattle.cluster_ties.specs.Laws.{BeginsGo, BootsGo, CallsGo, CommandsGo, CountsGo, CrashesGo, DistrustsGo, FirstDevicesAreTied, FirstIsTied, InstallsGo, OthersStay, PromisesGo, ReachedIsSafe, ReachedStays, RestsGo, SeizesGo, SitsGo, StartsGo, WritesAreSafe, WritesGo};
 ghost use Rattle.cluster_ties.specs.Told.{OwnRequestsAreTold, PromisesAreTold, RequestsAreTold, ResultsAreTold, TakesAreTold, ToldOfStays};
+
+/// At first each device is the machine's, as the schedule's header has it, and each node is, which is down.
+pub fn first_is_tied()
+    ensures devices { FirstDevicesAreTied }
+    ensures whole { FirstIsTied }
+{}
 
 /// The command that is due at a node, answered or failed, done or not done, is steps of the whole cluster.
 pub fn commands_go()
