@@ -16,3 +16,4 @@ pub mod Distrusts
 pub mod Begins
 pub mod Others
 pub mod Told
+pub mod GoesOn

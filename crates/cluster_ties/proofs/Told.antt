@@ -42,7 +42,7 @@ use Rattle.cluster_ties.proofs.First.{in_order}
 
 -- It stays.
 
-grows_at : (S : Setting) (W V : Whole) (n d : ℕ) → InOrder S W → Moves S W n V → Grows (W.device d) (V.device d)
+pub grows_at : (S : Setting) (W V : Whole) (n d : ℕ) → InOrder S W → Moves S W n V → Grows (W.device d) (V.device d)
 grows_at S W V n d i m = run_grows (W.device d) (V.device d) (run_at W m.events d) (i.device d) (device_runs S W m.events V d m.run)
 
 ended_stays : (s u : Sharing) (q n : ℕ) (r : SeizeResult) → Grows s u → EndedSo s q n r → EndedSo u q n r

@@ -95,6 +95,12 @@ abbrev pub CallsGo : Type 0
 CallsGo = (S : Setting) (W : Whole) (n : ℕ) (a : AttemptState) (k : Call) → IsReached S W → IsReachedAttempt a → MayCall a k → coordinator a.plan.epoch ≡ n
     → MachineHas W.memberships a → MachineHas W.memberships (turn a k).after → AttemptAt W (Some a) → ((d : ℕ) → IsToldAt (W.device d) a d k) → CallGoes S W n (turn a k)
 
+-- So it is of the node itself, where its attempt does not install by the call.
+abbrev pub CallsGoOn : Type 0
+CallsGoOn = (S : Setting) (c : Cluster) (W : Whole) (n : ℕ) (x : UpNode) (a : AttemptState) (k : Call) (devices : Devices) → IsReached S W → DevicesTied c devices W → UpAt c W n x → x.attempt ≡ Some a
+    → IsReachedAttempt a → MayCall a k → coordinator a.plan.epoch ≡ n → MachineHas W.memberships a → MachineHas W.memberships (turn a k).after → ((d : ℕ) → IsToldAt (W.device d) a d k)
+    → installs_in (turn a k).steps ≡ None → DeviceGoes S c W n devices (going x a k)
+
 -- A node that is asked to seize a device in its session, which it has not installed, begins to, unless it did already.
 pub record IsAskedTo (s : Sharing) (epoch members n : ℕ) (kind : SeizeKind) : Type 0 where
   pub collected : (s.attempt epoch).collected ≡ true

@@ -7,7 +7,7 @@
 //! Each function here is a law. It has no body, and its contract is proved of every node, every device and every state of the machine.
 #![tactic(auto)]
 
-ghost use Rattle.cluster_ties.specs.Laws.{BeginsGo, BootsGo, CallsGo, CommandsGo, CountsGo, CrashesGo, DistrustsGo, FirstDevicesAreTied, FirstIsTied, InstallsGo, OthersStay, PromisesGo, ReachedIsSafe, ReachedStays, RestsGo, SeizesGo, SitsGo, StartsGo, WritesAreSafe, WritesGo};
+ghost use Rattle.cluster_ties.specs.Laws.{BeginsGo, BootsGo, CallsGo, CallsGoOn, CommandsGo, CountsGo, CrashesGo, DistrustsGo, FirstDevicesAreTied, FirstIsTied, InstallsGo, OthersStay, PromisesGo, ReachedIsSafe, ReachedStays, RestsGo, SeizesGo, SitsGo, StartsGo, WritesAreSafe, WritesGo};
 ghost use Rattle.cluster_ties.specs.Told.{OwnRequestsAreTold, PromisesAreTold, RequestsAreTold, ResultsAreTold, TakesAreTold, ToldOfStays};
 
 /// At first each device is the machine's, as the schedule's header has it, and each node is, which is down.
@@ -41,7 +41,8 @@ pub fn begins_go()
 /// A call on an attempt is steps of the whole: with every Promise in hand it goes on to seize, or it asks nodes. The machine of each
 /// device has the attempt after it, with all that the steps of the call ask for.
 pub fn calls_go()
-    ensures { CallsGo }
+    ensures asks { CallsGo }
+    ensures node { CallsGoOn }
 {}
 
 /// A node that is asked to seize a device begins to, where it has no seizing of the device yet.
