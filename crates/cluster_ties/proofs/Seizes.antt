@@ -1,11 +1,11 @@
 -- A node begins to seize a device.
-use Rattle.std.specs.Prelude.{ℕ, ◌≡◌, ◌≢◌, ◌<◌, ◌⊎◌, ◌++◌, ◌==◌, ◌&&◌, ◌||◌, not, Bool, true, false, List, [], ◌∷◌, Option, None, Some, is_some, if◌then◌else◌}
+use Rattle.std.specs.Prelude.{ℕ, ◌≡◌, ◌≢◌, ◌<◌, ◌⊎◌, ◌++◌, ◌==◌, ◌&&◌, ◌||◌, nat_le, not, Bool, true, false, List, [], ◌∷◌, Option, None, Some, is_some, if◌then◌else◌}
 use Rattle.std.proofs.Common.{refl, sym, subst, ◌∙◌, inl, inr, arith}
 use Rattle.std.specs.List.{AllByRecursion}
 use Rattle.cl_base.specs.Sets.{has}
 use Rattle.cluster_machine.specs.Cluster.{Cluster as Whole}
 use Rattle.cluster_machine.proofs.Whole.{InOrder}
-use Rattle.cmm_attempt.proofs.Basics.{false_true, none_some, same_number}
+use Rattle.cmm_attempt.proofs.Basics.{and_cases, false_true, none_some, same_number}
 use Rattle.device_machine.proofs.Invariant.{Inv}
 use Rattle.device_machine.specs.Sharing.{Sharing}
 use Rattle.device_queue.specs.declared.task.Task.{Task}
@@ -40,7 +40,7 @@ use Rattle.seize.specs.declared.step.JoinStep.{JoinStep}
 use Rattle.seize.specs.declared.step.JoinStep.TheVariants as join
 use Rattle.cluster_ties.specs.Ties.{DevicesTied, Devices, JoiningAt, QueuedOnce, TaskAt, UpAt, WorkAt}
 use Rattle.cluster_ties.specs.Moves.{DeviceGoes}
-use Rattle.cluster_ties.specs.Laws.{SeizesGo}
+use Rattle.cluster_ties.specs.Laws.{QueuesGo, SeizesGo}
 use Rattle.cluster_ties.proofs.Commands.{join_installed, not_below, one_goes, same_below}
 use Rattle.cluster_ties.proofs.First.{in_order}
 use Rattle.cluster_ties.proofs.Moves.{nowhere}
@@ -223,3 +223,8 @@ seizes_go S c W n x devices kind epoch members d reached tied at asked member so
           record { valid = r.valid; joined = r.joined },
         ))
         refl (record { here_valid = refl; here_joined = refl; valid = λ e ne. refl; joined = λ e ne. refl })))
+
+pub queues_go : QueuesGo
+queues_go S c W n x devices a kind d reached tied at asked member positive session low =
+    subst (λ b. DeviceGoes S c W n devices (if b then accepting c n x kind a.plan.epoch a.plan.members d else x)) (sym (and_cases (nat_le n 32) (has a.plan.members n) member).1)
+    (seizes_go S c W n x devices kind a.plan.epoch a.plan.members d reached tied at asked member positive session low)

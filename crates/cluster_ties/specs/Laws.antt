@@ -31,7 +31,7 @@ use Rattle.node_model.specs.declared.node.Node.TheVariants.{Down, Up}
 use Rattle.node_model.specs.declared.node.UpNode.{UpNode}
 use Rattle.node_model.specs.Devices.{distrusting, joining_so}
 use Rattle.node_model.specs.declared.seat.Seat.TheVariants.{Forming}
-use Rattle.node_model.specs.Attempts.{installing, own_promise, starting_as, votes_in}
+use Rattle.node_model.specs.Attempts.{installing, own_promise, seizing_here, starting_as, votes_in}
 use Rattle.node_model.specs.Members.{promised_so, sitting}
 use Rattle.node_model.specs.Seats.{promising, record_of, state_of, up_with}
 use Rattle.pgr_device.specs.declared.command.PrAnswer.TheVariants as given
@@ -112,6 +112,12 @@ abbrev pub SeizesGo : Type 0
 SeizesGo = (S : Setting) (c : Cluster) (W : Whole) (n : ℕ) (x : UpNode) (devices : Devices) (kind : SeizeKind) (epoch members d : ℕ) → IsReached S W → DevicesTied c devices W → UpAt c W n x
     → IsAskedTo (W.device d) epoch members n kind → is_member members n ≡ true → 0 < epoch → (W.memberships.node n).session ≡ epoch → (W.memberships.node n).saved.installed < epoch
     → DeviceGoes S c W n devices (accepting c n x kind epoch members d)
+
+-- So does one that its own attempt asks.
+abbrev pub QueuesGo : Type 0
+QueuesGo = (S : Setting) (c : Cluster) (W : Whole) (n : ℕ) (x : UpNode) (devices : Devices) (a : AttemptState) (kind : SeizeKind) (d : ℕ) → IsReached S W → DevicesTied c devices W → UpAt c W n x
+    → IsAskedTo (W.device d) a.plan.epoch a.plan.members n kind → is_member a.plan.members n ≡ true → 0 < a.plan.epoch → (W.memberships.node n).session ≡ a.plan.epoch
+    → (W.memberships.node n).saved.installed < a.plan.epoch → DeviceGoes S c W n devices (seizing_here c n x d kind (Some a))
 
 -- What an Install tells of devices: its readings are of devices that the attempt holds, each by the node that seized it, and no two are of one.
 pub record IsRead (W : Whole) (q : ℕ) (r : Reading) : Type 0 where

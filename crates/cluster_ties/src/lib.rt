@@ -7,7 +7,7 @@
 //! Each function here is a law. It has no body, and its contract is proved of every node, every device and every state of the machine.
 #![tactic(auto)]
 
-ghost use Rattle.cluster_ties.specs.Laws.{BeginsGo, BootsGo, CallsGo, CallsGoOn, CommandsGo, CountsGo, CrashesGo, DistrustsGo, FirstDevicesAreTied, FirstIsTied, InstallsGo, OthersStay, PromisesGo, ReachedIsSafe, ReachedStays, RestsGo, SeizesGo, SitsGo, StartsGo, WritesAreSafe, WritesGo};
+ghost use Rattle.cluster_ties.specs.Laws.{BeginsGo, BootsGo, CallsGo, CallsGoOn, CommandsGo, CountsGo, CrashesGo, DistrustsGo, FirstDevicesAreTied, FirstIsTied, InstallsGo, OthersStay, PromisesGo, QueuesGo, ReachedIsSafe, ReachedStays, RestsGo, SeizesGo, SitsGo, StartsGo, WritesAreSafe, WritesGo};
 ghost use Rattle.cluster_ties.specs.Told.{OwnRequestsAreTold, PromisesAreTold, RequestsAreTold, ResultsAreTold, TakesAreTold, ToldOfStays};
 
 /// At first each device is the machine's, as the schedule's header has it, and each node is, which is down.
@@ -47,7 +47,8 @@ pub fn calls_go()
 
 /// A node that is asked to seize a device begins to, where it has no seizing of the device yet.
 pub fn seizes_go()
-    ensures { SeizesGo }
+    ensures accepts { SeizesGo }
+    ensures queues { QueuesGo }
 {}
 
 /// A member that installs joins each device that was read: at once where it seized the device or its key was seen there and validated,
