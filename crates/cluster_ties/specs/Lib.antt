@@ -1,0 +1,4 @@
+pub mod Ties
+pub mod Moves
+pub mod Laws
+pub mod Told
