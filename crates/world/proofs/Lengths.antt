@@ -82,3 +82,7 @@ short_if m le = fields_short m.body (omega (arith, spellings m, le))
 -- what can't be spelled is longer than a packet
 pub too_long : (m : Message) → (IsShort m.body → ⊥) → nat_le (length (spelling m)) 131072 ≡ false
 too_long m long = lt-leb _ _ (longer (length (spelling m)) (λ le. long (short_if m le)))
+
+-- of a message by what is in it
+pub body_too_long : (from : ℕ) (b : Body) → (IsShort b → ⊥) → nat_le (length (spelling (record { sender = from; body = b }))) 131072 ≡ false
+body_too_long from b long = too_long (record { sender = from; body = b }) long
