@@ -14,7 +14,7 @@ use rgm_member::{charged, is_start_failure, marks_after};
 use std::alloc::Global;
 use wire::Marks;
 
-/// The order that was taken out of the outstanding ones ended so, as it is told at the second `now`.
+/// The order ended so, as it is told at the second `now`. It is outstanding no more.
 ///
 /// Flags and marks are then those that its member keeps: flags change by success alone, and a
 /// failure sets a mark. A start failure is charged to the resource's group, or to the group that
