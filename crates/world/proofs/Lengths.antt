@@ -1,5 +1,5 @@
 -- A message of a packet's size is short enough to be spelled.
-use Rattle.std.proofs.Common.{◌≡◌, ℕ, ◌*◌, ◌≤◌, ◌<◌, nat_le, false, inl, inr, List, [], ◌∷◌, length, Option, None, Some, IfSome, arith}
+use Rattle.std.proofs.Common.{◌≡◌, ℕ, ◌*◌, ◌^◌, ◌≤◌, ◌<◌, nat_le, nat_lt, ◌&&◌, if◌then◌else◌, Bool, false, sym, ap, inl, inr, List, [], ◌∷◌, length, Option, None, Some, IfSome, arith}
 use Rattle.std.proofs.lemmas.Bool.{cases_lt, lt-leb}
 use Rattle.std.specs.List.{sum_by, AllByRecursion}
 use Rattle.std.specs.Option.{option_to_list}
@@ -15,6 +15,9 @@ use Rattle.wire.specs.declared.message.Message.{Message}
 use Rattle.wire.specs.Lengths.{text_length, list_length, reading_length, resource_length, group_length, result_length, fields_length}
 use Rattle.wire.specs.Spelling.{spelling, IsShort, IsShortText, IsShortList, IsShortReading, IsShortResource, IsShortGroup, IsShortResult}
 use Rattle.wire.proofs.Lengths.{spellings}
+use Rattle.interconnect.specs.Links.{sending}
+use Rattle.world_model.specs.Sends.{posting, sent_as}
+use Rattle.world_model.specs.Worlds.{Play}
 
 sum_least : {A : Type 0} (len : A → ℕ) → ((x : A) → 4 ≤ len x) → (xs : List A) → 4 * length xs ≤ sum_by len xs
 sum_least len least [] = omega arith
@@ -83,6 +86,9 @@ short_if m le = fields_short m.body (omega (arith, spellings m, le))
 pub too_long : (m : Message) → (IsShort m.body → ⊥) → nat_le (length (spelling m)) 131072 ≡ false
 too_long m long = lt-leb _ _ (longer (length (spelling m)) (λ le. long (short_if m le)))
 
--- of a message by what is in it
-pub body_too_long : (from : ℕ) (b : Body) → (IsShort b → ⊥) → nat_le (length (spelling (record { sender = from; body = b }))) 131072 ≡ false
-body_too_long from b long = too_long (record { sender = from; body = b }) long
+-- so it is not sent
+pub not_posted : (from to : ℕ) (b : Body) (p : Play) → (IsShort b → ⊥) → p ≡ posting from to (record { sender = from; body = b }) p
+not_posted from to b p long =
+    let m : Message = record { sender = from; body = b } in
+    sym (ap (λ (fits : Bool). if fits && nat_lt p.world.links.next (2 ^ 63) then sent_as from to m (sending p.world.links from to (spelling m)) p else p)
+    (too_long m long))

@@ -78,7 +78,7 @@ impl World {
     }
 
     /// A message is sent. One that has no spelling, or too long a one, is not: no node gives such.
-    #[tactic(auto, using(crate::proofs::Lengths::body_too_long))]
+    #[tactic(auto, using(crate::proofs::Lengths::not_posted, crate::proofs::Lengths::too_long))]
     fn send(
         &mut self,
         alloc: Global,
@@ -137,5 +137,6 @@ fn step_in(
         &mut nodes[place],
         input,
         given,
-    )
+    )?;
+    Ok(())
 }
