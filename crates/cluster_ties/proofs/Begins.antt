@@ -115,11 +115,11 @@ module _ (S : Setting) (c : Cluster) (W : Whole) (n p members : ℕ) (x : UpNode
   abbrev y : UpNode
   y = begun_by c n (leading_so x p) p members
 
-  abbrev W1 : Whole
-  W1 = whole.after W (Membership (membership.Begin p (is_member members)) nowhere_joined)
+  abbrev with_attempt : Whole
+  with_attempt = whole.after W (Membership (membership.Begin p (is_member members)) nowhere_joined)
 
   abbrev all : ℕ → Bool
-  all = (W1.memberships.epoch p).members
+  all = (with_attempt.memberships.epoch p).members
 
   at_node : coordinator p ≡ n
   at_node = coordinates p n own
@@ -132,7 +132,7 @@ module _ (S : Setting) (c : Cluster) (W : Whole) (n p members : ℕ) (x : UpNode
   allowed_first : (d : ℕ) → sharing.Allowed (W.device d) (sharing.Promise (coordinator p) p)
   allowed_first d = subst (λ k. k < p) (sym ((i.agrees d).node (coordinator p)).promised) may.0
 
-  begins : Moves S W n W1
+  begins : Moves S W n with_attempt
   begins = record {
     events = Membership (membership.Begin p (is_member members)) nowhere_joined ∷ [];
     run = ((may, (λ d. (allowed_first d, tt)), tt), refl);
@@ -141,13 +141,13 @@ module _ (S : Setting) (c : Cluster) (W : Whole) (n p members : ℕ) (x : UpNode
     attempts = λ a ne h d. others_leave (W.device d) (sharing.Promise (coordinator p) p) a d (h d) (allowed_first d) tt;
   }
 
-  node_so : (d : ℕ) → (W1.device d).node n ≡ initiator.promising ((W.device d).node n) p
+  node_so : (d : ℕ) → (with_attempt.device d).node n ≡ initiator.promising ((W.device d).node n) p
   node_so d =
       subst (λ k. put (W.device d).node k (initiator.promising ((W.device d).node k) p) n ≡ initiator.promising ((W.device d).node n) p) (sym at_node)
       (put_here (W.device d).node n (initiator.promising ((W.device d).node n) p))
 
-  order : InOrder S W1
-  order = (run_goes S W begins.events W1 i begins.run).in_order
+  order : InOrder S with_attempt
+  order = (run_goes S W begins.events with_attempt i begins.run).in_order
 
   -- The attempt is new.
 
@@ -170,16 +170,16 @@ module _ (S : Setting) (c : Cluster) (W : Whole) (n p members : ℕ) (x : UpNode
   members_so : (k : ℕ) → all k ≡ is_member members k
   members_so k = ap (λ (e : Epoch). e.members k) (put_here W.memberships.epoch p _)
 
-  m : (d : ℕ) → CallMoves (W1.device d) p all d t
+  m : (d : ℕ) → CallMoves (with_attempt.device d) p all d t
   m d =
-      devices_begin (W1.device d) p members all first c.attached c.id d (sym own, refl, number_is p) (above_zero (W.memberships.node (coordinator p)).promised p may.0) (fresh d)
+      devices_begin (with_attempt.device d) p members all first c.attached c.id d (sym own, refl, number_is p) (above_zero (W.memberships.node (coordinator p)).promised p may.0) (fresh d)
       (subst (λ (v : initiator.Initiator). p ≤ v.promised) (sym (node_so d)) (itself_least p)) members_so apart
 
   abbrev events : ℕ → List sharing.Event
   events d = (m d).events
 
   abbrev after : ℕ → Sharing
-  after d = all_after (W1.device d) (events d)
+  after d = all_after (with_attempt.device d) (events d)
 
   none : installs_in t.steps ≡ None
   none = plain_installs t.steps (first_plain p members first c.attached c.id)
@@ -190,11 +190,11 @@ module _ (S : Setting) (c : Cluster) (W : Whole) (n p members : ℕ) (x : UpNode
   has_out : (d : ℕ) (phase : Phase) → t.after.phase ≡ phase → HasIn (after d) t.after.plan t.after.promises t.after.devices d phase
   has_out d phase is = subst (HasIn (after d) t.after.plan t.after.promises t.after.devices d) is (has_after d).has
 
-  from : (V : Whole) → Moves S W1 n V → V.memberships ≡ W1.memberships → ((d : ℕ) → V.device d ≡ after d) → ((d : ℕ) → Same (W1.device d) (after d))
+  from : (V : Whole) → Moves S with_attempt n V → V.memberships ≡ with_attempt.memberships → ((d : ℕ) → V.device d ≡ after d) → ((d : ℕ) → Same (with_attempt.device d) (after d))
       → MembershipGoes S c W n (membership.Begin p (is_member members)) devices (record_of y) (Up y)
   from V moves memberships is same = record {
     machine = V;
-    moves = and_on S W W1 V n begins moves;
+    moves = and_on S W with_attempt V n begins moves;
     memberships = memberships;
     devices_so = λ d. subst (λ (s : Sharing). DeviceTied c.id (devices d) s.device) (sym (is d)) (subst (λ z. DeviceTied c.id (devices d) z) (sym (same d).device) (tied d));
     at = record {
@@ -211,32 +211,32 @@ module _ (S : Setting) (c : Cluster) (W : Whole) (n p members : ℕ) (x : UpNode
 
   quiet : ((d : ℕ) → events d ≡ []) → MembershipGoes S c W n (membership.Begin p (is_member members)) devices (record_of y) (Up y)
   quiet nothing =
-      let is : (d : ℕ) → W1.device d ≡ after d = λ d. sym (ap (all_after (W1.device d)) (nothing d)) in
-      from W1 (nowhere S W1 n) refl is (λ d. subst (λ s. Same (W1.device d) s) (is d) (record { node = refl; device = refl }))
+      let is : (d : ℕ) → with_attempt.device d ≡ after d = λ d. sym (ap (all_after (with_attempt.device d)) (nothing d)) in
+      from with_attempt (nowhere S with_attempt n) refl is (λ d. subst (λ s. Same (with_attempt.device d) s) (is d) (record { node = refl; device = refl }))
 
   reached : IsReachedAttempt t.after
   reached = record { p = p; members = members; own = first; attached = c.attached; cluster = c.id; devices = fits; calls = []; run = refl }
 
   collected : ((d : ℕ) → events d ≡ sharing.Collected p all ∷ []) → t.after.phase ≡ Choosing → MembershipGoes S c W n (membership.Begin p (is_member members)) devices (record_of y) (Up y)
   collected are choosing_is =
-      let newest : HasNewest W1.memberships t.after.plan.epoch t.after.newest = (newest_is_shown W1.memberships t.after reached told choosing_is).0 in
-      let answered : (j : ℕ) → all j ≡ true → (W1.memberships.node j).answered p ≡ true =
-      subst (λ z. (j : ℕ) → (W1.memberships.epoch z).members j ≡ true → (W1.memberships.node j).answered z ≡ true) number newest.all_answered in
-      let allowed : (d : ℕ) → sharing.Allowed (W1.device d) (sharing.Collected p all) = λ d. (subst (λ es. MayCome (W1.device d) es) (are d) (m d).allowed).0 in
-      from (whole.after W1 (whole.Collected p)) (record {
+      let newest : HasNewest with_attempt.memberships t.after.plan.epoch t.after.newest = (newest_is_shown with_attempt.memberships t.after reached told choosing_is).0 in
+      let answered : (j : ℕ) → all j ≡ true → (with_attempt.memberships.node j).answered p ≡ true =
+      subst (λ z. (j : ℕ) → (with_attempt.memberships.epoch z).members j ≡ true → (with_attempt.memberships.node j).answered z ≡ true) number newest.all_answered in
+      let allowed : (d : ℕ) → sharing.Allowed (with_attempt.device d) (sharing.Collected p all) = λ d. (subst (λ es. MayCome (with_attempt.device d) es) (are d) (m d).allowed).0 in
+      from (whole.after with_attempt (whole.Collected p)) (record {
         events = whole.Collected p ∷ [];
-        run = ((subst (λ z. (W1.memberships.epoch z).tried ≡ true) number told.tried, answered, allowed), refl);
+        run = ((subst (λ z. (with_attempt.memberships.epoch z).tried ≡ true) number told.tried, answered, allowed), refl);
         others = λ j ne. refl;
         others_at = λ d j ne. refl;
-        attempts = λ other ne h d. others_leave (W1.device d) (sharing.Collected p all) other d (h d) (allowed d) (λ same. ne (ap coordinator (sym same) ∙ at_node));
-      }) refl (λ d. sym (ap (all_after (W1.device d)) (are d))) (λ d. subst (λ es. Same (W1.device d) (all_after (W1.device d) es)) (sym (are d)) (record { node = refl; device = refl }))
+        attempts = λ other ne h d. others_leave (with_attempt.device d) (sharing.Collected p all) other d (h d) (allowed d) (λ same. ne (ap coordinator (sym same) ∙ at_node));
+      }) refl (λ d. sym (ap (all_after (with_attempt.device d)) (are d))) (λ d. subst (λ es. Same (with_attempt.device d) (all_after (with_attempt.device d) es)) (sym (are d)) (record { node = refl; device = refl }))
 
   by_phase : (phase : Phase) → t.after.phase ≡ phase → IsFirst phase → MembershipGoes S c W n (membership.Begin p (is_member members)) devices (record_of y) (Up y)
   by_phase Collecting is h =
-      quiet (λ d. fresh_quiet p all (W1.device d) (events d) (order.device d) (m d).asking (m d).allowed
+      quiet (λ d. fresh_quiet p all (with_attempt.device d) (events d) (order.device d) (m d).asking (m d).allowed
       (subst (λ z. ((after d).attempt z).collected ≡ false) number (has_out d Collecting is).0.collected))
   by_phase Choosing is h =
-      collected (λ d. collected_alone p all (W1.device d) (events d) (order.device d) (m d).asking (m d).allowed (uncollected d)
+      collected (λ d. collected_alone p all (with_attempt.device d) (events d) (order.device d) (m d).asking (m d).allowed (uncollected d)
       (subst (λ z. ((after d).attempt z).collected ≡ true) number (has_out d Choosing is).0.collected) (subst (λ z. IsUnasked ((after d).attempt z)) number (has_out d Choosing is).1)) is
   by_phase SeizingVotes is h = absurd h
   by_phase SeizingOthers is h = absurd h

@@ -327,18 +327,18 @@ pub counts_go : CountsGo
 counts_go c W n x st a k i devices reached tied at seat under me small is_reached may own known has_after told given votes fits count = record {
   goes = record {
     machine = V;
-    moves = and_on S W W1 V n g.moves (record {
+    moves = and_on S W with_count V n g.moves (record {
       events = Membership (count_of t) joined ∷ [];
       run = ((subst (λ z. membership.Allowed S z (count_of t)) (sym g.memberships) count, (λ d. (counted d, (subst (λ z. sharing.Allowed (U d) (install_at (joined d) z)) (sym at_node) (may_join d), tt))), quorum), refl);
-      others = λ j ne. put_there W1.memberships.node (coordinator q) _ j (λ is. ne (is ∙ at_node));
-      others_at = λ d j ne. ap (λ z. z.node j) (is_so d) ∙ (others_at c UW n q st i inv may_at in_session valid_here me small read d j ne ∙ ap (λ f. f j) (counting_nodes (W1.device d) q (is_held_in t.devices d)));
+      others = λ j ne. put_there with_count.memberships.node (coordinator q) _ j (λ is. ne (is ∙ at_node));
+      others_at = λ d j ne. ap (λ z. z.node j) (is_so d) ∙ (others_at c UW n q st i inv may_at in_session valid_here me small read d j ne ∙ ap (λ f. f j) (counting_nodes (with_count.device d) q (is_held_in t.devices d)));
       attempts = λ b ne h d. subst (λ z. DeviceHas z b d) (sym (is_so d))
           (has_at c UW n q st i inv may_at in_session valid_here me small read b d
-          (others_leave (W1.device d) (count_at (is_held_in t.devices d) q) b d (h d) (counted d) (count_others b.plan.epoch q (is_held_in t.devices d) (λ same. ne (ap coordinator same ∙ at_node)))));
+          (others_leave (with_count.device d) (count_at (is_held_in t.devices d) q) b d (h d) (counted d) (count_others b.plan.epoch q (is_held_in t.devices d) (λ same. ne (ap coordinator same ∙ at_node)))));
     });
     memberships = ap (λ M. membership.after M (count_of t)) g.memberships;
     devices_so = λ d. subst (λ z. DeviceTied c.id (devices d) z)
-        (sym (ap (λ z. z.device) (is_so d) ∙ (device_so c UW n q st i inv may_at in_session valid_here me small read d ∙ (counting_device (W1.device d) q (is_held_in t.devices d) ∙ g.device d)))) (tied d);
+        (sym (ap (λ z. z.device) (is_so d) ∙ (device_so c UW n q st i inv may_at in_session valid_here me small read d ∙ (counting_device (with_count.device d) q (is_held_in t.devices d) ∙ g.device d)))) (tied d);
     at = installed_at c UW n q st i inv may_at in_session valid_here me small read V (going x a k) [] is_so tt tt counted_at epoch;
   };
   counted = λ d. subst (λ z. ((V.device d).attempt z).counted ≡ true) epoch (ap (λ f. (f q).counted) (attempts_same d) ∙ ap (λ (z : attempt.Attempt). z.counted) (attempt_so d));
@@ -363,62 +363,62 @@ counts_go c W n x st a k i devices reached tied at seat under me small is_reache
     g : CallGoes S W n (turn a k)
     g = calls_go S W n a k reached is_reached may own known has_after (subst (λ o. AttemptAt W o) under at.attempt) told
 
-    W1 : Whole
-    W1 = g.machine
+    with_count : Whole
+    with_count = g.machine
 
-    order : InOrder S W1
-    order = (run_goes S W g.moves.events W1 (in_order S W reached) g.moves.run).in_order
+    order : InOrder S with_count
+    order = (run_goes S W g.moves.events with_count (in_order S W reached) g.moves.run).in_order
 
-    counts : (d : ℕ) → CountsAt (W1.device d) t d (Some i)
-    counts d = subst (λ o. CountsAt (W1.device d) t d o) given (g.counts d)
+    counts : (d : ℕ) → CountsAt (with_count.device d) t d (Some i)
+    counts d = subst (λ o. CountsAt (with_count.device d) t d o) given (g.counts d)
 
-    counted : (d : ℕ) → sharing.Allowed (W1.device d) (count_at (is_held_in t.devices d) q)
+    counted : (d : ℕ) → sharing.Allowed (with_count.device d) (count_at (is_held_in t.devices d) q)
     counted d = (counts d).0
 
     U : ℕ → Sharing
-    U d = sharing.after (W1.device d) (count_at (is_held_in t.devices d) q)
+    U d = sharing.after (with_count.device d) (count_at (is_held_in t.devices d) q)
 
     UW : Whole
-    UW = record { memberships = W1.memberships; device = U }
+    UW = record { memberships = with_count.memberships; device = U }
 
     inv : (d : ℕ) → Inv (U d)
-    inv d = kept (W1.device d) (count_at (is_held_in t.devices d) q) (order.device d) (counted d)
+    inv d = kept (with_count.device d) (count_at (is_held_in t.devices d) q) (order.device d) (counted d)
 
     nodes_so : (d : ℕ) → (U d).node ≡ (W.device d).node
-    nodes_so d = counting_nodes (W1.device d) q (is_held_in t.devices d) ∙ g.node d
+    nodes_so d = counting_nodes (with_count.device d) q (is_held_in t.devices d) ∙ g.node d
 
-    attempt_so : (d : ℕ) → (U d).attempt q ≡ attempt.counting ((W1.device d).attempt q) (is_held_in t.devices d)
-    attempt_so d = counting_same (W1.device d) q (is_held_in t.devices d)
+    attempt_so : (d : ℕ) → (U d).attempt q ≡ attempt.counting ((with_count.device d).attempt q) (is_held_in t.devices d)
+    attempt_so d = counting_same (with_count.device d) q (is_held_in t.devices d)
 
-    count_at_one : membership.Allowed S W1.memberships (count_of t)
+    count_at_one : membership.Allowed S with_count.memberships (count_of t)
     count_at_one = subst (λ z. membership.Allowed S z (count_of t)) (sym g.memberships) count
 
-    session_one : (W1.memberships.node n).session ≡ q
-    session_one = subst (λ z. (W1.memberships.node z).session ≡ q) at_node count_at_one.0
+    session_one : (with_count.memberships.node n).session ≡ q
+    session_one = subst (λ z. (with_count.memberships.node z).session ≡ q) at_node count_at_one.0
 
-    seeking : (W1.memberships.node n).seeking ≡ true
-    seeking = subst (λ z. (W1.memberships.node z).seeking ≡ true) at_node count_at_one.1
+    seeking : (with_count.memberships.node n).seeking ≡ true
+    seeking = subst (λ z. (with_count.memberships.node z).seeking ≡ true) at_node count_at_one.1
 
     in_session : (d : ℕ) → ((U d).node n).session ≡ q
-    in_session d = ap (λ f. (f n).session) (counting_nodes (W1.device d) q (is_held_in t.devices d)) ∙ (((order.agrees d).node n).session ∙ session_one)
+    in_session d = ap (λ f. (f n).session) (counting_nodes (with_count.device d) q (is_held_in t.devices d)) ∙ (((order.agrees d).node n).session ∙ session_one)
 
-    installed_low : (W1.memberships.node n).saved.installed < q
-    installed_low = subst (λ z. (W1.memberships.node n).saved.installed < z) (sym ((order.memberships.node n).seeking_session seeking) ∙ session_one) ((order.memberships.node n).seeking_installs seeking)
+    installed_low : (with_count.memberships.node n).saved.installed < q
+    installed_low = subst (λ z. (with_count.memberships.node n).saved.installed < z) (sym ((order.memberships.node n).seeking_session seeking) ∙ session_one) ((order.memberships.node n).seeking_installs seeking)
 
-    tried : (W1.memberships.epoch q).tried ≡ true
+    tried : (with_count.memberships.epoch q).tried ≡ true
     tried = subst (λ (z : Memberships). (z.epoch q).tried ≡ true) (sym g.memberships) has_after.tried
 
-    member : (W1.memberships.epoch q).members n ≡ true
-    member = subst (λ z. (W1.memberships.epoch q).members z ≡ true) at_node ((order.memberships.epoch q).tried_member tried)
+    member : (with_count.memberships.epoch q).members n ≡ true
+    member = subst (λ z. (with_count.memberships.epoch q).members z ≡ true) at_node ((order.memberships.epoch q).tried_member tried)
 
     may_at : (d : ℕ) → MayInstall (U d) n
     may_at d =
-        let collected : ((W1.device d).attempt q).collected ≡ true = collected_of (W1.device d) q (is_held_in t.devices d) (counted d) in (
-          subst (λ z. 0 < z) (sym (in_session d)) (below_positive (W1.memberships.node n).saved.installed q installed_low),
+        let collected : ((with_count.device d).attempt q).collected ≡ true = collected_of (with_count.device d) q (is_held_in t.devices d) (counted d) in (
+          subst (λ z. 0 < z) (sym (in_session d)) (below_positive (with_count.memberships.node n).saved.installed q installed_low),
           subst (λ z. ((U d).attempt z).counted ≡ true) (sym (in_session d)) (ap (λ (z : attempt.Attempt). z.counted) (attempt_so d)),
           subst (λ z. ((U d).attempt z).members n ≡ true) (sym (in_session d)) (ap (λ (z : attempt.Attempt). z.members n) (attempt_so d) ∙ (((order.agrees d).attempt q).members collected n ∙ member)),
           subst (λ z. ((U d).node n).installed < z) (sym (in_session d))
-              (subst (λ z. z < q) (sym (ap (λ f. (f n).installed) (counting_nodes (W1.device d) q (is_held_in t.devices d)) ∙ ((order.agrees d).node n).installed)) installed_low),
+              (subst (λ z. z < q) (sym (ap (λ f. (f n).installed) (counting_nodes (with_count.device d) q (is_held_in t.devices d)) ∙ ((order.agrees d).node n).installed)) installed_low),
         )
 
     valid_here : (d : ℕ) → ((U d).node n).valid ≡ has st.saved.valid d
@@ -427,7 +427,7 @@ counts_go c W n x st a k i devices reached tied at seat under me small is_reache
     so : Counted UW q t.devices
     so = record {
       holds = λ d. ap (λ (z : attempt.Attempt). z.holds) (attempt_so d);
-      entry = λ d. entry_same (W1.device d) q (is_held_in t.devices d) (entry_of t.devices d) (counts d).2;
+      entry = λ d. entry_same (with_count.device d) q (is_held_in t.devices d) (entry_of t.devices d) (counts d).2;
     }
 
     apart : AreApart (numbers_of t.plan.attached)
@@ -447,14 +447,14 @@ counts_go c W n x st a k i devices reached tied at seat under me small is_reache
     may_join = allowed c UW n q st i inv may_at in_session valid_here me small read
 
     V : Whole
-    V = whole.after W1 (Membership (count_of t) joined)
+    V = whole.after with_count (Membership (count_of t) joined)
 
     is_so : (d : ℕ) → V.device d ≡ sharing.after (U d) (install_at (joined d) n)
     is_so d = ap (λ z. sharing.after (U d) (install_at (joined d) z)) at_node
 
-    quorum : whole.CountsQuorum S W1 (count_of t)
+    quorum : whole.CountsQuorum S with_count (count_of t)
     quorum d held under_votes =
-        quorum_so c (W1.device d) q d t (entry_of t.devices d) (reached_more a k may is_reached) votes (counts d).1.apart refl (counts d).2 held (has_votes c ((W1.memberships.node t.newest).showed q) d under_votes)
+        quorum_so c (with_count.device d) q d t (entry_of t.devices d) (reached_more a k may is_reached) votes (counts d).1.apart refl (counts d).2 held (has_votes c ((with_count.memberships.node t.newest).showed q) d under_votes)
 
     counted_at : AttemptAt V (Some t)
     counted_at d = subst (λ z. DeviceHas z t d) (sym (is_so d)) (has_at c UW n q st i inv may_at in_session valid_here me small read t d (counts d).1)
