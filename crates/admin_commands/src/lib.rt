@@ -17,4 +17,5 @@ mod voting;
 
 pub use accepted::Accepted;
 pub use checking::check;
-pub use error::CheckError;
+pub use cycles::cycle;
+pub use error::{CheckError, NoMemory};

@@ -1,14 +1,8 @@
 -- What words spell, or what is wrong with them.
 use Rattle.std.specs.Prelude.{ℕ, nat_lt, List, [], ◌∷◌, length, Option, Some, None, Result, Ok, Err, if◌then◌else◌}
 use Rattle.ccr_tables.specs.declared.command.AdminCommand.{AdminCommand}
-use Rattle.ccr_tables.specs.declared.command.AdminCommand.TheVariants.{Change, Act, Status, Rows}
-use Rattle.ccr_tables.specs.declared.update.Update.{Update}
-use Rattle.ccr_tables.specs.declared.update.Update.TheVariants.{RegisterType}
 use Rattle.admin_words.specs.declared.error.WordError.{WordError}
 use Rattle.admin_words.specs.declared.error.WordError.TheVariants.{UnknownCommand, MissingOperand, BadValue}
-use Rattle.admin_words.specs.declared.request.Request.{Request}
-use Rattle.admin_words.specs.declared.request.Request.TheVariants as request
-use Rattle.admin_words.specs.Methods.{plain_set}
 
 -- an answer that says what is wrong, and none else
 abbrev pub Spelled : Type 0
@@ -31,18 +25,3 @@ chosen least operands words (Some command) = counted (least command) (operands c
 abbrev pub by_word : {C : Type 0} → (List ℕ → Option C) → (C → ℕ) → (C → List (List ℕ) → Option AdminCommand) → List (List ℕ) → Spelled
 by_word command_in least operands [] = Err UnknownCommand
 by_word command_in least operands (word ∷ words) = chosen least operands words (command_in word)
-
--- Which methods it has is all that is known of a set of methods: these are the same with the set of just these.
-abbrev pub plain_update : Update → Update
-plain_update (RegisterType name agent methods single failover) = RegisterType name agent (plain_set methods) single failover
-plain_update u = u
-
-abbrev pub plain : AdminCommand → AdminCommand
-plain (Change u) = Change (plain_update u)
-plain (Act a) = Act a
-plain (Status q) = Status q
-plain (Rows name) = Rows name
-
-abbrev pub plain_request : Request → Request
-plain_request (request.Change u) = request.Change (plain_update u)
-plain_request (request.Act a) = request.Act a

@@ -8,7 +8,7 @@ ghost use Rattle.admin_words.specs.Commands.{address_least, address_operands};
 ghost use Rattle.admin_words.specs.Operands.{one, policy_in, three, two, weights_in};
 ghost use Rattle.admin_words.specs.Spellings.{address_command_in};
 ghost use Rattle.admin_words.specs.declared.error.WordError.TheVariants.{NoMemory};
-ghost use Rattle.admin_words.specs.Answers.{by_word, plain};
+ghost use Rattle.admin_words.specs.Answers.{by_word};
 
 use crate::command::{AddressCommand, address_command};
 use crate::error::WordError;
@@ -25,7 +25,7 @@ pub fn address_words(
     version: Version,
     words: &[&[u8]],
 ) -> Result<AdminCommand, WordError>
-    ensures ok { IfOk result (λ c. by_word address_command_in address_least (address_operands version) (map (λ w. w.now) words.now) ≡ Ok (plain c)) }
+    ensures ok { IfOk result (λ c. by_word address_command_in address_least (address_operands version) (map (λ w. w.now) words.now) ≡ Ok c) }
     ensures err { IfErr result (λ e. (e ≡ NoMemory) ⊎ (by_word address_command_in address_least (address_operands version) (map (λ w. w.now) words.now) ≡ Err e)) }
 {
     let [word, operands @ ..] = words else {
@@ -59,7 +59,7 @@ fn address_operands(
     command: AddressCommand,
     words: &[&[u8]],
 ) -> Result<Option<AdminCommand>, AllocError>
-    ensures { IfOk result (λ found. option_map plain found ≡ address_operands version command (map (λ w. w.now) words.now)) }
+    ensures { IfOk result (λ found. found ≡ address_operands version command (map (λ w. w.now) words.now)) }
 {
     match command {
         AddressCommand::Create => Ok(create_address(words)),
@@ -69,7 +69,7 @@ fn address_operands(
 }
 
 fn create_address(words: &[&[u8]]) -> Option<AdminCommand>
-    ensures { option_map plain result ≡ three name_in name_in policy_in (λ name of_group policy. Change (CreateAddress name of_group policy)) (map (λ w. w.now) words.now) }
+    ensures { result ≡ three name_in name_in policy_in (λ name of_group policy. Change (CreateAddress name of_group policy)) (map (λ w. w.now) words.now) }
 {
     let [of_name, of_group, of_policy] = words else {
         return None;
@@ -85,7 +85,7 @@ fn create_address(words: &[&[u8]]) -> Option<AdminCommand>
 }
 
 fn delete_address(words: &[&[u8]]) -> Option<AdminCommand>
-    ensures { option_map plain result ≡ one name_in (λ name. Change (DeleteAddress name)) (map (λ w. w.now) words.now) }
+    ensures { result ≡ one name_in (λ name. Change (DeleteAddress name)) (map (λ w. w.now) words.now) }
 {
     let [of_name] = words else {
         return None;
@@ -99,7 +99,7 @@ fn set_weights(
     version: Version,
     words: &[&[u8]],
 ) -> Result<Option<AdminCommand>, AllocError>
-    ensures { IfOk result (λ found. option_map plain found ≡ two name_in (weights_in version) (λ name weights. Change (SetWeights name weights)) (map (λ w. w.now) words.now)) }
+    ensures { IfOk result (λ found. found ≡ two name_in (weights_in version) (λ name weights. Change (SetWeights name weights)) (map (λ w. w.now) words.now)) }
 {
     let [of_name, of_weights] = words else {
         return Ok(None);

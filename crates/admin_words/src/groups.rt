@@ -11,7 +11,7 @@ ghost use Rattle.admin_words.specs.Commands.{group_least, group_operands};
 ghost use Rattle.admin_words.specs.Operands.{node_in, none, one, three, two, word_in};
 ghost use Rattle.admin_words.specs.Spellings.{group_command_in};
 ghost use Rattle.admin_words.specs.declared.error.WordError.TheVariants.{NoMemory};
-ghost use Rattle.admin_words.specs.Answers.{by_word, plain};
+ghost use Rattle.admin_words.specs.Answers.{by_word};
 
 use crate::command::{GroupCommand, group_command};
 use crate::error::WordError;
@@ -28,7 +28,7 @@ pub fn group_words(
     version: Version,
     words: &[&[u8]],
 ) -> Result<AdminCommand, WordError>
-    ensures ok { IfOk result (λ c. by_word group_command_in group_least (group_operands version) (map (λ w. w.now) words.now) ≡ Ok (plain c)) }
+    ensures ok { IfOk result (λ c. by_word group_command_in group_least (group_operands version) (map (λ w. w.now) words.now) ≡ Ok c) }
     ensures err { IfErr result (λ e. (e ≡ NoMemory) ⊎ (by_word group_command_in group_least (group_operands version) (map (λ w. w.now) words.now) ≡ Err e)) }
 {
     let [word, operands @ ..] = words else {
@@ -67,7 +67,7 @@ fn group_operands(
     command: GroupCommand,
     words: &[&[u8]],
 ) -> Result<Option<AdminCommand>, AllocError>
-    ensures { IfOk result (λ found. option_map plain found ≡ group_operands version command (map (λ w. w.now) words.now)) }
+    ensures { IfOk result (λ found. found ≡ group_operands version command (map (λ w. w.now) words.now)) }
 {
     match command {
         GroupCommand::Create => create_group(alloc, version, words),
@@ -86,7 +86,7 @@ fn create_group(
     version: Version,
     words: &[&[u8]],
 ) -> Result<Option<AdminCommand>, AllocError>
-    ensures { IfOk result (λ found. option_map plain found ≡ two name_in (nodes_in (most_of version)) (λ name nodes. Change (CreateGroup name nodes)) (map (λ w. w.now) words.now)) }
+    ensures { IfOk result (λ found. found ≡ two name_in (nodes_in (most_of version)) (λ name nodes. Change (CreateGroup name nodes)) (map (λ w. w.now) words.now)) }
 {
     let [of_name, of_nodes] = words else {
         return Ok(None);
@@ -101,7 +101,7 @@ fn create_group(
 }
 
 fn delete_group(words: &[&[u8]]) -> Option<AdminCommand>
-    ensures { option_map plain result ≡ one name_in (λ name. Change (DeleteGroup name)) (map (λ w. w.now) words.now) }
+    ensures { result ≡ one name_in (λ name. Change (DeleteGroup name)) (map (λ w. w.now) words.now) }
 {
     let [of_name] = words else {
         return None;
@@ -111,7 +111,7 @@ fn delete_group(words: &[&[u8]]) -> Option<AdminCommand>
 }
 
 fn set_group(alloc: Global, words: &[&[u8]]) -> Result<Option<AdminCommand>, AllocError>
-    ensures { IfOk result (λ found. option_map plain found ≡ three name_in word_in word_in (λ name property value. Change (SetGroup name property value)) (map (λ w. w.now) words.now)) }
+    ensures { IfOk result (λ found. found ≡ three name_in word_in word_in (λ name property value. Change (SetGroup name property value)) (map (λ w. w.now) words.now)) }
 {
     let [of_name, of_property, of_value] = words else {
         return Ok(None);
@@ -129,7 +129,7 @@ fn set_group(alloc: Global, words: &[&[u8]]) -> Result<Option<AdminCommand>, All
 }
 
 fn change_group(change: GroupChange, words: &[&[u8]]) -> Option<AdminCommand>
-    ensures { option_map plain result ≡ one name_in (λ name. Change (ChangeGroup name change)) (map (λ w. w.now) words.now) }
+    ensures { result ≡ one name_in (λ name. Change (ChangeGroup name change)) (map (λ w. w.now) words.now) }
 {
     let [of_name] = words else {
         return None;
@@ -143,7 +143,7 @@ fn switch_group(
     version: Version,
     words: &[&[u8]],
 ) -> Result<Option<AdminCommand>, AllocError>
-    ensures { IfOk result (λ found. option_map plain found ≡ two name_in (nodes_in (most_of version)) (λ name nodes. Change (SwitchGroup name nodes)) (map (λ w. w.now) words.now)) }
+    ensures { IfOk result (λ found. found ≡ two name_in (nodes_in (most_of version)) (λ name nodes. Change (SwitchGroup name nodes)) (map (λ w. w.now) words.now)) }
 {
     let [of_name, of_nodes] = words else {
         return Ok(None);
@@ -158,7 +158,7 @@ fn switch_group(
 }
 
 fn remaster(words: &[&[u8]]) -> Option<AdminCommand>
-    ensures { option_map plain result ≡ one name_in (λ name. Act (Remaster name)) (map (λ w. w.now) words.now) }
+    ensures { result ≡ one name_in (λ name. Act (Remaster name)) (map (λ w. w.now) words.now) }
 {
     let [of_name] = words else {
         return None;
@@ -168,7 +168,7 @@ fn remaster(words: &[&[u8]]) -> Option<AdminCommand>
 }
 
 fn evacuate(version: Version, words: &[&[u8]]) -> Option<AdminCommand>
-    ensures { option_map plain result ≡ one (node_in version) (λ n. Act (Evacuate n)) (map (λ w. w.now) words.now) }
+    ensures { result ≡ one (node_in version) (λ n. Act (Evacuate n)) (map (λ w. w.now) words.now) }
 {
     let [of_node] = words else {
         return None;
@@ -178,7 +178,7 @@ fn evacuate(version: Version, words: &[&[u8]]) -> Option<AdminCommand>
 }
 
 fn status(words: &[&[u8]]) -> Option<AdminCommand>
-    ensures { option_map plain result ≡ none (Status GroupStatus) (map (λ w. w.now) words.now) }
+    ensures { result ≡ none (Status GroupStatus) (map (λ w. w.now) words.now) }
 {
     match words {
         [] => Some(AdminCommand::Status(Query::GroupStatus)),

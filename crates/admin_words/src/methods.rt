@@ -17,7 +17,7 @@ use update_words::{METHODS, method_word};
 
 /// The set of methods that the word spells.
 pub fn methods(alloc: Global, word: &[u8]) -> Result<Option<MethodSet>, AllocError>
-    ensures { IfOk result (λ found. option_map plain_set found ≡ methods_in word.now) }
+    ensures { IfOk result (λ found. found ≡ methods_in word.now) }
 {
     match method_list(alloc, word)? {
         Some(methods) => Ok(complete_set(&methods)),
@@ -73,10 +73,26 @@ fn named_among(methods: &[Method], word: &[u8]) -> Option<Method>
 
 /// The set of the methods, where they make a resource type.
 fn complete_set(methods: &[Method]) -> Option<MethodSet>
-    ensures { option_map plain_set result ≡ option_map (λ ms. set_of (in_order ms)) (kept_if are_complete (Some methods.now)) }
+    ensures { result ≡ option_map (λ ms. set_of (in_order ms)) (kept_if are_complete (Some methods.now)) }
 {
     let set = set_of(methods);
-    if are_complete(set) { Some(set) } else { None }
+    if are_complete(set) {
+        Some(in_order(set))
+    } else {
+        None
+    }
+}
+
+/// The same methods, put into the set in the order of listing.
+#[tactic(auto, unfolding(update_words::specs::Methods::listed))]
+fn in_order(set: MethodSet) -> MethodSet
+    ensures { result ≡ plain_set set }
+{
+    METHODS
+        .iter()
+        .copied()
+        .filter(|m| set.has(*m))
+        .fold(MethodSet::empty(), |methods, m| methods.with(m))
 }
 
 fn set_of(methods: &[Method]) -> MethodSet

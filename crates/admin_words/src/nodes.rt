@@ -7,7 +7,7 @@ ghost use Rattle.ccr_tables.specs.declared.update.Update.TheVariants.{AddNode, R
 ghost use Rattle.admin_words.specs.Commands.{limit_in, node_least, node_operands};
 ghost use Rattle.admin_words.specs.Operands.{node_in, one, two};
 ghost use Rattle.admin_words.specs.Spellings.{node_command_in};
-ghost use Rattle.admin_words.specs.Answers.{by_word, plain};
+ghost use Rattle.admin_words.specs.Answers.{by_word};
 
 use crate::command::{NodeCommand, node_command};
 use crate::error::WordError;
@@ -18,7 +18,7 @@ use cl_base::Version;
 
 /// The command behind `clnode`.
 pub fn node_words(version: Version, words: &[&[u8]]) -> Result<AdminCommand, WordError>
-    ensures ok { IfOk result (λ c. by_word node_command_in node_least (node_operands version) (map (λ w. w.now) words.now) ≡ Ok (plain c)) }
+    ensures ok { IfOk result (λ c. by_word node_command_in node_least (node_operands version) (map (λ w. w.now) words.now) ≡ Ok c) }
     ensures err { IfErr result (λ e. by_word node_command_in node_least (node_operands version) (map (λ w. w.now) words.now) ≡ Err e) }
 {
     let [word, operands @ ..] = words else {
@@ -48,7 +48,7 @@ fn node_least(command: NodeCommand) -> usize
 }
 
 fn node_operands(version: Version, command: NodeCommand, words: &[&[u8]]) -> Option<AdminCommand>
-    ensures { option_map plain result ≡ node_operands version command (map (λ w. w.now) words.now) }
+    ensures { result ≡ node_operands version command (map (λ w. w.now) words.now) }
 {
     match command {
         NodeCommand::Add => add_node(version, words),
@@ -59,7 +59,7 @@ fn node_operands(version: Version, command: NodeCommand, words: &[&[u8]]) -> Opt
 }
 
 fn add_node(version: Version, words: &[&[u8]]) -> Option<AdminCommand>
-    ensures { option_map plain result ≡ one (node_in version) (λ n. Change (AddNode n)) (map (λ w. w.now) words.now) }
+    ensures { result ≡ one (node_in version) (λ n. Change (AddNode n)) (map (λ w. w.now) words.now) }
 {
     let [of_node] = words else {
         return None;
@@ -69,7 +69,7 @@ fn add_node(version: Version, words: &[&[u8]]) -> Option<AdminCommand>
 }
 
 fn remove_node(version: Version, words: &[&[u8]]) -> Option<AdminCommand>
-    ensures { option_map plain result ≡ one (node_in version) (λ n. Change (RemoveNode n)) (map (λ w. w.now) words.now) }
+    ensures { result ≡ one (node_in version) (λ n. Change (RemoveNode n)) (map (λ w. w.now) words.now) }
 {
     let [of_node] = words else {
         return None;
@@ -79,7 +79,7 @@ fn remove_node(version: Version, words: &[&[u8]]) -> Option<AdminCommand>
 }
 
 fn create_limit(version: Version, words: &[&[u8]]) -> Option<AdminCommand>
-    ensures { option_map plain result ≡ limit_in version (map (λ w. w.now) words.now) }
+    ensures { result ≡ limit_in version (map (λ w. w.now) words.now) }
 {
     let [of_node, of_limit, of_soft, of_hard] = words else {
         return None;
@@ -97,7 +97,7 @@ fn create_limit(version: Version, words: &[&[u8]]) -> Option<AdminCommand>
 }
 
 fn delete_limit(version: Version, words: &[&[u8]]) -> Option<AdminCommand>
-    ensures { option_map plain result ≡ two (node_in version) name_in (λ n limit. Change (DeleteLimit n limit)) (map (λ w. w.now) words.now) }
+    ensures { result ≡ two (node_in version) name_in (λ n limit. Change (DeleteLimit n limit)) (map (λ w. w.now) words.now) }
 {
     let [of_node, of_limit] = words else {
         return None;

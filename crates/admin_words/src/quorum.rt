@@ -4,7 +4,7 @@ ghost use Rattle.std.specs.Option.{option_map};
 ghost use Rattle.cl_base.specs.declared.command.Query.TheVariants.{QuorumStatus};
 ghost use Rattle.ccr_tables.specs.declared.command.AdminCommand.TheVariants.{Change, Status};
 ghost use Rattle.ccr_tables.specs.declared.update.Update.TheVariants.{NodeVote};
-ghost use Rattle.admin_words.specs.Answers.{counted, plain};
+ghost use Rattle.admin_words.specs.Answers.{counted};
 ghost use Rattle.admin_words.specs.Commands.{device_flag, device_operands, quorum_by_word, voter_operands, voters};
 ghost use Rattle.admin_words.specs.Operands.{node_in, none, one};
 
@@ -17,7 +17,7 @@ use cl_base::{Query, Version};
 
 /// The command behind `clq`.
 pub fn quorum_words(version: Version, words: &[&[u8]]) -> Result<AdminCommand, WordError>
-    ensures ok { IfOk result (λ c. quorum_by_word version (map (λ w. w.now) words.now) ≡ Ok (plain c)) }
+    ensures ok { IfOk result (λ c. quorum_by_word version (map (λ w. w.now) words.now) ≡ Ok c) }
     ensures err { IfErr result (λ e. quorum_by_word version (map (λ w. w.now) words.now) ≡ Err e) }
 {
     let [word, rest @ ..] = words else {
@@ -34,7 +34,7 @@ pub fn quorum_words(version: Version, words: &[&[u8]]) -> Result<AdminCommand, W
 }
 
 fn device_words(change: DeviceChange, words: &[&[u8]]) -> Result<AdminCommand, WordError>
-    ensures ok { IfOk result (λ c. counted 1 (device_operands change) (map (λ w. w.now) words.now) ≡ Ok (plain c)) }
+    ensures ok { IfOk result (λ c. counted 1 (device_operands change) (map (λ w. w.now) words.now) ≡ Ok c) }
     ensures err { IfErr result (λ e. counted 1 (device_operands change) (map (λ w. w.now) words.now) ≡ Err e) }
 {
     if are_fewer(words, 1) {
@@ -47,7 +47,7 @@ fn device_words(change: DeviceChange, words: &[&[u8]]) -> Result<AdminCommand, W
 }
 
 fn device_operands(change: DeviceChange, words: &[&[u8]]) -> Option<AdminCommand>
-    ensures { option_map plain result ≡ device_operands change (map (λ w. w.now) words.now) }
+    ensures { result ≡ device_operands change (map (λ w. w.now) words.now) }
 {
     let [of_device] = words else {
         return None;
@@ -58,7 +58,7 @@ fn device_operands(change: DeviceChange, words: &[&[u8]]) -> Option<AdminCommand
 
 /// The command behind `clq enable` and `clq disable`.
 fn voter_words(version: Version, enable: bool, words: &[&[u8]]) -> Result<AdminCommand, WordError>
-    ensures ok { IfOk result (λ c. voters version enable (map (λ w. w.now) words.now) ≡ Ok (plain c)) }
+    ensures ok { IfOk result (λ c. voters version enable (map (λ w. w.now) words.now) ≡ Ok c) }
     ensures err { IfErr result (λ e. voters version enable (map (λ w. w.now) words.now) ≡ Err e) }
 {
     let [word, operands @ ..] = words else {
@@ -82,7 +82,7 @@ fn voter_operands(
     of_voter: Voter,
     words: &[&[u8]],
 ) -> Option<AdminCommand>
-    ensures { option_map plain result ≡ voter_operands version enable of_voter (map (λ w. w.now) words.now) }
+    ensures { result ≡ voter_operands version enable of_voter (map (λ w. w.now) words.now) }
 {
     match of_voter {
         Voter::Device => device_operands(device_flag(enable), words),
@@ -101,7 +101,7 @@ fn device_flag(enable: bool) -> DeviceChange
 }
 
 fn node_vote(version: Version, vote: bool, words: &[&[u8]]) -> Option<AdminCommand>
-    ensures { option_map plain result ≡ one (node_in version) (λ n. Change (NodeVote n vote)) (map (λ w. w.now) words.now) }
+    ensures { result ≡ one (node_in version) (λ n. Change (NodeVote n vote)) (map (λ w. w.now) words.now) }
 {
     let [of_node] = words else {
         return None;
@@ -111,7 +111,7 @@ fn node_vote(version: Version, vote: bool, words: &[&[u8]]) -> Option<AdminComma
 }
 
 fn status(words: &[&[u8]]) -> Result<AdminCommand, WordError>
-    ensures ok { IfOk result (λ c. counted 0 (none (Status QuorumStatus)) (map (λ w. w.now) words.now) ≡ Ok (plain c)) }
+    ensures ok { IfOk result (λ c. counted 0 (none (Status QuorumStatus)) (map (λ w. w.now) words.now) ≡ Ok c) }
     ensures err { IfErr result (λ e. counted 0 (none (Status QuorumStatus)) (map (λ w. w.now) words.now) ≡ Err e) }
 {
     match words {

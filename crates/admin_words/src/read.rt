@@ -3,7 +3,7 @@ ghost use Rattle.std.specs.Prelude.{◌≡◌, ◌⊎◌, map, Ok, Err, IfOk, If
 ghost use Rattle.rg_props.specs.Words.{name_in};
 ghost use Rattle.ccr_tables.specs.declared.command.AdminCommand.TheVariants.{Rows};
 ghost use Rattle.admin_words.specs.declared.error.WordError.TheVariants.{NoMemory};
-ghost use Rattle.admin_words.specs.Answers.{counted, plain};
+ghost use Rattle.admin_words.specs.Answers.{counted};
 ghost use Rattle.admin_words.specs.Commands.{command_in, command_of};
 ghost use Rattle.admin_words.specs.Operands.{one};
 
@@ -25,7 +25,7 @@ use std::alloc::Global;
 /// this order: the first words are no command's; there are fewer operands than the command has; a
 /// word is not of its operand's form or range, or is one too many.
 pub fn parse(alloc: Global, version: Version, words: &[u8]) -> Result<AdminCommand, WordError>
-    ensures ok { IfOk result (λ c. command_of version words.now ≡ Ok (plain c)) }
+    ensures ok { IfOk result (λ c. command_of version words.now ≡ Ok c) }
     ensures err { IfErr result (λ e. (e ≡ NoMemory) ⊎ (command_of version words.now ≡ Err e)) }
 {
     let words = parts(alloc, words, b' ')?;
@@ -35,7 +35,7 @@ pub fn parse(alloc: Global, version: Version, words: &[u8]) -> Result<AdminComma
 #[tactic(auto, unfolding(crate::specs::Commands::command_in))]
 /// The command of these words.
 pub fn command(alloc: Global, version: Version, words: &[&[u8]]) -> Result<AdminCommand, WordError>
-    ensures ok { IfOk result (λ c. command_in version (map (λ w. w.now) words.now) ≡ Ok (plain c)) }
+    ensures ok { IfOk result (λ c. command_in version (map (λ w. w.now) words.now) ≡ Ok c) }
     ensures err { IfErr result (λ e. (e ≡ NoMemory) ⊎ (command_in version (map (λ w. w.now) words.now) ≡ Err e)) }
 {
     let [word, rest @ ..] = words else {
@@ -54,7 +54,7 @@ pub fn command(alloc: Global, version: Version, words: &[&[u8]]) -> Result<Admin
 }
 
 fn rows(words: &[&[u8]]) -> Result<AdminCommand, WordError>
-    ensures ok { IfOk result (λ c. counted 1 (one name_in (λ name. Rows name)) (map (λ w. w.now) words.now) ≡ Ok (plain c)) }
+    ensures ok { IfOk result (λ c. counted 1 (one name_in (λ name. Rows name)) (map (λ w. w.now) words.now) ≡ Ok c) }
     ensures err { IfErr result (λ e. counted 1 (one name_in (λ name. Rows name)) (map (λ w. w.now) words.now) ≡ Err e) }
 {
     let [first, more @ ..] = words else {

@@ -2,7 +2,6 @@
 ghost use Rattle.std.specs.Prelude.{◌≡◌, ◌⊎◌, map, codes, Ok, Err, IfOk, IfErr};
 ghost use Rattle.rg_props.specs.Words.{name_in};
 ghost use Rattle.admin_words.specs.declared.error.WordError.TheVariants.{NoMemory};
-ghost use Rattle.admin_words.specs.Answers.{plain_request};
 ghost use Rattle.admin_words.specs.Commands.{command_in, as_request, name_request, request_in, request_of};
 
 use crate::error::WordError;
@@ -25,7 +24,7 @@ pub enum Request {
 /// What the text of a request asks for: `restart R`, `move R`, or what a command changes or asks the
 /// president to do. A query is no request.
 pub fn parse_request(alloc: Global, version: Version, text: &[u8]) -> Result<Request, WordError>
-    ensures ok { IfOk result (λ r. request_of version text.now ≡ Ok (plain_request r)) }
+    ensures ok { IfOk result (λ r. request_of version text.now ≡ Ok r) }
     ensures err { IfErr result (λ e. (e ≡ NoMemory) ⊎ (request_of version text.now ≡ Err e)) }
 {
     let words = parts(alloc, text, b' ')?;
@@ -34,7 +33,7 @@ pub fn parse_request(alloc: Global, version: Version, text: &[u8]) -> Result<Req
 
 #[tactic(auto, unfolding(crate::specs::Commands::request_in))]
 fn words_request(alloc: Global, version: Version, words: &[&[u8]]) -> Result<Request, WordError>
-    ensures ok { IfOk result (λ r. request_in version (map (λ w. w.now) words.now) ≡ Ok (plain_request r)) }
+    ensures ok { IfOk result (λ r. request_in version (map (λ w. w.now) words.now) ≡ Ok r) }
     ensures err { IfErr result (λ e. (e ≡ NoMemory) ⊎ (request_in version (map (λ w. w.now) words.now) ≡ Err e)) }
 {
     let [word, rest @ ..] = words else {
@@ -64,7 +63,7 @@ fn resource(words: &[&[u8]]) -> Result<Name, WordError>
 }
 
 fn command_request(alloc: Global, version: Version, words: &[&[u8]]) -> Result<Request, WordError>
-    ensures ok { IfOk result (λ r. as_request (command_in version (map (λ w. w.now) words.now)) ≡ Ok (plain_request r)) }
+    ensures ok { IfOk result (λ r. as_request (command_in version (map (λ w. w.now) words.now)) ≡ Ok r) }
     ensures err { IfErr result (λ e. (e ≡ NoMemory) ⊎ (as_request (command_in version (map (λ w. w.now) words.now)) ≡ Err e)) }
 {
     match command(alloc, version, words)? {

@@ -10,7 +10,7 @@ ghost use Rattle.admin_words.specs.Commands.{resource_least, resource_operands};
 ghost use Rattle.admin_words.specs.Operands.{node_in, none, one, three, two, word_in};
 ghost use Rattle.admin_words.specs.Spellings.{resource_command_in};
 ghost use Rattle.admin_words.specs.declared.error.WordError.TheVariants.{NoMemory};
-ghost use Rattle.admin_words.specs.Answers.{by_word, plain};
+ghost use Rattle.admin_words.specs.Answers.{by_word};
 
 use crate::command::{ResourceCommand, resource_command};
 use crate::error::WordError;
@@ -26,7 +26,7 @@ pub fn resource_words(
     version: Version,
     words: &[&[u8]],
 ) -> Result<AdminCommand, WordError>
-    ensures ok { IfOk result (λ c. by_word resource_command_in resource_least (resource_operands version) (map (λ w. w.now) words.now) ≡ Ok (plain c)) }
+    ensures ok { IfOk result (λ c. by_word resource_command_in resource_least (resource_operands version) (map (λ w. w.now) words.now) ≡ Ok c) }
     ensures err { IfErr result (λ e. (e ≡ NoMemory) ⊎ (by_word resource_command_in resource_least (resource_operands version) (map (λ w. w.now) words.now) ≡ Err e)) }
 {
     let [word, operands @ ..] = words else {
@@ -63,7 +63,7 @@ fn resource_operands(
     command: ResourceCommand,
     words: &[&[u8]],
 ) -> Result<Option<AdminCommand>, AllocError>
-    ensures { IfOk result (λ found. option_map plain found ≡ resource_operands version command (map (λ w. w.now) words.now)) }
+    ensures { IfOk result (λ found. found ≡ resource_operands version command (map (λ w. w.now) words.now)) }
 {
     match command {
         ResourceCommand::Create => Ok(create_resource(words)),
@@ -76,7 +76,7 @@ fn resource_operands(
 }
 
 fn create_resource(words: &[&[u8]]) -> Option<AdminCommand>
-    ensures { option_map plain result ≡ three name_in name_in name_in (λ name of_group of_type. Change (CreateResource name of_group of_type)) (map (λ w. w.now) words.now) }
+    ensures { result ≡ three name_in name_in name_in (λ name of_group of_type. Change (CreateResource name of_group of_type)) (map (λ w. w.now) words.now) }
 {
     let [of_name, of_group, of_type] = words else {
         return None;
@@ -92,7 +92,7 @@ fn create_resource(words: &[&[u8]]) -> Option<AdminCommand>
 }
 
 fn delete_resource(words: &[&[u8]]) -> Option<AdminCommand>
-    ensures { option_map plain result ≡ one name_in (λ name. Change (DeleteResource name)) (map (λ w. w.now) words.now) }
+    ensures { result ≡ one name_in (λ name. Change (DeleteResource name)) (map (λ w. w.now) words.now) }
 {
     let [of_name] = words else {
         return None;
@@ -102,7 +102,7 @@ fn delete_resource(words: &[&[u8]]) -> Option<AdminCommand>
 }
 
 fn set_resource(alloc: Global, words: &[&[u8]]) -> Result<Option<AdminCommand>, AllocError>
-    ensures { IfOk result (λ found. option_map plain found ≡ three name_in word_in word_in (λ name property value. Change (SetResource name property value)) (map (λ w. w.now) words.now)) }
+    ensures { IfOk result (λ found. found ≡ three name_in word_in word_in (λ name property value. Change (SetResource name property value)) (map (λ w. w.now) words.now)) }
 {
     let [of_name, of_property, of_value] = words else {
         return Ok(None);
@@ -120,7 +120,7 @@ fn set_resource(alloc: Global, words: &[&[u8]]) -> Result<Option<AdminCommand>, 
 }
 
 fn change_resource(change: ResourceChange, words: &[&[u8]]) -> Option<AdminCommand>
-    ensures { option_map plain result ≡ one name_in (λ name. Change (ChangeResource name change)) (map (λ w. w.now) words.now) }
+    ensures { result ≡ one name_in (λ name. Change (ChangeResource name change)) (map (λ w. w.now) words.now) }
 {
     let [of_name] = words else {
         return None;
@@ -130,7 +130,7 @@ fn change_resource(change: ResourceChange, words: &[&[u8]]) -> Option<AdminComma
 }
 
 fn clear(version: Version, words: &[&[u8]]) -> Option<AdminCommand>
-    ensures { option_map plain result ≡ two name_in (node_in version) (λ name n. Act (Clear name n)) (map (λ w. w.now) words.now) }
+    ensures { result ≡ two name_in (node_in version) (λ name n. Act (Clear name n)) (map (λ w. w.now) words.now) }
 {
     let [of_name, of_node] = words else {
         return None;
@@ -141,7 +141,7 @@ fn clear(version: Version, words: &[&[u8]]) -> Option<AdminCommand>
 }
 
 fn status(words: &[&[u8]]) -> Option<AdminCommand>
-    ensures { option_map plain result ≡ none (Status ResourceStatus) (map (λ w. w.now) words.now) }
+    ensures { result ≡ none (Status ResourceStatus) (map (λ w. w.now) words.now) }
 {
     match words {
         [] => Some(AdminCommand::Status(Query::ResourceStatus)),

@@ -8,7 +8,7 @@ ghost use Rattle.admin_words.specs.Commands.{register_in, type_least, type_opera
 ghost use Rattle.admin_words.specs.Operands.{both_flags_in, flag_in, flags_in, one};
 ghost use Rattle.admin_words.specs.Spellings.{type_command_in};
 ghost use Rattle.admin_words.specs.declared.error.WordError.TheVariants.{NoMemory};
-ghost use Rattle.admin_words.specs.Answers.{by_word, plain};
+ghost use Rattle.admin_words.specs.Answers.{by_word};
 
 use crate::command::{TypeCommand, type_command};
 use crate::error::WordError;
@@ -20,7 +20,7 @@ use std::alloc::{AllocError, Global};
 
 /// The command behind `clrt`.
 pub fn type_words(alloc: Global, words: &[&[u8]]) -> Result<AdminCommand, WordError>
-    ensures ok { IfOk result (λ c. by_word type_command_in type_least type_operands (map (λ w. w.now) words.now) ≡ Ok (plain c)) }
+    ensures ok { IfOk result (λ c. by_word type_command_in type_least type_operands (map (λ w. w.now) words.now) ≡ Ok c) }
     ensures err { IfErr result (λ e. (e ≡ NoMemory) ⊎ (by_word type_command_in type_least type_operands (map (λ w. w.now) words.now) ≡ Err e)) }
 {
     let [word, operands @ ..] = words else {
@@ -52,7 +52,7 @@ fn type_operands(
     command: TypeCommand,
     words: &[&[u8]],
 ) -> Result<Option<AdminCommand>, AllocError>
-    ensures { IfOk result (λ found. option_map plain found ≡ type_operands command (map (λ w. w.now) words.now)) }
+    ensures { IfOk result (λ found. found ≡ type_operands command (map (λ w. w.now) words.now)) }
 {
     match command {
         TypeCommand::Register => register(alloc, words),
@@ -61,7 +61,7 @@ fn type_operands(
 }
 
 fn register(alloc: Global, words: &[&[u8]]) -> Result<Option<AdminCommand>, AllocError>
-    ensures { IfOk result (λ found. option_map plain found ≡ register_in (map (λ w. w.now) words.now)) }
+    ensures { IfOk result (λ found. found ≡ register_in (map (λ w. w.now) words.now)) }
 {
     let [of_name, of_agent, of_methods, of_flags @ ..] = words else {
         return Ok(None);
@@ -142,7 +142,7 @@ fn both_flags(first: &[u8], second: &[u8]) -> Option<Flags>
 }
 
 fn unregister(words: &[&[u8]]) -> Option<AdminCommand>
-    ensures { option_map plain result ≡ one name_in (λ name. Change (UnregisterType name)) (map (λ w. w.now) words.now) }
+    ensures { result ≡ one name_in (λ name. Change (UnregisterType name)) (map (λ w. w.now) words.now) }
 {
     let [of_name] = words else {
         return None;

@@ -10,6 +10,6 @@ mod rows;
 
 pub use error::{Digest, TextError};
 pub use laws::texts_have_their_length;
-pub use print::print_table;
+pub use print::{checksum, print_table};
 pub use read::read_table;
 pub use rows::{Row, TableRows};

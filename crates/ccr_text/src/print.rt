@@ -1,4 +1,5 @@
 ghost use Rattle.std.specs.Prelude.{◌≡◌, ◌++◌, ◌∷◌, [], IfOk, OnOk, codes, string_bytes};
+ghost use Rattle.sha2.specs.Sha256.{sha256};
 ghost use Rattle.ccr_text.specs.TableText.{AreRows, gennum_line, checksum_line, row_line, row_lines, table_text};
 
 use crate::rows::{Row, TableRows};
@@ -15,6 +16,14 @@ pub fn print_table(alloc: Global, gennum: u64, rows: &TableRows) -> Result<Vec<u
     let mut text = print_head(alloc, gennum, &digest)?;
     text.extend_from_slice(body.as_slice())?;
     Ok(text)
+}
+
+/// The SHA-256 of the rows' lines, which is the table's checksum (FIPS 180-4, section 6.2).
+pub fn checksum(alloc: Global, rows: &TableRows) -> Result<[u8; 32], AllocError>
+    ensures value { IfOk result (λ digest. digest ≡ sha256 (row_lines rows.now)) }
+{
+    let body = print_rows(alloc, rows.items())?;
+    Ok(Sha256::digest(body.as_slice()))
 }
 
 fn print_head(alloc: Global, gennum: u64, digest: &[u8]) -> Result<Vec<u8>, AllocError>

@@ -406,5 +406,9 @@ newest_installed s = option_map (λ p. p.shown.summary.installed) (find (is_from
 abbrev pub promise_from : AttemptState → ℕ → Option Message
 promise_from s n = option_map (λ p. p.message) (find (is_from n) s.promises)
 
+-- the Promise with the newest record: the coordinator's own until all have promised
+abbrev pub newest_promise : AttemptState → Option Message
+newest_promise s = promise_from s s.newest
+
 abbrev pub ready_from : AttemptState → ℕ → Option Message
 ready_from s n = option_map (λ r. r.message) (find (λ r. r.node == n) s.readies)

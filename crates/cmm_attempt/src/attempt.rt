@@ -5,7 +5,7 @@ ghost use Rattle.cl_base.specs.Sets.{has};
 ghost use Rattle.cmm_attempt.specs.Seizings.{held_set};
 ghost use Rattle.cmm_attempt.specs.declared.phase.Phase.TheVariants.{Choosing, Over};
 ghost use Rattle.cmm_attempt.specs.declared.counting.BothVotes.{BothVotes};
-ghost use Rattle.cmm_attempt.specs.Attempts.{with_steps, ends, in_phase, beginning, taking, voting, own_answering, own_readying, ticking, is_of, IsPromiseOf, HasFewKeys, newest_installed, promise_from, ready_from};
+ghost use Rattle.cmm_attempt.specs.Attempts.{with_steps, ends, in_phase, beginning, taking, voting, own_answering, own_readying, ticking, is_of, IsPromiseOf, HasFewKeys, newest_installed, newest_promise, promise_from, ready_from};
 
 mod asking;
 mod collecting;
@@ -199,6 +199,13 @@ impl Attempt {
     {
         let newest = promise_from(self.promises.as_slice(), self.newest)?;
         Some(newest.shown.summary.installed)
+    }
+
+    /// The Promise with the newest record; until all have promised, the coordinator's own.
+    pub fn newest_promise(&self) -> Option<&Message>
+        ensures value { option_copied result ≡ newest_promise self.now }
+    {
+        promise_from(self.promises.as_slice(), self.newest).map(|p| &p.message)
     }
 
     /// Whether it has ended, or the membership starts: no call does anything then.

@@ -140,45 +140,29 @@ updates_more texts i text low here =
     ap rows_length (update_rows-more texts i text low here)
     ∙ omega (arith, rows_append (update_rows 0 (take i texts)) (row (codes "update." ++ decimal (i + 1)) text ∷ []), length-append (codes "update.") (decimal (i + 1)))
 
-pub all_none : (xs : List (List ℕ)) (update : List ℕ) → rows_length (update_rows 0 ((xs ++ []) ++ update ∷ [])) ≡ rows_length (update_rows 0 xs) + (9 + length (decimal (length xs + 1)) + length update)
-all_none xs update =
-    let place : 0 + length (xs ++ []) ≡ length xs = omega (arith, length-append xs []) in
-    omega (arith, updates_append 0 (xs ++ []) (update ∷ []), updates_append 0 xs [], updates_one (0 + length (xs ++ [])) update, ap (λ n. length (decimal (n + 1))) place)
-
-pub all_some : (xs : List (List ℕ)) (text update : List ℕ) → rows_length (update_rows 0 ((xs ++ text ∷ []) ++ update ∷ []))
-    ≡ rows_length (update_rows 0 xs) + (9 + length (decimal (length xs + 1)) + length text) + (9 + length (decimal (length xs + 1 + 1)) + length update)
-all_some xs text update =
-    let place : 0 + length (xs ++ text ∷ []) ≡ length xs + 1 = omega (arith, length-append xs (text ∷ [])) in
-    let first : 0 + length xs ≡ length xs = omega arith in
-    omega (
-      arith,
-      updates_append 0 (xs ++ text ∷ []) (update ∷ []),
-      updates_append 0 xs (text ∷ []),
-      updates_one (0 + length xs) text,
-      updates_one (0 + length (xs ++ text ∷ [])) update,
-      ap (λ n. length (decimal (n + 1))) place,
-      ap (λ n. length (decimal (n + 1))) first,
-    )
-
 -- the row of an update at a place
 abbrev pub one_row : ℕ → List ℕ → ℕ
 one_row place text = 9 + length (decimal place) + length text
 
-pub total_none : (e : EntryList) (update : List ℕ) (xs : List (List ℕ)) (before added total : ℕ) → None ≡ e.pending → xs ≡ e.committed → before ≡ capped (rows_length (update_rows 0 xs)) → added ≡ capped (one_row (length xs + 1) update)
-    → total ≡ capped (before + added) → total ≡ capped (rows_length (update_rows 0 (texts_of e ++ update ∷ [])))
-total_none e update xs before added total ep ex eb ea et =
-    let whole : rows_length (update_rows 0 (texts_of e ++ update ∷ [])) ≡ rows_length (update_rows 0 xs) + one_row (length xs + 1) update =
-    ap (λ p. rows_length (update_rows 0 ((e.committed ++ listed p) ++ update ∷ []))) (sym ep) ∙ all_none e.committed update
-    ∙ ap (λ ys. rows_length (update_rows 0 ys) + one_row (length ys + 1) update) (sym ex) in
-    et ∙ capped_sum (rows_length (update_rows 0 xs)) (one_row (length xs + 1) update) before added eb ea ∙ ap capped (sym whole)
+all_none : (xs : List (List ℕ)) → rows_length (update_rows 0 (xs ++ [])) ≡ rows_length (update_rows 0 xs)
+all_none xs = omega (arith, updates_append 0 xs [])
 
-pub total_some : (e : EntryList) (text update : List ℕ) (xs : List (List ℕ)) (before first middle second total : ℕ) → Some text ≡ e.pending → xs ≡ e.committed → before ≡ capped (rows_length (update_rows 0 xs))
-    → first ≡ capped (one_row (length xs + 1) text) → middle ≡ capped (before + first) → second ≡ capped (one_row (length xs + 1 + 1) update) → total ≡ capped (middle + second)
-    → total ≡ capped (rows_length (update_rows 0 (texts_of e ++ update ∷ [])))
-total_some e text update xs before first middle second total ep ex eb ef em es et =
+all_some : (xs : List (List ℕ)) (text : List ℕ) → rows_length (update_rows 0 (xs ++ text ∷ [])) ≡ rows_length (update_rows 0 xs) + one_row (length xs + 1) text
+all_some xs text =
+    let first : 0 + length xs ≡ length xs = omega arith in
+    omega (arith, updates_append 0 xs (text ∷ []), updates_one (0 + length xs) text, ap (λ n. length (decimal (n + 1))) first)
+
+pub total_none : (e : EntryList) (xs : List (List ℕ)) (total : ℕ) → None ≡ e.pending → xs ≡ e.committed → total ≡ capped (rows_length (update_rows 0 xs)) → total ≡ capped (rows_length (update_rows 0 (texts_of e)))
+total_none e xs total ep ex et =
+    let whole : rows_length (update_rows 0 (texts_of e)) ≡ rows_length (update_rows 0 xs) =
+    ap (λ p. rows_length (update_rows 0 (e.committed ++ listed p))) (sym ep) ∙ all_none e.committed ∙ ap (λ ys. rows_length (update_rows 0 ys)) (sym ex) in
+    et ∙ ap capped (sym whole)
+
+pub total_some : (e : EntryList) (text : List ℕ) (xs : List (List ℕ)) (before added total : ℕ) → Some text ≡ e.pending → xs ≡ e.committed → before ≡ capped (rows_length (update_rows 0 xs))
+    → added ≡ capped (one_row (length xs + 1) text) → total ≡ capped (before + added) → total ≡ capped (rows_length (update_rows 0 (texts_of e)))
+total_some e text xs before added total ep ex eb ea et =
     let rows : ℕ = rows_length (update_rows 0 xs) in
-    let whole : rows_length (update_rows 0 (texts_of e ++ update ∷ [])) ≡ rows_length (update_rows 0 xs) + one_row (length xs + 1) text + one_row (length xs + 1 + 1) update =
-    ap (λ p. rows_length (update_rows 0 ((e.committed ++ listed p) ++ update ∷ []))) (sym ep) ∙ all_some e.committed text update
-    ∙ ap (λ ys. rows_length (update_rows 0 ys) + one_row (length ys + 1) text + one_row (length ys + 1 + 1) update) (sym ex) in
-    let half : middle ≡ capped (rows + one_row (length xs + 1) text) = em ∙ capped_sum rows (one_row (length xs + 1) text) before first eb ef in
-    et ∙ capped_sum (rows + one_row (length xs + 1) text) (one_row (length xs + 1 + 1) update) middle second half es ∙ ap capped (sym whole)
+    let whole : rows_length (update_rows 0 (texts_of e)) ≡ rows + one_row (length xs + 1) text =
+    ap (λ p. rows_length (update_rows 0 (e.committed ++ listed p))) (sym ep) ∙ all_some e.committed text
+    ∙ ap (λ ys. rows_length (update_rows 0 ys) + one_row (length ys + 1) text) (sym ex) in
+    et ∙ capped_sum rows (one_row (length xs + 1) text) before added eb ea ∙ ap capped (sym whole)

@@ -16,37 +16,33 @@ use std::alloc::{AllocError, Global};
 /// and the two epochs.
 const FIXED: u64 = 187;
 
-/// The length that a record has with these members and valid devices, with the updates in `entries`
-/// and then this one, all of them committed, and with 20 digits for the number of saves and for each
-/// epoch.
+/// The length that a record has with these members and valid devices, with the updates in `entries`,
+/// all of them committed, and with 20 digits for the number of saves and for each epoch.
 pub fn full_record_length(
     alloc: Global,
     members: NodeSet,
     valid: DevSet,
     entries: &Entries,
-    update: &[u8],
 ) -> Result<u64, AllocError>
-    ensures value { IfOk result (λ n. n ≡ min (full_length members valid (texts_of entries.now ++ update.now ∷ [])) (2 ^ 64 - 1)) }
+    ensures value { IfOk result (λ n. n ≡ min (full_length members valid (texts_of entries.now)) (2 ^ 64 - 1)) }
 {
     let members = members.text(alloc)?.len() as u64;
     let valid = valid.text(alloc)?.len() as u64;
     let sets = members.saturating_add(valid);
-    let updates = updates_length(entries, update);
+    let updates = updates_length(entries);
     Ok(FIXED.saturating_add(sets).saturating_add(updates))
 }
 
 /// The length of the rows of all these updates.
-fn updates_length(entries: &Entries, update: &[u8]) -> u64
-    ensures { result ≡ min (rows_length (update_rows 0 (texts_of entries.now ++ update.now ∷ []))) (2 ^ 64 - 1) }
+fn updates_length(entries: &Entries) -> u64
+    ensures { result ≡ min (rows_length (update_rows 0 (texts_of entries.now))) (2 ^ 64 - 1) }
 {
     let committed = entries.committed();
     let place = committed.len() as u64 + 1;
     let length = committed_length(committed);
     match entries.pending() {
-        None => length.saturating_add(update_length(place, update)),
-        Some(text) => length
-            .saturating_add(update_length(place, text.items()))
-            .saturating_add(update_length(place + 1, update)),
+        None => length,
+        Some(text) => length.saturating_add(update_length(place, text.items())),
     }
 }
 

@@ -1,16 +1,14 @@
 use Rattle.std.proofs.Common.{◌+◌, length, ap, ◌∙◌}
-use Rattle.std.specs.Prelude.{Some}
 use Rattle.cmm_member.proofs.TextLemmas.{capped, one_row, total_none, total_some}
 use Rattle.cmm_member.proofs.lengths.updates_length.Goals as goal
 
 pub returns-in-None : goal.returns-in-None
 returns-in-None c =
-    total_none c.args.entries.now c.args.update.now c.committed-committed.result.now c.committed_length-length.result c.update_length.result c.saturating_add.result
-    c.in-None.ensures.value c.committed-committed.ensures.value c.committed_length-length.ensures c.update_length.ensures c.saturating_add.ensures
+    total_none c.args.entries.now c.committed-committed.result.now c.committed_length-length.result c.in-None.ensures.value c.committed-committed.ensures.value c.committed_length-length.ensures
 
 pub returns-in-Some : goal.returns-in-Some
 returns-in-Some c =
     let xs = c.committed-committed.result.now in
-    let first = c.update_length-in-Some.ensures ∙ ap (λ t. capped (one_row (length xs + 1) t)) c.items.ensures.value in
-    total_some c.args.entries.now c.in-Some.text.now c.args.update.now xs c.committed_length-length.result c.update_length-in-Some.result c.saturating_add-in-Some.result c.update_length-in-Some-2.result c.saturating_add-in-Some-2.result
-    c.in-Some.ensures.value c.committed-committed.ensures.value c.committed_length-length.ensures first c.saturating_add-in-Some.ensures c.update_length-in-Some-2.ensures c.saturating_add-in-Some-2.ensures
+    let added = c.update_length-in-Some.ensures ∙ ap (λ t. capped (one_row (length xs + 1) t)) c.items.ensures.value in
+    total_some c.args.entries.now c.in-Some.text.now xs c.committed_length-length.result c.update_length-in-Some.result c.saturating_add-in-Some.result
+    c.in-Some.ensures.value c.committed-committed.ensures.value c.committed_length-length.ensures added c.saturating_add-in-Some.ensures
