@@ -12,12 +12,14 @@ use Rattle.cmm_attempt.specs.declared.step.AttemptEnd.{AttemptEnd}
 use Rattle.cmm_attempt.specs.declared.step.AttemptEnd.TheVariants as end
 use Rattle.cmm_attempt.specs.declared.step.Step.{Step}
 use Rattle.cmm_attempt.specs.declared.step.Step.TheVariants as step
-use Rattle.cmm_attempt.specs.Attempts.{AttemptState, Turn, beginning, voting, own_readying, newest_installed}
+use Rattle.cmm_attempt.specs.Attempts.{AttemptState, Turn, beginning, voting, own_readying, newest_installed, newest_promise}
 use Rattle.cmm_attempt.specs.Seizings.{held_set}
 use Rattle.cmm_member.specs.Nodes.{NodeState, installed_with, started}
 use Rattle.cmm_member.specs.Records.{NodeRecord}
 use Rattle.device_queue.specs.declared.task.Task.{Task}
 use Rattle.device_queue.specs.Queue.{after_join, after_seize, joins}
+use Rattle.proposals.specs.State.{nothing_yet}
+use Rattle.request_queue.specs.declared.request.Request.{Request}
 use Rattle.seize.specs.declared.kind.SeizeKind.{SeizeKind}
 use Rattle.seize.specs.Joining as joining
 use Rattle.seize.specs.Seizing as seizing
@@ -28,6 +30,8 @@ use Rattle.status_report.specs.declared.node_entry.DownCause.TheVariants as down
 use Rattle.status_report.specs.declared.node_entry.NodeEntry.TheVariants as node
 use Rattle.status_report.specs.declared.start_entry.StartEntry.{StartEntry}
 use Rattle.status_report.specs.declared.start_entry.StartEntry.TheVariants as start
+use Rattle.update_log.specs.Logs.{votes_after}
+use Rattle.update_log.specs.declared.votes.LogVotes.{LogVotes}
 use Rattle.wire.specs.declared.lists.Reading.{Reading}
 use Rattle.wire.specs.declared.message.Body.{Body}
 use Rattle.wire.specs.declared.message.Body.TheVariants as body
@@ -37,10 +41,11 @@ use Rattle.node_model.specs.declared.cluster.Cluster.{Cluster}
 use Rattle.node_model.specs.declared.node.UpNode.{UpNode}
 use Rattle.node_model.specs.declared.output.Output.{Output}
 use Rattle.node_model.specs.declared.output.Output.TheVariants.{Tells}
+use Rattle.node_model.specs.declared.presidency.Presidency.{Presidency}
 use Rattle.node_model.specs.declared.seat.Seat.{Seat}
 use Rattle.node_model.specs.declared.seat.Seat.TheVariants.{Forming, Member}
 use Rattle.node_model.specs.Clusters.{has_path}
-use Rattle.node_model.specs.Entries.{answering, keeping, telling, telling_of}
+use Rattle.node_model.specs.Entries.{answering, keeping, telling, telling_of, unknown_lines}
 use Rattle.node_model.specs.Plans.{Plan, and_then}
 use Rattle.node_model.specs.Plans.Plan.{Stays, Falls, Says}
 use Rattle.node_model.specs.Seats.{promised_of, promising, record_of, state_of}
@@ -147,8 +152,12 @@ member_by e (Forming s) = if starts_now s e then Some (started s, is_some s.save
 abbrev pub keeping_if : Bool → ℕ → UpNode → Plan → Plan
 keeping_if changed me x rest = if changed then keeping me x rest else rest
 
-abbrev pub starting_as : UpNode → NodeState → UpNode
-starting_as x s = record x { seat = Member (started s); attempt = None }
+-- it is the president of the membership, which holds these devices
+abbrev pub presiding : AttemptState → Presidency
+presiding a = record { proposals = nothing_yet; held = held_set a.devices }
+
+abbrev pub starting_as : UpNode → AttemptState → NodeState → UpNode
+starting_as x a s = record x { seat = Member (started s); attempt = None; presidency = Some (presiding a) }
 
 abbrev pub started_entry : AttemptState → ℕ → StartEntry
 started_entry a base = start.Started a.plan.epoch a.plan.members (held_set a.devices) base
@@ -162,7 +171,7 @@ abbrev pub starting_with : ℕ → UpNode → AttemptState → Seat → Plan
 starting_with me x a (Member s) = Stays x
 starting_with me x a (Forming s) =
     if starts_now s a.plan.epoch
-    then keeping_if (is_some s.saved.entries.pending) me (starting_as x s) (start_lines a s (telling_of me (node.Member a.plan.epoch) (Stays (starting_as x s))))
+    then keeping_if (is_some s.saved.entries.pending) me (starting_as x a s) (start_lines a s (telling_of me (node.Member a.plan.epoch) (Stays (starting_as x a s))))
     else Stays x
 
 abbrev pub starting_here : ℕ → UpNode → Option AttemptState → Plan
@@ -203,7 +212,7 @@ begins_install (s ∷ steps) = is_install s
 abbrev pub performed : Cluster → ℕ → UpNode → List Step → Plan
 performed c me x steps = and_then (performing c me x steps) (λ y. if begins_install steps then own_ready c me y else Stays y)
 
--- The votes under the newest record are given at once. No update changes them yet.
+-- The votes under the newest record are given at once.
 
 abbrev pub is_choosing : Phase → Bool
 is_choosing Collecting = false
@@ -213,13 +222,31 @@ is_choosing SeizingOthers = false
 is_choosing Installing = false
 is_choosing Over = false
 
-abbrev pub votes_in : Cluster → BothVotes
-votes_in c = record { committed = c.votes; pending = None }
+-- the votes at first; a list of updates that has none is no node's
+abbrev pub first_votes : Cluster → BothVotes
+first_votes c = record { committed = c.votes; pending = None }
+
+abbrev pub votes_by : Cluster → Option LogVotes → BothVotes
+votes_by c None = first_votes c
+votes_by c (Some v) = record { committed = v.committed; pending = v.pending }
+
+-- under the committed updates that a Promise shows, and under these with the pending one
+abbrev pub votes_shown : Cluster → Body → BothVotes
+votes_shown c (body.Promise e installed members valid flagged committed pending) = votes_by c (votes_after c.header committed pending)
+votes_shown c _ = first_votes c
+
+abbrev pub votes_of : Cluster → Option Message → BothVotes
+votes_of c None = first_votes c
+votes_of c (Some m) = votes_shown c m.body
+
+-- under the newest record
+abbrev pub votes_in : Cluster → AttemptState → BothVotes
+votes_in c a = votes_of c (newest_promise a)
 
 abbrev pub going_on : Cluster → ℕ → UpNode → Turn → Plan
 going_on c me x t =
     if is_choosing t.after.phase
-    then performed c me (under_way x (voting t.after (votes_in c)).after) (voting t.after (votes_in c)).steps
+    then performed c me (under_way x (voting t.after (votes_in c t.after)).after) (voting t.after (votes_in c t.after)).steps
     else performed c me (under_way x t.after) t.steps
 
 -- An attempt begins: the node promises its epoch and saves that, and then ..
@@ -233,12 +260,15 @@ next_epoch me x = (x.greatest / 64 + 1) * 64 + me
 abbrev pub own_promise : ℕ → UpNode → ℕ → Message
 own_promise me x p = record { sender = me; body = promise_of x p }
 
-abbrev pub led : Cluster → ℕ → UpNode → ℕ → ℕ → Plan
-led c me y p members =
-    keeping me y (telling (entry.Attempt (attempt.Begun p members)) (going_on c me y (beginning p members (own_promise me y p) c.attached c.id)))
+-- what waited is told as unknown
+abbrev pub led : Cluster → ℕ → UpNode → List Request → ℕ → ℕ → Plan
+led c me y waiting p members =
+    keeping me y
+    (telling (entry.Attempt (attempt.Begun p members))
+    (Says (unknown_lines me waiting) (going_on c me y (beginning p members (own_promise me y p) c.attached c.id))))
 
 abbrev pub leading_to : Cluster → ℕ → UpNode → ℕ → ℕ → Plan
-leading_to c me x p members = if nat_lt (promised_of x) p then led c me (record (promising x p) { greatest = p }) p members else Stays x
+leading_to c me x p members = if nat_lt (promised_of x) p then led c me (record (promising x p) { greatest = p }) x.requests.waiting p members else Stays x
 
 abbrev pub leading : Cluster → ℕ → UpNode → ℕ → Plan
 leading c me x members = leading_to c me x (next_epoch me x) members

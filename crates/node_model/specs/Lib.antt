@@ -2,6 +2,9 @@ pub mod Plans
 pub mod Seats
 pub mod Entries
 pub mod Clusters
+pub mod Presidents
+pub mod Requests
+pub mod Updates
 pub mod Attempts
 pub mod Members
 pub mod Devices

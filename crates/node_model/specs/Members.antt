@@ -1,6 +1,9 @@
 -- What a node does with a message.
-use Rattle.std.specs.Prelude.{ℕ, ◌%◌, ◌==◌, ◌&&◌, ◌||◌, nat_le, nat_lt, not, Bool, true, false, List, [], ◌∷◌, length, Option, None, Some, is_some, if◌then◌else◌, max}
+use Rattle.std.specs.Prelude.{ℕ, ◌%◌, ◌==◌, ◌&&◌, ◌||◌, nat_le, nat_lt, not, Bool, true, false, ◌+◌, List, [], ◌∷◌, ◌++◌, length, Option, None, Some, is_some, Result, Ok, Err, if◌then◌else◌, max}
 use Rattle.std.specs.List.{list_all}
+use Rattle.admin_words.specs.Commands.{request_of}
+use Rattle.answer_words.specs.Answers.{answer_in}
+use Rattle.ccr_commit.specs.Entries.{texts_of}
 use Rattle.cl_base.specs.Sets.{has}
 use Rattle.cl_base.specs.Seizings.{SeizeResult}
 use Rattle.cl_base.specs.declared.panic.Panic.TheVariants as panic
@@ -20,6 +23,7 @@ use Rattle.status_report.specs.declared.attempt_entry.AttemptEntry.TheVariants a
 use Rattle.status_report.specs.declared.entry.Entry.TheVariants as entry
 use Rattle.status_report.specs.declared.node_entry.DownCause.TheVariants as down
 use Rattle.status_report.specs.declared.node_entry.NodeEntry.TheVariants as node
+use Rattle.update_log.specs.Logs.{config_after, is_update, votes_after}
 use Rattle.wire.specs.declared.lists.Reading.{Reading}
 use Rattle.wire.specs.declared.message.Body.{Body}
 use Rattle.wire.specs.declared.message.Body.TheVariants as body
@@ -32,13 +36,16 @@ use Rattle.node_model.specs.declared.seat.Seat.{Seat}
 use Rattle.node_model.specs.declared.seat.Seat.TheVariants.{Forming, Member}
 use Rattle.node_model.specs.Attempts.{going_on, installed_so, installing, installs_now, keeping_if, promise_of, resting, starts_now}
 use Rattle.node_model.specs.Clusters.{is_within}
-use Rattle.node_model.specs.Entries.{answering, keeping, sending, telling, telling_of}
+use Rattle.node_model.specs.Entries.{answering, keeping, sending, telling, telling_of, unknown_lines}
 use Rattle.node_model.specs.Plans.{Plan}
-use Rattle.node_model.specs.Plans.Plan.{Stays, Falls}
-use Rattle.node_model.specs.Seats.{installed_of, is_in, is_member, promised_of, promising, record_of, seen, session_of, state_of}
+use Rattle.node_model.specs.Plans.Plan.{Stays, Falls, Says}
+use Rattle.node_model.specs.Requests.{on_reply}
+use Rattle.node_model.specs.Seats.{installed_of, is_in, is_member, promised_of, promising, record_of, seen, session_of, state_of, version_of}
+use Rattle.node_model.specs.Updates.{on_asked, on_commit_as, on_prepare_as, on_prepared}
 
 -- Packets that are foreign change nothing: they name a node or a device that is not there, a request to seize is of members without
--- this node, a Seized has more keys than a device has, or there is a text: no update and no request is built yet.
+-- this node, a Seized has more keys than a device has, a text is no update, no request or no answer, or a list of updates is bad. The
+-- list of a Prepare of the node's own membership at the next place is the node's own updates and then this one.
 
 abbrev pub is_strange : Cluster → ℕ → Bool
 is_strange c members = not (is_within members c.nodes)
@@ -51,8 +58,19 @@ has_many_keys (seized.Held keys) = nat_lt 32 (length keys)
 has_many_keys (seized.NotRegistered keys) = nat_lt 32 (length keys)
 has_many_keys _ = false
 
-abbrev pub has_texts : List (List ℕ) → Option (List ℕ) → Bool
-has_texts committed pending = not (length committed == 0) || is_some pending
+abbrev pub is_bad_log : Cluster → List (List ℕ) → Option (List ℕ) → Bool
+is_bad_log c committed pending = not (is_some (votes_after c.header committed pending))
+
+abbrev pub is_next_of : UpNode → ℕ → ℕ → Bool
+is_next_of x e place = is_member x.seat && is_in x e && (place == length (texts_of (record_of x).entries) + 1)
+
+abbrev pub is_bad_update : Cluster → UpNode → ℕ → ℕ → List ℕ → Bool
+is_bad_update c x e place text =
+    not (is_update (version_of c) text) || (is_next_of x e place && not (is_some (config_after c.header (texts_of (record_of x).entries ++ text ∷ []))))
+
+abbrev pub is_ok : {T E : Type 0} → Result T E → Bool
+is_ok (Ok value) = true
+is_ok (Err error) = false
 
 abbrev pub is_known_reading : Cluster → Reading → Bool
 is_known_reading c r = has c.devices r.device && has c.nodes r.seizer
@@ -61,27 +79,27 @@ abbrev pub is_foreign_seizing : Cluster → ℕ → ℕ → ℕ → Bool
 is_foreign_seizing c me members d = not (has members me) || is_strange c members || not (has c.devices d)
 
 abbrev pub is_foreign_install : Cluster → ℕ → Install → Bool
-is_foreign_install c me i = not (has i.members me) || is_strange c i.members || has_texts i.committed i.pending || not (list_all (is_known_reading c) i.readings)
+is_foreign_install c me i = not (has i.members me) || is_strange c i.members || is_bad_log c i.committed i.pending || not (list_all (is_known_reading c) i.readings)
 
-abbrev pub is_foreign : Cluster → ℕ → Body → Bool
-is_foreign c me (body.Heartbeat promised session member) = false
-is_foreign c me (body.Collect e members) = is_strange c members
-is_foreign c me (body.Promise e installed members valid flagged committed pending) = is_strange c members || not (are_devices c valid) || has_texts committed pending
-is_foreign c me (body.Nack e promised) = false
-is_foreign c me (body.SeizeQuorum e members d) = is_foreign_seizing c me members d
-is_foreign c me (body.SeizeData e members d) = is_foreign_seizing c me members d
-is_foreign c me (body.Seized e d outcome) = not (has c.devices d) || has_many_keys outcome
-is_foreign c me (body.Install i) = is_foreign_install c me i
-is_foreign c me (body.Ready e joined report) = not (are_devices c joined)
-is_foreign c me (body.Start e) = false
-is_foreign c me (body.Prepare e place text) = true
-is_foreign c me (body.Prepared e place) = false
-is_foreign c me (body.Commit e place) = false
-is_foreign c me (body.Order o) = true
-is_foreign c me (body.Done e number outcome) = false
-is_foreign c me (body.Request e number text) = true
-is_foreign c me (body.Answer e number text) = true
-is_foreign c me (body.Excluded e newest) = false
+abbrev pub is_foreign : Cluster → ℕ → UpNode → Body → Bool
+is_foreign c me x (body.Heartbeat promised session member) = false
+is_foreign c me x (body.Collect e members) = is_strange c members
+is_foreign c me x (body.Promise e installed members valid flagged committed pending) = is_strange c members || not (are_devices c valid) || is_bad_log c committed pending
+is_foreign c me x (body.Nack e promised) = false
+is_foreign c me x (body.SeizeQuorum e members d) = is_foreign_seizing c me members d
+is_foreign c me x (body.SeizeData e members d) = is_foreign_seizing c me members d
+is_foreign c me x (body.Seized e d outcome) = not (has c.devices d) || has_many_keys outcome
+is_foreign c me x (body.Install i) = is_foreign_install c me i
+is_foreign c me x (body.Ready e joined report) = not (are_devices c joined)
+is_foreign c me x (body.Start e) = false
+is_foreign c me x (body.Prepare e place text) = is_bad_update c x e place text
+is_foreign c me x (body.Prepared e place) = false
+is_foreign c me x (body.Commit e place) = false
+is_foreign c me x (body.Order o) = true
+is_foreign c me x (body.Done e number outcome) = false
+is_foreign c me x (body.Request e number text) = not (is_ok (request_of (version_of c) text))
+is_foreign c me x (body.Answer e number text) = not (is_some (answer_in text))
+is_foreign c me x (body.Excluded e newest) = false
 
 -- A heartbeat: the president answers a member of its session that is not one yet by Start.
 
@@ -111,7 +129,8 @@ promised_so x p = rested_by (promising x p) x.attempt
 abbrev pub on_collect : ℕ → UpNode → ℕ → ℕ → Plan
 on_collect me x from p =
     if nat_lt (promised_of x) p
-    then keeping me (promised_so x p) (superseded_by x p x.attempt (answering from (promise_of (promised_so x p) p) (promised_so x p)))
+    then keeping me (promised_so x p)
+        (superseded_by x p x.attempt (Says (unknown_lines me x.requests.waiting) (answering from (promise_of (promised_so x p) p) (promised_so x p))))
     else (if is_in x p then answering from (promise_of x p) x else answering from (body.Nack p (promised_of x)) x)
 
 -- A request to seize: answered by what is kept, and by fault where it comes after the install; else a task begins. Outside its session
@@ -178,12 +197,18 @@ on_body c me x from m (body.Seized e d outcome) = on_answer c me x from m x.atte
 on_body c me x from m (body.Install i) = on_install c me x from i
 on_body c me x from m (body.Ready e joined report) = on_answer c me x from m x.attempt
 on_body c me x from m (body.Start e) = on_start_as me x e x.seat
+on_body c me x from m (body.Prepare e place text) = on_prepare_as me x from e place text x.seat
+on_body c me x from m (body.Prepared e place) = on_prepared c me x from e place
+on_body c me x from m (body.Commit e place) = on_commit_as me x e place x.seat
+on_body c me x from m (body.Order o) = Stays x
+on_body c me x from m (body.Done e number outcome) = Stays x
+on_body c me x from m (body.Request e number text) = on_asked c me x from e number text
+on_body c me x from m (body.Answer e number text) = on_reply c me x e number (answer_in text)
 on_body c me x from m (body.Excluded e newest) = on_excluded x e newest
-on_body c me x from m _ = Stays x
 
 -- a packet that was delivered: its sender is heard, and the epochs that it shows are seen
 abbrev pub hearing : UpNode → ℕ → Body → UpNode
 hearing x from b = seen (record x { beats = heard x.beats from (beat_in b) }) (greatest (epochs_shown b))
 
 abbrev pub on_packet : Cluster → ℕ → UpNode → ℕ → Message → Plan
-on_packet c me x from m = if is_foreign c me m.body then Stays x else on_body c me (hearing x from m.body) from m m.body
+on_packet c me x from m = if is_foreign c me x m.body then Stays x else on_body c me (hearing x from m.body) from m m.body

@@ -4,7 +4,10 @@ use Rattle.cl_base.specs.Limits.{most_nodes}
 use Rattle.cl_base.specs.Sets.{has, set_without}
 use Rattle.cmm_member.specs.Records.{NodeRecord}
 use Rattle.cmm_member.specs.Nodes.{NodeState, DownState, booted, promised_to, with_valid, with_joined}
+use Rattle.cl_base.specs.declared.header.Version.{Version}
 use Rattle.heartbeats.specs.Peers.{at_boot}
+use Rattle.request_queue.specs.Queue.{ended, nothing_asked}
+use Rattle.node_model.specs.declared.cluster.Cluster.{Cluster}
 use Rattle.node_model.specs.declared.node.UpNode.{UpNode}
 use Rattle.node_model.specs.declared.seat.Seat.{Seat}
 use Rattle.node_model.specs.declared.seat.Seat.TheVariants.{Forming, Member}
@@ -21,6 +24,10 @@ with_state (Member s) t = Member t
 abbrev pub is_member : Seat → Bool
 is_member (Forming s) = false
 is_member (Member s) = true
+
+-- the version of the schedule
+abbrev pub version_of : Cluster → Version
+version_of c = c.header.version
 
 -- its record, as it is to be saved
 abbrev pub record_of : UpNode → NodeRecord
@@ -51,9 +58,10 @@ coordinator_of x = node_numbered (session_of x % 64)
 abbrev pub with_node : UpNode → NodeState → UpNode
 with_node x s = record x { seat = with_state x.seat s }
 
--- it has promised p: it is no member, and its tasks are gone; an attempt of its own is not under way any more
+-- it has promised p: it is no member, and so no president; its tasks are gone, and its requests; an attempt of its own is not under way
+-- any more
 abbrev pub promising : UpNode → ℕ → UpNode
-promising x p = record x { seat = Forming (promised_to (state_of x.seat) p); tasks = []; attempt = None }
+promising x p = record x { seat = Forming (promised_to (state_of x.seat) p); tasks = []; attempt = None; requests = ended x.requests; presidency = None }
 
 -- it has seen this epoch
 abbrev pub seen : UpNode → ℕ → UpNode
@@ -67,4 +75,6 @@ up_with me first_valid r = record {
   beats = at_boot me;
   tasks = [];
   attempt = None;
+  requests = nothing_asked;
+  presidency = None;
 }

@@ -11,7 +11,7 @@ use Rattle.status_report.specs.declared.node_entry.NodeEntry.TheVariants as note
 use Rattle.wire.specs.declared.message.Message.{Message}
 use Rattle.node_model.specs.declared.cluster.Cluster.{Cluster}
 use Rattle.node_model.specs.declared.input.Input.{Input}
-use Rattle.node_model.specs.declared.input.Input.TheVariants.{Boot, Crash, Tick, Packet, CommandDue, Answered, Wrote}
+use Rattle.node_model.specs.declared.input.Input.TheVariants.{Boot, Crash, Tick, Packet, CommandDue, Answered, Wrote, Commanded}
 use Rattle.node_model.specs.declared.node.Node.{Node}
 use Rattle.node_model.specs.declared.node.Node.TheVariants as node
 use Rattle.node_model.specs.declared.node.UpNode.{UpNode}
@@ -21,6 +21,7 @@ use Rattle.node_model.specs.Devices.{before_command, on_answer_of_device, wrote}
 use Rattle.node_model.specs.Members.{on_packet}
 use Rattle.node_model.specs.Plans.{Plan, cause_of}
 use Rattle.node_model.specs.Plans.Plan.{Stays, Falls, Says, Saves}
+use Rattle.node_model.specs.Requests.{on_command}
 use Rattle.node_model.specs.Seats.{up_with}
 use Rattle.node_model.specs.Ticks.{on_tick}
 
@@ -33,6 +34,7 @@ plan_of c me x (Packet from message) = on_packet c me x from message
 plan_of c me x CommandDue = before_command me x
 plan_of c me x (Answered a) = on_answer_of_device c me x a
 plan_of c me x (Wrote d value a) = wrote me x d value a
+plan_of c me x (Commanded words) = on_command c me x words
 
 pub record Outcome (K : Type 0) : Type 0 where
   pub after : Node

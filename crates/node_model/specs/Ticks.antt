@@ -1,5 +1,5 @@
 -- What a node does at a tick, and at its boot.
-use Rattle.std.specs.Prelude.{ℕ, zero, suc, ◌-◌, ◌==◌, ◌&&◌, nat_le, Bool, true, false, List, [], ◌∷◌, map, Option, None, Some, if◌then◌else◌}
+use Rattle.std.specs.Prelude.{ℕ, zero, suc, ◌-◌, ◌==◌, ◌&&◌, nat_le, Bool, true, false, List, [], ◌∷◌, ◌++◌, map, Option, None, Some, if◌then◌else◌}
 use Rattle.cl_base.specs.Limits.{most_nodes}
 use Rattle.cl_base.specs.Numbers.{numbers_to}
 use Rattle.cl_base.specs.Sets.{has}
@@ -23,6 +23,7 @@ use Rattle.node_model.specs.Entries.{telling_of}
 use Rattle.node_model.specs.Plans.{Plan}
 use Rattle.node_model.specs.Plans.Plan.{Stays, Says}
 use Rattle.node_model.specs.Seats.{is_member, promised_of, record_of, session_of}
+use Rattle.node_model.specs.Updates.{prepares_again, request_again, with_later}
 
 abbrev pub membership_of : Seat → Option Membership
 membership_of (Forming s) = None
@@ -58,10 +59,14 @@ attempt_ticked c me x None =
     else forming c me (waiting_less x) (members_to_form c me (waiting_less x))
 
 abbrev pub later : Cluster → UpNode → UpNode
-later c x = record x { beats = ticked x.beats c.configured }
+later c x = with_later (record x { beats = ticked x.beats c.configured })
 
-abbrev pub beating : Cluster → ℕ → UpNode → Plan
-beating c me x = Says (heartbeats_to x (receivers_of x.beats c.configured)) (attempt_ticked c me x x.attempt)
+-- what goes at a tick: heartbeats, and again what is not answered; whether it is due is read off the node before the tick
+abbrev pub ticked_output : Cluster → UpNode → UpNode → List Output
+ticked_output c before x = heartbeats_to x (receivers_of x.beats c.configured) ++ request_again before ++ prepares_again before
+
+abbrev pub beating : Cluster → ℕ → UpNode → UpNode → Plan
+beating c me before x = Says (ticked_output c before x) (attempt_ticked c me x x.attempt)
 
 abbrev pub on_tick : Cluster → ℕ → UpNode → Plan
-on_tick c me x = telling_of me node.Ticked (beating c me (later c x))
+on_tick c me x = telling_of me node.Ticked (beating c me x (later c x))

@@ -1,4 +1,4 @@
-use cl_base::{DevId, NodeId};
+use cl_base::{Bytes, DevId, NodeId};
 use pgr_device::{Failed, PrAnswer};
 use wire::Message;
 
@@ -31,4 +31,6 @@ pub enum Input {
         /// The answer.
         answer: Result<PrAnswer, Failed>,
     },
+    /// An administrator gives it a command, in these words.
+    Commanded(Bytes),
 }

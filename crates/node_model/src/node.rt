@@ -1,9 +1,11 @@
+use crate::presidency::Presidency;
 use crate::seat::Seat;
 use crate::slot::Slot;
 use cl_base::Epoch;
 use cmm_attempt::Attempt;
 use device_queue::DeviceQueue;
 use heartbeats::Heartbeats;
+use request_queue::RequestQueue;
 
 /// What a node keeps in memory while it is up.
 #[derive(Drop)]
@@ -18,6 +20,10 @@ pub struct UpNode {
     pub tasks: DeviceQueue,
     /// The attempt that it coordinates, if one is under way.
     pub attempt: Slot<Attempt>,
+    /// Its requests that wait for the president's answers.
+    pub requests: RequestQueue,
+    /// What it has in hand as the president of its membership, if it is that.
+    pub presidency: Option<Presidency>,
 }
 
 /// A node of the cluster. Of one that is down nothing is left but its record, which is on its disk.
