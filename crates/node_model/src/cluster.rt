@@ -1,7 +1,8 @@
 ghost use Rattle.std.specs.Prelude.{◌≡◌};
 ghost use Rattle.node_model.specs.Clusters.{has_path, is_within};
 
-use cl_base::{DevId, DevSet, Header, NodeId, NodeSet};
+use crate::first_header::FirstHeader;
+use cl_base::{DevId, DevSet, NodeId, NodeSet};
 use cmm_attempt::AttachedDevices;
 use quorum_votes::Votes;
 
@@ -9,7 +10,7 @@ use quorum_votes::Votes;
 #[derive(Drop)]
 pub struct Cluster {
     /// The header of the schedule, which the first configuration is made of.
-    pub header: Header,
+    pub header: FirstHeader,
     /// The number of the cluster, which is in its nodes' keys.
     pub id: u32,
     /// The nodes that there are.

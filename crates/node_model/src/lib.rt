@@ -3,6 +3,7 @@
 #![tactic(auto)]
 
 mod cluster;
+mod first_header;
 mod input;
 mod node;
 mod output;
@@ -12,6 +13,7 @@ mod slot;
 mod stop;
 
 pub use cluster::Cluster;
+pub use first_header::FirstHeader;
 pub use input::Input;
 pub use node::{Node, UpNode};
 pub use output::{Output, cause_of, keep, send, tell, tell_of};
