@@ -7,7 +7,7 @@ use Rattle.record_disk.specs.Savings.{Saving}
 use Rattle.wire.specs.declared.message.Message.{Message}
 use Rattle.node_model.specs.declared.cluster.Cluster.{Cluster}
 use Rattle.node_model.specs.declared.input.Input.{Input}
-use Rattle.node_model.specs.declared.input.Input.TheVariants.{Boot, Crash, Tick, Packet, CommandDue, Answered, Wrote}
+use Rattle.node_model.specs.declared.input.Input.TheVariants.{Boot, Crash, Tick, Packet, CommandDue, Answered, Wrote, Commanded}
 use Rattle.node_model.specs.declared.node.Node.{Node}
 use Rattle.node_model.specs.declared.node.Node.TheVariants as node
 use Rattle.node_model.specs.declared.node.UpNode.{UpNode}
@@ -33,6 +33,7 @@ untouched c me x (Packet from message) = plan_of c me x (Packet from message)
 untouched c me x CommandDue = plan_of c me x CommandDue
 untouched c me x (Answered a) = plan_of c me x (Answered a)
 untouched c me x (Wrote d value a) = plan_of c me x (Wrote d value a)
+untouched c me x (Commanded words) = plan_of c me x (Commanded words)
 
 abbrev pub rest_of : Cluster → ℕ → UpNode → Input → Due → Plan
 rest_of c me x input Nothing = Stays x

@@ -1,2 +1,3 @@
 -- what only the proofs need
 pub mod Due
+pub mod Updates

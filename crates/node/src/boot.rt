@@ -12,6 +12,7 @@ use device_queue::DeviceQueue;
 use heartbeats::Heartbeats;
 use node_model::{Cluster, Output, Seat, Slot, Stop, UpNode, cause_of, tell_of};
 use record_disk::{DiskError, RecordDisk};
+use request_queue::RequestQueue;
 use status_report::NodeEntry;
 use std::alloc::Global;
 
@@ -39,6 +40,8 @@ pub fn boot<K: RecordDisk>(
                 beats,
                 tasks: DeviceQueue::new(alloc),
                 attempt: Slot::empty(),
+                requests: RequestQueue::new(alloc),
+                presidency: None,
             })
         }
         Err(DiskError::Lost(loss)) => Err(Stop::Down(cause_of(loss))),

@@ -14,6 +14,7 @@ use cl_base::NodeId;
 use node_attempts::lead;
 use node_devices::{before_command, take_device_answer, take_write_answer};
 use node_model::{Cluster, Input, Node, Output, Stop, UpNode};
+use node_updates::take_command;
 use record_disk::RecordDisk;
 use status_report::{DownCause, Entry, NodeEntry};
 use std::alloc::{AllocError, Global};
@@ -108,5 +109,6 @@ fn step_up<K: RecordDisk>(
             value,
             answer,
         } => take_write_answer(me, up, *device, *value, *answer, out),
+        Input::Commanded(words) => take_command(alloc, cluster, me, disk, up, words.items(), out),
     }
 }

@@ -4,12 +4,14 @@ ghost use Rattle.cmm_attempt.specs.Attempts.{HasFewKeys};
 ghost use Rattle.node_model.specs.Members.{beat_in, hearing, is_foreign, on_answer, on_body, on_excluded, on_heartbeat, on_packet};
 ghost use Rattle.node_model.specs.Plans.{Follows, Gives};
 ghost use Rattle.node.specs.Due.{HearsUp};
+ghost use Rattle.node.specs.Updates.{on_update};
 
 use cl_base::{DevId, Epoch, NodeId, NodeSet, Panic};
 use heartbeats::Beat;
 use node_attempts::go_on;
 use node_members::{Request, collect, is_foreign, seize, take_install, take_start};
 use node_model::{Cluster, Output, Stop, UpNode};
+use node_updates::{commit, prepare, take_prepared, take_reply, take_request};
 use record_disk::RecordDisk;
 use seize::SeizeKind;
 use status_report::DownCause;
@@ -29,7 +31,7 @@ pub fn take_packet<K: RecordDisk>(
 ) -> Result<UpNode, Stop>
     ensures { Follows K.saving (on_packet cluster.now me up from m.now) out.old.items disk.old result out.new.items disk.new }
 {
-    if is_foreign(cluster, me, &m.body) {
+    if is_foreign(alloc, cluster, me, &up, &m.body)? {
         return Ok(up);
     }
     hear(&mut up, from, &m.body);
@@ -47,7 +49,7 @@ fn take_message<K: RecordDisk>(
     m: &Message,
     out: &mut Vec<Output>,
 ) -> Result<UpNode, Stop>
-    requires own { is_foreign cluster.now me m.now.body ≡ false }
+    requires few { HasFewKeys m.now.body }
     ensures { Follows K.saving (on_body cluster.now me up from m.now m.now.body) out.old.items disk.old result out.new.items disk.new }
 {
     match &m.body {
@@ -82,6 +84,53 @@ fn take_message<K: RecordDisk>(
         Body::Install(i) => take_install(alloc, cluster, me, disk, up, from, i, out),
         Body::Start { epoch } => take_start(alloc, me, disk, up, *epoch, out),
         Body::Excluded { epoch, newest } => take_excluded(up, *epoch, *newest),
+        _ => take_update(alloc, cluster, me, disk, up, from, &m.body, out),
+    }
+}
+
+/// What belongs to updates of the configuration.
+fn take_update<K: RecordDisk>(
+    alloc: Global,
+    cluster: &Cluster,
+    me: NodeId,
+    disk: &mut K,
+    up: UpNode,
+    from: NodeId,
+    body: &Body,
+    out: &mut Vec<Output>,
+) -> Result<UpNode, Stop>
+    ensures { Follows K.saving (on_update cluster.now me up from body.now) out.old.items disk.old result out.new.items disk.new }
+{
+    match body {
+        Body::Request {
+            epoch,
+            number,
+            text,
+        } => take_request(
+            alloc, cluster, me, disk, up, from, *epoch, *number, text, out,
+        ),
+        Body::Prepare { epoch, place, text } => {
+            prepare(alloc, me, disk, up, from, *epoch, *place, text, out)
+        }
+        Body::Prepared { epoch, place } => {
+            take_prepared(alloc, cluster, me, disk, up, from, *epoch, *place, out)
+        }
+        Body::Commit { epoch, place } => commit(alloc, me, disk, up, *epoch, *place, out),
+        Body::Answer {
+            epoch,
+            number,
+            text,
+        } => take_reply(
+            alloc,
+            cluster,
+            me,
+            disk,
+            up,
+            *epoch,
+            *number,
+            text.items(),
+            out,
+        ),
         _ => Ok(up),
     }
 }

@@ -40,9 +40,11 @@ pub fn step<K: RecordDisk>(
             }
             finish(alloc, cluster, me, disk, node, input, Due::All, out)
         }
-        Input::Crash | Input::CommandDue | Input::Answered(_) | Input::Wrote { .. } => {
-            finish(alloc, cluster, me, disk, node, input, Due::All, out)
-        }
+        Input::Crash
+        | Input::CommandDue
+        | Input::Answered(_)
+        | Input::Wrote { .. }
+        | Input::Commanded(_) => { finish(alloc, cluster, me, disk, node, input, Due::All, out) }
     }
 }
 

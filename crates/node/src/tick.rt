@@ -6,7 +6,7 @@ ghost use Rattle.status_report.specs.declared.node_entry.NodeEntry.TheVariants a
 ghost use Rattle.node_model.specs.declared.input.Input.TheVariants.{Tick};
 ghost use Rattle.node_model.specs.declared.output.Output.TheVariants.{Sends, Tells};
 ghost use Rattle.node_model.specs.Plans.{Follows};
-ghost use Rattle.node_model.specs.Ticks.{attempt_ticked, heartbeat_of, heartbeats_to, members_to_form, later, membership_of};
+ghost use Rattle.node_model.specs.Ticks.{attempt_ticked, heartbeat_of, heartbeats_to, members_to_form, later, membership_of, ticked_output};
 ghost use Rattle.heartbeats.specs.Views.{receivers_of};
 ghost use Rattle.node.specs.Due.{MayBegin, going_on_with, rest_of};
 
@@ -15,12 +15,14 @@ use cl_base::{NodeId, NodeSet};
 use heartbeats::Membership;
 use node_attempts::go_on;
 use node_model::{Cluster, Output, Seat, Stop, UpNode};
+use node_updates::tick_requests;
 use record_disk::RecordDisk;
 use status_report::{Entry, NodeEntry};
 use std::alloc::{AllocError, Global};
 use wire::Body;
 
-/// The node's clock ticks: it takes its view anew and sends its heartbeats. What is then due is told.
+/// The node's clock ticks: it takes its view anew, sends its heartbeats, and sends again what is not
+/// answered. What is then due is told.
 pub(crate) fn tick(
     alloc: Global,
     cluster: &Cluster,
@@ -28,7 +30,7 @@ pub(crate) fn tick(
     up: &mut UpNode,
     out: &mut Vec<Output>,
 ) -> Result<Due, AllocError>
-    ensures told { OnOk result (out.new.items ≡ (out.old.items ++ Tells (trace.Node me note.Ticked) ∷ []) ++ heartbeats_to (later cluster.now up.old) (receivers_of (later cluster.now up.old).beats cluster.now.configured)) }
+    ensures told { OnOk result (out.new.items ≡ (out.old.items ++ Tells (trace.Node me note.Ticked) ∷ []) ++ ticked_output cluster.now up.old (later cluster.now up.old)) }
     ensures rest { IfOk result (λ due. attempt_ticked cluster.now me (later cluster.now up.old) up.old.attempt ≡ rest_of cluster.now me up.new Tick due) }
     ensures ready { IfOk result (λ due. MayBegin me up.new due) }
 {
@@ -39,6 +41,7 @@ pub(crate) fn tick(
     out.push(Output::Tells(entry))?;
     up.beats.tick(cluster.configured);
     send_heartbeats(alloc, cluster, up, out)?;
+    tick_requests(alloc, me, up, out)?;
     Ok(due(cluster, me, up))
 }
 

@@ -1,11 +1,13 @@
-//! What coordinators and members do alike: they show their record, install, join devices and become
-//! members.
+//! What coordinators and members do alike: they show their record, install, join devices, become
+//! members, and end the requests that wait.
 #![tactic(auto)]
 
+mod ending;
 mod installing;
 mod promise;
 mod starting;
 
+pub use ending::end_requests;
 pub use installing::{begin_joins, install, save_install};
 pub use promise::promise_body;
 pub use starting::become_member;

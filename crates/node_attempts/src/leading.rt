@@ -1,13 +1,14 @@
 // A node begins an attempt.
 ghost use Rattle.std.specs.Prelude.{◌≡◌, ◌<◌, ◌/◌, ◌%◌, ◌^◌, true};
 ghost use Rattle.cl_base.specs.Sets.{has};
+ghost use Rattle.request_queue.specs.Queue.{ended};
 ghost use Rattle.node_model.specs.Attempts.{leading, led};
 ghost use Rattle.node_model.specs.Plans.{Follows};
 
 use crate::performing::go_on;
 use cl_base::{Epoch, NodeId, NodeSet};
 use cmm_attempt::{AttachedDevices, Attempt};
-use node_acts::promise_body;
+use node_acts::{end_requests, promise_body};
 use node_model::{Cluster, Output, Seat, Slot, Stop, UpNode, keep, tell};
 use record_disk::RecordDisk;
 use status_report::{AttemptEntry, Entry};
@@ -36,6 +37,7 @@ pub fn lead<K: RecordDisk>(
             up.greatest = epoch;
             up.tasks.clear();
             up.attempt = Slot::empty();
+            up.presidency = None;
             begin_attempt(alloc, cluster, me, disk, up, epoch, members, out)
         }
         // The greatest epoch seen is never below the promise.
@@ -52,17 +54,18 @@ fn begin_attempt<K: RecordDisk>(
     cluster: &Cluster,
     me: NodeId,
     disk: &mut K,
-    up: UpNode,
+    mut up: UpNode,
     epoch: Epoch,
     members: NodeSet,
     out: &mut Vec<Output>,
 ) -> Result<UpNode, Stop>
     requires coordinator { epoch % 64 ≡ me }
     requires member { has members me ≡ true }
-    ensures { Follows K.saving (led cluster.now me up epoch members) out.old.items disk.old result out.new.items disk.new }
+    ensures { Follows K.saving (led cluster.now me (record up { requests = ended up.requests }) up.requests.waiting epoch members) out.old.items disk.old result out.new.items disk.new }
 {
     keep(alloc, me, disk, &up.seat, out)?;
     tell(out, Entry::Attempt(AttemptEntry::Begun { epoch, members }))?;
+    end_requests(alloc, me, &mut up.requests, out)?;
     let own = Message {
         sender: me,
         body: promise_body(alloc, &up.seat, epoch)?,

@@ -7,6 +7,7 @@ mod installing;
 mod leading;
 mod performing;
 mod starting;
+mod voting;
 
 pub use leading::lead;
 pub use performing::{go_on, own_ready};

@@ -8,6 +8,7 @@ ghost use Rattle.node_model.specs.Plans.{Follows};
 use crate::ending::end_attempt;
 use crate::installing::install_here;
 use crate::starting::start_here;
+use crate::voting::newest_votes;
 use cl_base::{DevId, NodeId};
 use cmm_attempt::{Attempt, Step, Steps};
 use device_queue::DeviceQueue;
@@ -34,8 +35,8 @@ pub fn go_on<K: RecordDisk>(
         up.attempt.put(alloc, attempt)?;
         return perform(alloc, cluster, me, disk, up, steps, out);
     }
-    // No update changes the votes yet.
-    let steps = attempt.with_votes(cluster.votes, None)?;
+    let (committed, pending) = newest_votes(alloc, cluster, &attempt)?;
+    let steps = attempt.with_votes(committed, pending)?;
     up.attempt.put(alloc, attempt)?;
     perform(alloc, cluster, me, disk, up, steps, out)
 }

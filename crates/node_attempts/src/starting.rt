@@ -11,7 +11,8 @@ use cl_base::{Bytes, Epoch, NodeId};
 use cmm_attempt::Attempt;
 use cmm_member::Started;
 use node_acts::become_member;
-use node_model::{Output, Seat, Slot, Stop, UpNode, keep, tell, tell_of};
+use node_model::{Output, Presidency, Seat, Slot, Stop, UpNode, keep, tell, tell_of};
+use proposals::Proposals;
 use record_disk::RecordDisk;
 use status_report::{Entry, NodeEntry, StartEntry};
 use std::alloc::Global;
@@ -47,6 +48,10 @@ fn start_attempt<K: RecordDisk>(
         Ok(Started { node, changed }) => {
             up.seat = Seat::Member(node);
             up.attempt = Slot::empty();
+            up.presidency = Some(Presidency {
+                proposals: Proposals::new(alloc)?,
+                held: attempt.held_devices(),
+            });
             if changed {
                 keep(alloc, me, disk, &up.seat, out)?;
             }

@@ -5,7 +5,7 @@ ghost use Rattle.node_model.specs.Plans.{Follows};
 ghost use Rattle.node_model.specs.Seats.{promised_of};
 
 use cl_base::{Epoch, NodeId};
-use node_acts::promise_body;
+use node_acts::{end_requests, promise_body};
 use node_model::{Output, Seat, Slot, Stop, UpNode, keep, send, tell};
 use record_disk::RecordDisk;
 use status_report::{AttemptEntry, Entry};
@@ -58,6 +58,8 @@ fn promise<K: RecordDisk>(
         mut beats,
         mut tasks,
         attempt,
+        mut requests,
+        ..
     } = up;
     let Ok(node) = seat.promise(p) else {
         unreachable!()
@@ -71,6 +73,7 @@ fn promise<K: RecordDisk>(
         beats.attempt_ended();
         tell(out, Entry::Attempt(ended))?;
     }
+    end_requests(alloc, me, &mut requests, out)?;
     send(out, from, promise_body(alloc, &seat, p)?)?;
     Ok(UpNode {
         seat,
@@ -78,5 +81,7 @@ fn promise<K: RecordDisk>(
         beats,
         tasks,
         attempt: Slot::empty(),
+        requests,
+        presidency: None,
     })
 }

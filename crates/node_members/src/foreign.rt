@@ -1,22 +1,33 @@
 // Packets that no node of the cluster sends.
-ghost use Rattle.std.specs.Prelude.{◌≡◌};
+ghost use Rattle.std.specs.Prelude.{◌≡◌, IfOk, IfErr};
 ghost use Rattle.std.specs.List.{list_all};
-ghost use Rattle.node_model.specs.Members.{has_many_keys, has_texts, is_foreign, is_foreign_install, is_foreign_seizing, is_known_reading};
+ghost use Rattle.node_model.specs.declared.stop.Stop.TheVariants.{NoMemory};
+ghost use Rattle.node_model.specs.Members.{has_many_keys, is_foreign, is_foreign_install, is_foreign_seizing, is_known_reading};
+ghost use Rattle.node_members.specs.Strangers.{names_strangers};
 
-use cl_base::{Bytes, DevId, NodeId, NodeSet};
-use node_model::Cluster;
-use wire::{Body, Install, Reading, SeizedResult, Texts};
+use cl_base::{DevId, NodeId, NodeSet};
+use node_model::{Cluster, Stop, UpNode};
+use node_updates::{is_bad_answer, is_bad_log, is_bad_request, is_bad_update};
+use std::alloc::Global;
+use wire::{Body, Install, Reading, SeizedResult};
 
 /// As many keys as a device has at most: one of each node.
 const MOST_KEYS: usize = 32;
 
 /// Whether the message is foreign to the node: it names a node or a device that is not there, asks it to
-/// seize for members that it is none of, tells more keys than a device has, or has a text.
-pub fn is_foreign(cluster: &Cluster, me: NodeId, body: &Body) -> bool
-    ensures { result ≡ is_foreign cluster.now me body.now }
+/// seize for members that it is none of, tells more keys than a device has, or has a text that is no
+/// update, no request or no answer, or a list of updates that makes no configuration.
+pub fn is_foreign(
+    alloc: Global,
+    cluster: &Cluster,
+    me: NodeId,
+    up: &UpNode,
+    body: &Body,
+) -> Result<bool, Stop>
+    ensures value { IfOk result (λ foreign. foreign ≡ is_foreign cluster.now me up.now body.now) }
+    ensures only { IfErr result (λ e. e ≡ NoMemory) }
 {
     match body {
-        Body::Collect { members, .. } => !cluster.has_nodes(*members),
         Body::Promise {
             members,
             valid,
@@ -24,10 +35,28 @@ pub fn is_foreign(cluster: &Cluster, me: NodeId, body: &Body) -> bool
             pending,
             ..
         } => {
-            !cluster.has_nodes(*members)
-                || !cluster.has_devices(*valid)
-                || has_texts(committed, pending)
+            if !cluster.has_nodes(*members) || !cluster.has_devices(*valid) {
+                return Ok(true);
+            }
+            is_bad_log(alloc, cluster, committed.items(), pending.as_ref())
         }
+        Body::Install(i) => is_foreign_install(alloc, cluster, me, i),
+        Body::Prepare { epoch, place, text } => {
+            is_bad_update(alloc, cluster, up, *epoch, *place, text)
+        }
+        Body::Request { text, .. } => is_bad_request(alloc, cluster, text.items()),
+        Body::Answer { text, .. } => is_bad_answer(alloc, text.items()),
+        Body::Order(_) => Ok(true),
+        _ => Ok(names_strangers(cluster, me, body)),
+    }
+}
+
+/// The same of messages without texts.
+fn names_strangers(cluster: &Cluster, me: NodeId, body: &Body) -> bool
+    ensures { result ≡ names_strangers cluster.now me body.now }
+{
+    match body {
+        Body::Collect { members, .. } => !cluster.has_nodes(*members),
         Body::SeizeQuorum {
             members,
             device,
@@ -43,10 +72,7 @@ pub fn is_foreign(cluster: &Cluster, me: NodeId, body: &Body) -> bool
             outcome,
             ..
         } => !cluster.devices.has(*device) || has_many_keys(outcome),
-        Body::Install(i) => is_foreign_install(cluster, me, i),
         Body::Ready { joined, .. } => !cluster.has_devices(*joined),
-        // No update and no command is built yet.
-        Body::Prepare { .. } | Body::Order(_) | Body::Request { .. } | Body::Answer { .. } => true,
         _ => false,
     }
 }
@@ -57,13 +83,20 @@ fn is_foreign_seizing(cluster: &Cluster, me: NodeId, members: NodeSet, device: D
     !members.has(me) || !cluster.has_nodes(members) || !cluster.devices.has(device)
 }
 
-fn is_foreign_install(cluster: &Cluster, me: NodeId, i: &Install) -> bool
-    ensures { result ≡ is_foreign_install cluster.now me i.now }
+fn is_foreign_install(
+    alloc: Global,
+    cluster: &Cluster,
+    me: NodeId,
+    i: &Install,
+) -> Result<bool, Stop>
+    ensures value { IfOk result (λ foreign. foreign ≡ is_foreign_install cluster.now me i.now) }
+    ensures only { IfErr result (λ e. e ≡ NoMemory) }
 {
-    !i.members.has(me)
-        || !cluster.has_nodes(i.members)
-        || has_texts(&i.committed, &i.pending)
-        || !knows_readings(cluster, i.readings.items())
+    if !i.members.has(me) || !cluster.has_nodes(i.members) {
+        return Ok(true);
+    }
+    let bad = is_bad_log(alloc, cluster, i.committed.items(), i.pending.as_ref())?;
+    Ok(bad || !knows_readings(cluster, i.readings.items()))
 }
 
 fn knows_readings(cluster: &Cluster, readings: &[Reading]) -> bool
@@ -76,12 +109,6 @@ fn is_known_reading(cluster: &Cluster, r: &Reading) -> bool
     ensures { result ≡ is_known_reading cluster.now r.now }
 {
     cluster.devices.has(r.device) && cluster.nodes.has(r.seizer)
-}
-
-fn has_texts(committed: &Texts, pending: &Option<Bytes>) -> bool
-    ensures { result ≡ has_texts committed.now pending.now }
-{
-    !committed.items().is_empty() || pending.is_some()
 }
 
 fn has_many_keys(outcome: &SeizedResult) -> bool

@@ -54,6 +54,8 @@ fn install_members<K: RecordDisk>(
         beats,
         mut tasks,
         attempt,
+        requests,
+        presidency,
     } = up;
     let (seat, changed) = install(alloc, seat, i)?;
     if changed {
@@ -73,6 +75,8 @@ fn install_members<K: RecordDisk>(
         beats,
         tasks,
         attempt,
+        requests,
+        presidency,
     })
 }
 

@@ -29,6 +29,8 @@ pub fn take_start<K: RecordDisk>(
         beats,
         tasks,
         attempt,
+        requests,
+        presidency,
     } = up;
     let seat = match become_member(seat, epoch) {
         Ok(Started { node, changed }) => {
@@ -47,5 +49,7 @@ pub fn take_start<K: RecordDisk>(
         beats,
         tasks,
         attempt,
+        requests,
+        presidency,
     })
 }

@@ -130,7 +130,7 @@ abbrev pub on_collect : ℕ → UpNode → ℕ → ℕ → Plan
 on_collect me x from p =
     if nat_lt (promised_of x) p
     then keeping me (promised_so x p)
-        (superseded_by x p x.attempt (Says (unknown_lines me x.requests.waiting) (answering from (promise_of (promised_so x p) p) (promised_so x p))))
+    (superseded_by x p x.attempt (Says (unknown_lines me x.requests.waiting) (answering from (promise_of (promised_so x p) p) (promised_so x p))))
     else (if is_in x p then answering from (promise_of x p) x else answering from (body.Nack p (promised_of x)) x)
 
 -- A request to seize: answered by what is kept, and by fault where it comes after the install; else a task begins. Outside its session

@@ -89,16 +89,22 @@ replayed device (Ok pr.Power) = Goes (Reading (Replaying device)) (printed Power
 replayed device (Ok (pr.Command sender command)) =
     Goes (Reading (Replaying (spc.step device sender command).after)) (printed (Answered (spc.step device sender command).answer))
 
+-- commands that make groups run, or tell how they stand
+abbrev pub is_later_command : List ℕ → Bool
+is_later_command words =
+    starts_with nat_eq words (codes "clrg online ") || starts_with nat_eq words (codes "clrg switch ")
+    || bytes_eq words (codes "clrg status") || bytes_eq words (codes "clrs status")
+
 -- lines whose replay is not built
 abbrev pub is_later : Event → Bool
-is_later (event.Command node words) = true
+is_later (event.Command node words) = is_later_command words
 is_later (event.Outcome node resource method outcome) = true
 is_later (event.Probe node resource good) = true
 is_later (event.Client node address client port) = true
 is_later _ = false
 
 abbrev pub is_later_line : List ℕ → Bool
-is_later_line bytes = starts_with nat_eq bytes (codes "cmd ") || starts_with nat_eq bytes (codes "outcome ") || starts_with nat_eq bytes (codes "probe ")
+is_later_line bytes = starts_with nat_eq bytes (codes "outcome ") || starts_with nat_eq bytes (codes "probe ")
 
 -- they are refused so before their numbers and names are looked at
 abbrev pub refused_kind : Kind → List ℕ → Kind

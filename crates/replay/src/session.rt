@@ -5,7 +5,7 @@ ghost use Rattle.schedule_text.specs.Headers.{head_of, header_step};
 ghost use Rattle.schedule_text.specs.Lines.{pr_line_of, cluster_line_of, so_far_after_event};
 ghost use Rattle.replay.specs.declared.session.Body.TheVariants.{CheckingPr, CheckingCluster, Replaying, Clustering};
 ghost use Rattle.replay.specs.declared.session.State.TheVariants.{Reading};
-ghost use Rattle.replay.specs.Sessions.{Answers, Enters, TakesHeader, cluster_of, step, body_step, body_of, checked_pr, checked_cluster, clustered, event_done, replayed, is_later, is_later_line, is_not_built, refused_kind};
+ghost use Rattle.replay.specs.Sessions.{Answers, Enters, TakesHeader, cluster_of, step, body_step, body_of, checked_pr, checked_cluster, clustered, event_done, replayed, is_later, is_later_command, is_later_line, is_not_built, refused_kind};
 ghost use Rattle.world_model.specs.Worlds.{WorldState};
 
 use crate::stop::Stop;
@@ -297,17 +297,26 @@ fn replay_event(
     Ok(())
 }
 
-/// Whether the replay of the line is not built yet: a command, the outcome of a call, a monitor's report.
+/// Whether the replay of the line is not built yet: a command about groups that run, the outcome of a
+/// call, a monitor's report.
 fn is_later(event: &Event) -> bool
     ensures { result ≡ is_later event.now }
 {
     match event {
-        Event::Command { .. }
-        | Event::Outcome { .. }
-        | Event::Probe { .. }
-        | Event::Client { .. } => true,
+        Event::Command { words, .. } => is_later_command(words.items()),
+        Event::Outcome { .. } | Event::Probe { .. } | Event::Client { .. } => true,
         _ => false,
     }
+}
+
+/// Whether the command makes groups run, or asks how they stand.
+fn is_later_command(words: &[u8]) -> bool
+    ensures { result ≡ is_later_command words.now }
+{
+    words.starts_with(b"clrg online ".as_slice())
+        || words.starts_with(b"clrg switch ".as_slice())
+        || words == b"clrg status".as_slice()
+        || words == b"clrs status".as_slice()
 }
 
 /// Why a line is refused: such a line is so before its numbers and names are looked at.
@@ -323,7 +332,5 @@ fn refused_kind(kind: Kind, line: &[u8]) -> Kind
 fn is_later_line(line: &[u8]) -> bool
     ensures { result ≡ is_later_line line.now }
 {
-    line.starts_with(b"cmd ".as_slice())
-        || line.starts_with(b"outcome ".as_slice())
-        || line.starts_with(b"probe ".as_slice())
+    line.starts_with(b"outcome ".as_slice()) || line.starts_with(b"probe ".as_slice())
 }

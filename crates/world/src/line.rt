@@ -2,6 +2,7 @@
 ghost use Rattle.std.specs.Prelude.{◌≡◌, ◌≤◌, ◌++◌, OnOk};
 ghost use Rattle.status_report.specs.declared.entry.Entry.TheVariants as trace;
 ghost use Rattle.status_report.specs.Lines.{printed};
+ghost use Rattle.node_model.specs.declared.input.Input.TheVariants.{Commanded};
 ghost use Rattle.node_model.specs.Inputs.{IsAnswered};
 ghost use Rattle.world_model.specs.Devices.{on_disk};
 ghost use Rattle.world_model.specs.Lines.{IsPlayable, booting, giving_up, left_by, line_on, on_packets, with_stop};
@@ -10,7 +11,7 @@ ghost use Rattle.world_model.specs.Worlds.{play};
 use crate::packets::skip;
 use crate::telling::tell;
 use crate::world::World;
-use cl_base::NodeId;
+use cl_base::{Bytes, NodeId};
 use local_disk::Choice;
 use node::Input;
 use schedule_text::{Event, StopChoice};
@@ -50,6 +51,7 @@ impl World {
                 device,
                 value,
             } => self.write(alloc, *node, *device, *value, out),
+            Event::Command { node, words } => self.command_at(alloc, *node, words, out),
             Event::Clock(second) => note(alloc, out, ScheduleEntry::Clock(*second)),
             Event::Rounds { count, nodes } => {
                 self.rounds(alloc, *count, *nodes, out)?;
@@ -57,6 +59,20 @@ impl World {
             }
             _ => self.move_packet(alloc, event, out),
         }
+    }
+
+    /// An administrator gives the node a command.
+    fn command_at(
+        &mut self,
+        alloc: Global,
+        n: NodeId,
+        words: &Bytes,
+        out: &mut Vec<u8>,
+    ) -> Result<(), AllocError>
+        ensures { OnOk result (play self.new out.new.items ≡ giving_up n (Commanded words.now) (play self.old out.old.items)) }
+    {
+        let words = Bytes::new(words.items().to_vec(alloc)?);
+        self.give_up(alloc, n, &Input::Commanded(words), out)
     }
 
     /// What the line comes to, where it moves a packet.

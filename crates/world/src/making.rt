@@ -7,10 +7,10 @@ ghost use Rattle.record_disk.specs.Disks.{empty_disk};
 ghost use Rattle.world_model.specs.First.{attached_from, first_cluster, first_device, first_world, quorum_devices, with_quorum};
 
 use crate::world::World;
-use cl_base::{DevId, DevSet, DeviceKind, Header, HeaderDevice, NodeSet};
+use cl_base::{DevId, DevSet, DeviceKind, Header, HeaderDevice, HeaderDevices, NodeSet};
 use cmm_attempt::{AttachedDevice, AttachedDevices};
 use interconnect::Net;
-use node_model::{Cluster, Node};
+use node_model::{Cluster, FirstHeader, Node};
 use pgr_device::Pgr;
 use quorum_votes::Votes;
 use record_disk::SimulatedDisk;
@@ -62,6 +62,7 @@ fn first_cluster(alloc: Global, header: &Header) -> Result<Cluster, AllocError>
     let devices = header.devices.items();
     let attached = attached_devices(alloc, devices)?;
     Ok(Cluster {
+        header: FirstHeader::new(copy_header(alloc, header)?),
         id: header.cluster,
         nodes: NodeSet::first(header.nodes),
         configured: header.configured,
@@ -69,6 +70,18 @@ fn first_cluster(alloc: Global, header: &Header) -> Result<Cluster, AllocError>
         attached: AttachedDevices::new(attached),
         first_valid: quorum_devices(devices),
         votes: Votes::first(header),
+    })
+}
+
+fn copy_header(alloc: Global, header: &Header) -> Result<Header, AllocError>
+    ensures { IfOk result (λ copy. copy ≡ header.now) }
+{
+    Ok(Header {
+        version: header.version,
+        cluster: header.cluster,
+        nodes: header.nodes,
+        configured: header.configured,
+        devices: HeaderDevices::new(header.devices.items().to_vec(alloc)?),
     })
 }
 

@@ -37,6 +37,7 @@ attached_from number (d ∷ devices) = record { device = number; nodes = d.attac
 -- what the nodes know of the cluster
 abbrev pub first_cluster : Header → Cluster
 first_cluster h = record {
+  header = h;
   id = h.cluster;
   nodes = first_numbers h.nodes;
   configured = h.configured;

@@ -55,6 +55,7 @@ line_on (event.Tick n) p = giving_up n input.Tick p
 line_on (event.Disk n) p = on_disk n p
 line_on (event.Fault n d done) p = noting Armed (with_world p (with_fault p.world n d (Some done)))
 line_on (event.Write n d value) p = writing n d value p
+line_on (event.Command n words) p = giving_up n (input.Commanded words) p
 line_on (event.Clock second) p = noting (Clock second) p
 line_on (event.Rounds count nodes) p = noting RoundsDone (rounds nodes count p)
 line_on e p = on_packets e p
