@@ -7,7 +7,7 @@ use cl_base::{
 use cl_io::{Failed, MemSink, MemSource, Sink, Source};
 use cmm_attempt::AttachedDevices;
 use node::{Input, step};
-use node_model::{Cluster, Node, Output};
+use node_model::{Cluster, FirstHeader, Node, Output};
 use quorum_votes::Votes;
 use record_disk::SimulatedDisk;
 use replay::{Status, run_words};
@@ -226,14 +226,16 @@ fn cluster_of(alloc: Global, me: NodeId) -> Cluster {
         configured: nodes,
         devices: HeaderDevices::new(Vec::new(alloc)),
     };
+    let votes = Votes::first(&header);
     Cluster {
+        header: FirstHeader::new(header),
         id: 0x2a,
         nodes,
         configured: nodes,
         devices: DevSet::empty(),
         attached: AttachedDevices::new(Vec::new(alloc)),
         first_valid: DevSet::empty(),
-        votes: Votes::first(&header),
+        votes,
     }
 }
 

@@ -29,7 +29,7 @@ pub fn take_packet<K: RecordDisk>(
     m: &Message,
     out: &mut Vec<Output>,
 ) -> Result<UpNode, Stop>
-    ensures { Follows K.saving (on_packet cluster.now me up from m.now) out.old.items disk.old result out.new.items disk.new }
+    ensures follows { Follows K.saving (on_packet cluster.now me up from m.now) out.old.items disk.old result out.new.items disk.new }
 {
     if is_foreign(alloc, cluster, me, &up, &m.body)? {
         return Ok(up);

@@ -60,7 +60,7 @@ pub fn begin_joins(
     tasks: &mut DeviceQueue,
     readings: &[Reading],
 ) -> Result<(), AllocError>
-    ensures { OnOk result (tasks.new ≡ joining_from cluster.now me epoch joined tasks.old readings.now) }
+    ensures after { OnOk result (tasks.new ≡ joining_from cluster.now me epoch joined tasks.old readings.now) }
 {
     for reading in readings {
         begin_join(cluster, me, epoch, joined, tasks, reading)?;

@@ -16,7 +16,7 @@ pub fn end_attempt(
     end: AttemptEnd,
     out: &mut Vec<Output>,
 ) -> Result<UpNode, Stop>
-    ensures { Gives (ending me up end up.attempt) out.old.items result out.new.items }
+    ensures follows { Gives (ending me up end up.attempt) out.old.items result out.new.items }
 {
     let Some(attempt) = up.attempt.take() else {
         return Ok(up);

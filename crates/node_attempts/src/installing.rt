@@ -20,7 +20,7 @@ pub fn install_here<K: RecordDisk>(
     i: Install,
     out: &mut Vec<Output>,
 ) -> Result<UpNode, Stop>
-    ensures { Follows K.saving (installing_here cluster.now me up i up.seat) out.old.items disk.old result out.new.items disk.new }
+    ensures follows { Follows K.saving (installing_here cluster.now me up i up.seat) out.old.items disk.old result out.new.items disk.new }
 {
     let (seat, changed) = install(alloc, up.seat, &i)?;
     up.seat = seat;

@@ -28,7 +28,7 @@ pub fn lead<K: RecordDisk>(
 ) -> Result<UpNode, Stop>
     requires count { up.greatest / 64 < 2 ^ 56 }
     requires member { has members me ≡ true }
-    ensures { Follows K.saving (leading cluster.now me up members) out.old.items disk.old result out.new.items disk.new }
+    ensures follows { Follows K.saving (leading cluster.now me up members) out.old.items disk.old result out.new.items disk.new }
 {
     let epoch = up.greatest.next_above(me);
     match up.seat.promise(epoch) {

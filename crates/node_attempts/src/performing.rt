@@ -29,7 +29,7 @@ pub fn go_on<K: RecordDisk>(
     steps: Steps,
     out: &mut Vec<Output>,
 ) -> Result<UpNode, Stop>
-    ensures { Follows K.saving (going_on cluster.now me up (with_steps attempt steps)) out.old.items disk.old result out.new.items disk.new }
+    ensures follows { Follows K.saving (going_on cluster.now me up (with_steps attempt steps)) out.old.items disk.old result out.new.items disk.new }
 {
     if !attempt.needs_votes() {
         up.attempt.put(alloc, attempt)?;
@@ -79,7 +79,7 @@ pub fn own_ready<K: RecordDisk>(
     mut up: UpNode,
     out: &mut Vec<Output>,
 ) -> Result<UpNode, Stop>
-    ensures { Follows K.saving (own_ready cluster.now me up) out.old.items disk.old result out.new.items disk.new }
+    ensures follows { Follows K.saving (own_ready cluster.now me up) out.old.items disk.old result out.new.items disk.new }
 {
     if up.tasks.joins() {
         return Ok(up);

@@ -25,7 +25,7 @@ pub fn start_here<K: RecordDisk>(
     mut up: UpNode,
     out: &mut Vec<Output>,
 ) -> Result<UpNode, Stop>
-    ensures { Follows K.saving (starting_here me up up.attempt) out.old.items disk.old result out.new.items disk.new }
+    ensures follows { Follows K.saving (starting_here me up up.attempt) out.old.items disk.old result out.new.items disk.new }
 {
     let Some(attempt) = up.attempt.take() else {
         return Ok(up);

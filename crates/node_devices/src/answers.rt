@@ -27,7 +27,7 @@ pub fn take_device_answer<K: RecordDisk>(
     out: &mut Vec<Output>,
 ) -> Result<UpNode, Stop>
     requires keys { IfOk answer HasNoZeroKey }
-    ensures { Follows K.saving (on_answer_of_device cluster.now me up answer) out.old.items disk.old result out.new.items disk.new }
+    ensures follows { Follows K.saving (on_answer_of_device cluster.now me up answer) out.old.items disk.old result out.new.items disk.new }
 {
     let (Some(device), Some(command)) = (up.tasks.due_device(), up.tasks.next_command()) else {
         return Ok(up);

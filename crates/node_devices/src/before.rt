@@ -16,7 +16,7 @@ pub fn before_command<K: RecordDisk>(
     mut up: UpNode,
     out: &mut Vec<Output>,
 ) -> Result<UpNode, Stop>
-    ensures { Follows K.saving (before_command me up) out.old.items disk.old result out.new.items disk.new }
+    ensures follows { Follows K.saving (before_command me up) out.old.items disk.old result out.new.items disk.new }
 {
     let Some(d) = up.tasks.begins_plainly() else {
         return Ok(up);

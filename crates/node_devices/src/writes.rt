@@ -40,7 +40,7 @@ pub fn take_write_answer(
     answer: Result<PrAnswer, Failed>,
     out: &mut Vec<Output>,
 ) -> Result<UpNode, Stop>
-    ensures { Gives (wrote me up device value answer) out.old.items result out.new.items }
+    ensures follows { Gives (wrote me up device value answer) out.old.items result out.new.items }
 {
     let told = DeviceEntry::Command {
         node: me,

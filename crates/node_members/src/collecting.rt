@@ -22,7 +22,7 @@ pub fn collect<K: RecordDisk>(
     p: Epoch,
     out: &mut Vec<Output>,
 ) -> Result<UpNode, Stop>
-    ensures { Follows K.saving (on_collect me up from p) out.old.items disk.old result out.new.items disk.new }
+    ensures follows { Follows K.saving (on_collect me up from p) out.old.items disk.old result out.new.items disk.new }
 {
     if up.seat.promised() < p {
         return promise(alloc, me, disk, up, from, p, out);

@@ -22,7 +22,7 @@ pub fn take_install<K: RecordDisk>(
     i: &Install,
     out: &mut Vec<Output>,
 ) -> Result<UpNode, Stop>
-    ensures { Follows K.saving (on_install cluster.now me up from i.now) out.old.items disk.old result out.new.items disk.new }
+    ensures follows { Follows K.saving (on_install cluster.now me up from i.now) out.old.items disk.old result out.new.items disk.new }
 {
     if i.epoch == Epoch::zero() || up.seat.session() != i.epoch {
         let body = Body::Nack {
@@ -82,7 +82,7 @@ fn install_members<K: RecordDisk>(
 
 /// The node is ready where it has no device left to join.
 pub fn ready(alloc: Global, up: UpNode, to: NodeId, out: &mut Vec<Output>) -> Result<UpNode, Stop>
-    ensures { Gives (readying up to) out.old.items result out.new.items }
+    ensures follows { Gives (readying up to) out.old.items result out.new.items }
 {
     if up.tasks.joins() {
         return Ok(up);

@@ -37,7 +37,7 @@ pub fn seize(
     out: &mut Vec<Output>,
 ) -> Result<UpNode, Stop>
     requires member { has request.members me ≡ true }
-    ensures { Gives (on_seizing cluster.now me up from request.kind request.epoch request.members request.device) out.old.items result out.new.items }
+    ensures follows { Gives (on_seizing cluster.now me up from request.kind request.epoch request.members request.device) out.old.items result out.new.items }
 {
     let (epoch, device) = (request.epoch, request.device);
     if epoch == Epoch::zero() || up.seat.session() != epoch {

@@ -21,7 +21,7 @@ pub fn take_start<K: RecordDisk>(
     epoch: Epoch,
     out: &mut Vec<Output>,
 ) -> Result<UpNode, Stop>
-    ensures { Follows K.saving (on_start_as me up epoch up.seat) out.old.items disk.old result out.new.items disk.new }
+    ensures follows { Follows K.saving (on_start_as me up epoch up.seat) out.old.items disk.old result out.new.items disk.new }
 {
     let UpNode {
         seat,
