@@ -22,7 +22,7 @@ use Rattle.node_model.specs.Entries.{answering, keeping}
 use Rattle.node_model.specs.Plans.{Plan, and_then}
 use Rattle.node_model.specs.Plans.Plan.{Stays, Says}
 use Rattle.node_model.specs.Presidents.{acknowledging, arriving, handling, sent_to, with_proposals}
-use Rattle.node_model.specs.Seats.{coordinator_of, is_in, record_of, session_of}
+use Rattle.node_model.specs.Seats.{coordinator_of, is_in, is_member, record_of, session_of}
 
 -- A member of its membership asks the president.
 
@@ -31,7 +31,7 @@ requested c me x from number text None = Stays x
 requested c me x from number text (Some p) = arriving c me x p (record { from = from; number = number; text = text })
 
 abbrev pub is_of_member : UpNode → ℕ → ℕ → Bool
-is_of_member x from e = is_in x e && has (record_of x).members from
+is_of_member x from e = is_member x.seat && is_in x e && has (record_of x).members from
 
 abbrev pub on_asked : Cluster → ℕ → UpNode → ℕ → ℕ → ℕ → List ℕ → Plan
 on_asked c me x from e number text = if is_of_member x from e then requested c me x from number text x.presidency else Stays x
