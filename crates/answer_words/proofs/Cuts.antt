@@ -1,6 +1,6 @@
 -- Words that are joined by a byte, and cut at it again.
-use Rattle.std.proofs.Common.{◌≡◌, ℕ, ◌==◌, true, false, List, [], ◌∷◌, ◌++◌, ap, ◌∙◌, append-nil, arith, codes, subst, refl, sym}
-use Rattle.std.specs.List.{AllByRecursion, flat_map}
+use Rattle.std.proofs.Common.{◌≡◌, ℕ, ◌==◌, not, ◌&&◌, Bool, true, false, List, [], ◌∷◌, ◌++◌, ap, ◌∙◌, append-nil, arith, codes, subst, refl, sym}
+use Rattle.std.specs.List.{AllByRecursion, flat_map, list_all}
 use Rattle.std.proofs.lemmas.Bool.Decides.{nat_tests}
 use Rattle.std.proofs.lemmas.List.Elements.{All-from_recursion}
 use Rattle.std.proofs.lemmas.List.Splits.{slice_split_at, slice_split_none}
@@ -17,6 +17,23 @@ part_alone c word h = slice_split_none (λ b. b == c) word (All-from_recursion (
 part_before : (c : ℕ) (word rest : List ℕ) → Lacks c word → parts_at c (word ++ c ∷ rest) ≡ word ∷ parts_at c rest
 part_before c word rest h = slice_split_at (λ b. b == c) word c rest (All-from_recursion (λ b. (b == c) ≡ false) word h) (same_byte c)
 
+not_it : (b c : ℕ) (rest : Bool) → (not (b == c) && rest) ≡ true → (b == c) ≡ false
+not_it b c true h = grind (arith, nat_tests)
+not_it b c false h = grind (arith, nat_tests)
+
+and_rest : (a rest : Bool) → (a && rest) ≡ true → rest ≡ true
+and_rest true rest h = h
+and_rest false rest h = absurd (cc)
+
+-- a word in which a test finds no space
+pub spaceless : (word : List ℕ) → list_all (λ b. not (b == 32)) word ≡ true → Lacks 32 word
+spaceless [] h = tt
+spaceless (b ∷ word) h =
+    let rest = list_all (λ c. not (c == 32)) word in (
+      not_it b 32 rest h,
+      spaceless word (and_rest (not (b == 32)) rest h),
+    )
+
 abbrev pub EachLacks : ℕ → List (List ℕ) → Type 0
 EachLacks c words = AllByRecursion (Lacks c) words
 
@@ -27,7 +44,7 @@ words_cut word (next ∷ words) h = part_before 32 word (spaced (next ∷ words)
 -- the same behind `refused`
 pub refused_cut : (word : List ℕ) (words : List (List ℕ)) → EachLacks 32 (word ∷ words) → parts_at 32 (spaced (codes "refused" ∷ spaced (word ∷ words) ∷ [])) ≡ codes "refused" ∷ word ∷ words
 refused_cut word words h =
-    part_before 32 (codes "refused") (spaced (word ∷ words)) (refl, (refl, (refl, (refl, (refl, (refl, (refl, tt)))))))
+    part_before 32 (codes "refused") (spaced (word ∷ words)) (spaceless (codes "refused") refl)
     ∙ ap (λ (rest : List (List ℕ)). codes "refused" ∷ rest) (words_cut word words h)
 
 pub items_cut : (word : List ℕ) (words : List (List ℕ)) → EachLacks 44 (word ∷ words) → parts_at 44 (joined 44 (λ w. w) (word ∷ words)) ≡ word ∷ words
