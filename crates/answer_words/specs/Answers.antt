@@ -1,10 +1,11 @@
 -- What the text of an answer is read as.
 use Rattle.std.specs.Prelude.{ℕ, List, [], ◌∷◌, Option, Some, None, codes, if◌then◌else◌}
+use Rattle.std.specs.Option.{option_map}
 use Rattle.std.specs.Str.{bytes_eq}
-use Rattle.cl_base.specs.declared.refusal.Refusal.{Refusal}
 use Rattle.cl_base.specs.declared.refusal.Refusal.TheVariants as refusal
 use Rattle.status_report.specs.declared.command_entry.Answer.{Answer}
 use Rattle.status_report.specs.declared.command_entry.Answer.TheVariants.{Ask, Refused}
+use Rattle.rg_props.specs.Values.{or_else}
 use Rattle.rg_props.specs.Words.{decimal_in, name_in, parts_at}
 use Rattle.answer_words.specs.declared.spelling.OperandWord.{OperandWord}
 use Rattle.answer_words.specs.declared.spelling.OperandWord.TheVariants as reason
@@ -26,14 +27,9 @@ abbrev pub refused_if : Option OperandWord → List (List ℕ) → Option Answer
 refused_if None operands = None
 refused_if (Some word) operands = refused_by word operands
 
--- a refusal over the configuration, or else one whatever it is
-abbrev pub over_or_whatever : Option Refusal → Option Answer → Option Answer
-over_or_whatever (Some why) other = Some (Refused why)
-over_or_whatever None other = other
-
--- one word behind `refused`
+-- one word behind `refused`: a refusal over the configuration, or one whatever it is
 abbrev pub plainly_refused : List ℕ → Option Answer
-plainly_refused word = over_or_whatever (plain_refusal_in word) (refused_command_in word)
+plainly_refused word = or_else (option_map (λ why. Refused why) (plain_refusal_in word)) (refused_command_in word)
 
 -- the word behind `refused`, and its operands
 abbrev pub refused : List ℕ → List (List ℕ) → Option Answer

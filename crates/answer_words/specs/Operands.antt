@@ -9,12 +9,12 @@ use Rattle.rg_props.specs.Words.{decimal_in, name_in, parts_at, within}
 
 -- one operand alone, and what is made of it
 abbrev pub one : {A C : Type 0} → (List ℕ → Option A) → (A → C) → List (List ℕ) → Option C
-one read make (v ∷ []) = option_map make (read v)
+one read make (word ∷ []) = option_map make (read word)
 one read make _ = None
 
 -- two operands, and what is made of them
 abbrev pub two : {A B C : Type 0} → (List ℕ → Option A) → (List ℕ → Option B) → (A → B → C) → List (List ℕ) → Option C
-two first second make (v ∷ w ∷ []) = and_then (first v) (λ a. option_map (λ b. make a b) (second w))
+two first second make (word ∷ next ∷ []) = and_then (first word) (λ a. option_map (λ b. make a b) (second next))
 two first second make _ = None
 
 -- a node, by its number

@@ -1,13 +1,14 @@
 // Packets that no node of the cluster sends.
-ghost use Rattle.std.specs.Prelude.{◌≡◌, IfOk};
+ghost use Rattle.std.specs.Prelude.{◌≡◌, IfOk, IfErr};
 ghost use Rattle.std.specs.List.{list_all};
+ghost use Rattle.node_model.specs.declared.stop.Stop.TheVariants.{NoMemory};
 ghost use Rattle.node_model.specs.Members.{has_many_keys, is_foreign, is_foreign_install, is_foreign_seizing, is_known_reading};
 ghost use Rattle.node_members.specs.Strangers.{names_strangers};
 
 use cl_base::{DevId, NodeId, NodeSet};
-use node_model::{Cluster, UpNode};
+use node_model::{Cluster, Stop, UpNode};
 use node_updates::{is_bad_answer, is_bad_log, is_bad_request, is_bad_update};
-use std::alloc::{AllocError, Global};
+use std::alloc::Global;
 use wire::{Body, Install, Reading, SeizedResult};
 
 /// As many keys as a device has at most: one of each node.
@@ -22,8 +23,9 @@ pub fn is_foreign(
     me: NodeId,
     up: &UpNode,
     body: &Body,
-) -> Result<bool, AllocError>
+) -> Result<bool, Stop>
     ensures value { IfOk result (λ foreign. foreign ≡ is_foreign cluster.now me up.now body.now) }
+    ensures only { IfErr result (λ e. e ≡ NoMemory) }
 {
     match body {
         Body::Promise {
@@ -86,8 +88,9 @@ fn is_foreign_install(
     cluster: &Cluster,
     me: NodeId,
     i: &Install,
-) -> Result<bool, AllocError>
+) -> Result<bool, Stop>
     ensures value { IfOk result (λ foreign. foreign ≡ is_foreign_install cluster.now me i.now) }
+    ensures only { IfErr result (λ e. e ≡ NoMemory) }
 {
     if !i.members.has(me) || !cluster.has_nodes(i.members) {
         return Ok(true);
