@@ -163,3 +163,8 @@ are_votes table = record { no_node = refl; no_device = refl; node = from_one (vo
 
 pub votes_agree : (under_it given : VoteTable) → under_it ≡ given → AreVotes (votes_of under_it) given
 votes_agree under_it given is = subst (λ t. AreVotes (votes_of under_it) t) is (are_votes under_it)
+
+-- an empty list is not bad
+pub no_updates : (c : Cluster) → IsLog c [] None
+unfolding config_after
+no_updates c = is_log_by c [] None (first_config c.header) refl refl
