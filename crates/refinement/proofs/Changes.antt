@@ -209,20 +209,24 @@ leads_at c M n x disk p members fits i at tied may =
     (subst (λ k. (M.node k).promised < p) (sym at) (subst (λ q. q < p) (sym e.promised) may.0), subst (λ k. all k ≡ true) (sym at) may.2) in
     one_event c M n _ [] (Begin p all) (promising (M.node n) p true) i allowed
     (λ k. subst (λ j. put M.node j (promising (M.node j) p true) k ≡ put M.node n (promising (M.node n) p true) k) (sym at) refl)
-    (λ g is. ((
-      subst (λ v. ShowsForming s v) (sym is) (promise_shows M n disk (state_of x.seat) p true e),
-      refl,
-      record {
-        has = attempts_begin (setting_of c) M p members (own_promise n z p) c.attached c.id (own_is_promise n p z may.1) allowed (subst (λ k. (M.node k).saved ≡ saved_of (state_of x.seat).saved) (sym at) e.saved);
-        epoch = (plan_begins p members (own_promise n z p) c.attached c.id).of_epoch;
-        coordinator = (plan_begins p members (own_promise n z p) c.attached c.id).of_coordinator;
-        reached = record { p = p; members = members; own = own_promise n z p; attached = c.attached; cluster = c.id; devices = fits; calls = []; run = refl };
-        seeks = subst (λ v. Seeks v.seeking t.after.phase) (sym is) (seeks_any true t.after.phase refl);
-        counted = first_counted (after M (Begin p all)) s t.after t.after.phase (first_phase p members (own_promise n z p) c.attached c.id);
-        votes = first_given c t.after t.after.phase (first_phase p members (own_promise n z p) c.attached c.id);
-        logs = logs_begin c p members (own_promise n z p) c.attached c.id log;
-      },
-    ), tt, log))
+    (λ g is. (
+      (
+        subst (λ v. ShowsForming s v) (sym is) (promise_shows M n disk (state_of x.seat) p true e),
+        refl,
+        record {
+          has = attempts_begin (setting_of c) M p members (own_promise n z p) c.attached c.id (own_is_promise n p z may.1) allowed (subst (λ k. (M.node k).saved ≡ saved_of (state_of x.seat).saved) (sym at) e.saved);
+          epoch = (plan_begins p members (own_promise n z p) c.attached c.id).of_epoch;
+          coordinator = (plan_begins p members (own_promise n z p) c.attached c.id).of_coordinator;
+          reached = record { p = p; members = members; own = own_promise n z p; attached = c.attached; cluster = c.id; devices = fits; calls = []; run = refl };
+          seeks = subst (λ v. Seeks v.seeking t.after.phase) (sym is) (seeks_any true t.after.phase refl);
+          counted = first_counted (after M (Begin p all)) s t.after t.after.phase (first_phase p members (own_promise n z p) c.attached c.id);
+          votes = first_given c t.after t.after.phase (first_phase p members (own_promise n z p) c.attached c.id);
+          logs = logs_begin c p members (own_promise n z p) c.attached c.id log;
+        },
+      ),
+      tt,
+      log,
+    ))
     (λ g. tt)
 
 pub leads : (c : Cluster) (M : Memberships) (n : ℕ) (told : Delivered) (x : UpNode) (disk : NodeRecord) (p members : ℕ) → All IsDevice c.attached → Holds (setting_of c) M

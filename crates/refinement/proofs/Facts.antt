@@ -116,7 +116,6 @@ joins_change c n told x (Distrusts d) f may =
     λ h. subst (λ z. (0 < z.session) × (z.session ≡ z.saved.installed)) (sym (state_with x.seat (with_valid (state_of x.seat) (set_without (record_of x).valid d)))) (f.joins h)
 joins_change c n told x (Admits at command a d) f may =
     λ h. subst (λ z. (0 < z.session) × (z.session ≡ z.saved.installed)) (sym (state_with x.seat (with_joined (state_of x.seat) d))) (f.joins (sym (joins_answered x.tasks a) ∙ h))
-
 joins_change c n told x (Proposes s p text) f may =
     λ h. subst (λ z. (0 < z.session) × (z.session ≡ z.saved.installed)) (sym (state_with x.seat (with_entries (state_of x.seat) (with_next (record_of x).entries text)))) (f.joins h)
 joins_change c n told x (Acks s p q left text) f may =

@@ -133,25 +133,29 @@ counts_at c M n told x disk a k s i holds known tied president call gives =
     let N : Memberships = after M (Count q t.newest held) in
     let new : Epoch = counting (M.epoch q) t.newest held r in
     let told_i : InstallTold N i =
-    told_at N q i new (put_here M.epoch q new) count.epoch refl (λ m. has.members m ∙ ap (λ z. is_member z m) (sym count.members)) (sym count.entries) (sym count.committed) in ((
-      subst (λ z. ShowsForming s' z) (sym is) (record {
-        promised = tied.0.promised;
-        saved = same_saved q i.epoch r.committed (length i.committed) r.entries (i.committed ++ listed i.pending) (sym count.epoch) (sym count.entries) (sym count.committed);
-        session = tied.0.session;
-        member = tied.0.member;
-      }),
-      refl,
-      record {
-        has = told_stays M N t has g.grows;
-        epoch = epoch;
-        coordinator = own;
-        reached = reached_more a k may co.reached;
-        seeks = subst (λ p. Seeks (N.node n).seeking p) (sym here.0) tt;
-        counted = subst (λ p. CountedIn N s' t p) (sym here.0) (count.epoch, subst (λ z. InstallTold N z) here.1 told_i, count.members);
-        votes = votes;
-        logs = logs;
-      },
-    ), no_president M N n x.presidency s (Forming s') president, log))
+    told_at N q i new (put_here M.epoch q new) count.epoch refl (λ m. has.members m ∙ ap (λ z. is_member z m) (sym count.members)) (sym count.entries) (sym count.committed) in (
+      (
+        subst (λ z. ShowsForming s' z) (sym is) (record {
+          promised = tied.0.promised;
+          saved = same_saved q i.epoch r.committed (length i.committed) r.entries (i.committed ++ listed i.pending) (sym count.epoch) (sym count.entries) (sym count.committed);
+          session = tied.0.session;
+          member = tied.0.member;
+        }),
+        refl,
+        record {
+          has = told_stays M N t has g.grows;
+          epoch = epoch;
+          coordinator = own;
+          reached = reached_more a k may co.reached;
+          seeks = subst (λ p. Seeks (N.node n).seeking p) (sym here.0) tt;
+          counted = subst (λ p. CountedIn N s' t p) (sym here.0) (count.epoch, subst (λ z. InstallTold N z) here.1 told_i, count.members);
+          votes = votes;
+          logs = logs;
+        },
+      ),
+      no_president M N n x.presidency s (Forming s') president,
+      log,
+    ))
     (λ g. tt)
 
 pub counts : (c : Cluster) (M : Memberships) (n : ℕ) (told : Delivered) (x : UpNode) (disk : NodeRecord) (a : AttemptState) (k : Call) (s : NodeState) (i : Install)
@@ -205,16 +209,20 @@ installs_at c M n from x disk s i holds told tied president low session other me
       below (M.node n).saved.installed q (M.node n).promised (holds.node n).installed promised (λ z. other (sym shows.installed ∙ z)),
     ) in
     one_event c M n (site (Up (changed c n x (Installs s i))) (record_of (changed c n x (Installs s i)))) [] (Install_event n q) v holds allowed (λ j. refl)
-    (λ g is. ((
-      subst (λ z. ShowsForming (installed_with s i) z) (sym is) (record {
-        promised = tied.0.promised;
-        saved = same_saved q q e.settled (length i.committed) e.base (i.committed ++ listed i.pending) refl told.base told.settled;
-        session = tied.0.session;
-        member = tied.0.member;
-      }),
-      refl,
-      attempt_installed c M (after M (Install_event n q)) n s i x.attempt holds g.grows shows told session other tied.2,
-    ), no_president M (after M (Install_event n q)) n x.presidency s (Forming (installed_with s i)) president, log))
+    (λ g is. (
+      (
+        subst (λ z. ShowsForming (installed_with s i) z) (sym is) (record {
+          promised = tied.0.promised;
+          saved = same_saved q q e.settled (length i.committed) e.base (i.committed ++ listed i.pending) refl told.base told.settled;
+          session = tied.0.session;
+          member = tied.0.member;
+        }),
+        refl,
+        attempt_installed c M (after M (Install_event n q)) n s i x.attempt holds g.grows shows told session other tied.2,
+      ),
+      no_president M (after M (Install_event n q)) n x.presidency s (Forming (installed_with s i)) president,
+      log,
+    ))
     (λ g. tt)
 
 pub installs : (c : Cluster) (M : Memberships) (n : ℕ) (told : Delivered) (x : UpNode) (disk : NodeRecord) (s : NodeState) (i : Install)
@@ -296,13 +304,15 @@ sits_at c M n x disk s e holds started_so tied president log session installed =
     let allowed : Allowed (setting_of c) M (Join n e) =
     (started_so, tied.0.session ∙ session, ap (λ r. r.installed) tied.0.saved ∙ installed, tied.0.member) in
     one_event c M n (site (Up (changed c n x (Sits s e))) (record_of (changed c n x (Sits s e)))) [] (Join n e) (joining (M.node n)) holds allowed (λ j. refl)
-    (λ g is. ((
-      subst (λ z. ShowsMember (started s) z) (sym is) (member_shows M n s tied.0),
-      refl,
-      no_own_attempt c M n disk s x.attempt holds (subst (λ z. (M.epoch z).started ≡ true) (sym session) started_so) tied,
-    ),
-    no_president M (after M (Join n e)) n x.presidency s (Member (started s)) president,
-    log_committed c s.saved.entries.committed s.saved.entries.pending (log_at c disk s tied.1 log)))
+    (λ g is. (
+      (
+        subst (λ z. ShowsMember (started s) z) (sym is) (member_shows M n s tied.0),
+        refl,
+        no_own_attempt c M n disk s x.attempt holds (subst (λ z. (M.epoch z).started ≡ true) (sym session) started_so) tied,
+      ),
+      no_president M (after M (Join n e)) n x.presidency s (Member (started s)) president,
+      log_committed c s.saved.entries.committed s.saved.entries.pending (log_at c disk s tied.1 log),
+    ))
     (λ g. tt)
 
 pub sits : (c : Cluster) (M : Memberships) (n : ℕ) (told : Delivered) (x : UpNode) (disk : NodeRecord) (s : NodeState) (e : ℕ)

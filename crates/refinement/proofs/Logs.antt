@@ -1,17 +1,17 @@
 -- Lists of updates: what their votes are, and which are not bad.
-use Rattle.std.specs.Prelude.{ℕ, ◌≡◌, ◌≤◌, ◌++◌, ◌==◌, Bool, true, false, List, [], ◌∷◌, length, take, Option, None, Some, is_some, if◌then◌else◌}
+use Rattle.std.specs.Prelude.{ℕ, ◌≡◌, ◌≤◌, ◌++◌, ◌==◌, Bool, true, false, List, [], ◌∷◌, Option, None, Some, is_some, if◌then◌else◌}
 use Rattle.std.specs.Option.{option_and_then, option_map, unwrap_or}
 use Rattle.std.proofs.Common.{refl, sym, ap, ◌∙◌, subst, arith}
 use Rattle.std.proofs.lemmas.List.{append-nil}
-use Rattle.attempt_laws.specs.Machine.{AreVotes, AreVotesOf, record_in}
+use Rattle.attempt_laws.specs.Machine.{AreVotes}
 use Rattle.cmm_attempt.proofs.Basics.{false_true}
-use Rattle.ccr_commit.specs.Entries.{EntryList, listed, texts_of}
+use Rattle.ccr_commit.specs.Entries.{listed}
 use Rattle.ccr_tables.specs.State.{ConfigState, first_config}
 use Rattle.cl_base.specs.declared.header.Header.{Header}
 use Rattle.cmm_attempt.specs.declared.counting.BothVotes.{BothVotes}
 use Rattle.quorum_votes.specs.Tables.{VoteTable}
 use Rattle.quorum_votes.specs.Votes.{device_votes_of, vote_of}
-use Rattle.update_log.specs.Logs.{config_after, is_log, votes_after, votes_beside, with_text, with_texts}
+use Rattle.update_log.specs.Logs.{config_after, votes_after, votes_beside, with_text, with_texts}
 use Rattle.update_log.specs.declared.votes.LogVotes.{LogVotes}
 use Rattle.node_model.specs.declared.cluster.Cluster.{Cluster}
 use Rattle.node_model.specs.Attempts.{votes_by}
@@ -65,7 +65,7 @@ pub is_log_by : (c : Cluster) (committed : List (List ℕ)) (pending : Option (L
 is_log_by c committed pending s is good =
     ap is_some (votes_are c.header committed pending) ∙ (ap (λ o. is_some (option_and_then (λ s. votes_beside s pending) o)) is ∙ good)
 
-beside_some : (s next : ConfigState) (text : List ℕ) → with_text s text ≡ Some next → is_some (votes_beside s (Some text)) ≡ true
+pub beside_some : (s next : ConfigState) (text : List ℕ) → with_text s text ≡ Some next → is_some (votes_beside s (Some text)) ≡ true
 beside_some s next text is = ap (λ o. is_some (option_map (λ (n : ConfigState). (let v : LogVotes = record { committed = s.votes; pending = Some n.votes } in v)) o)) is
 
 -- With the pending update there is a configuration too.

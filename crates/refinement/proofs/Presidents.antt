@@ -1,12 +1,11 @@
 -- Updates as events of the machine: proposals, what members prepare and commit, and what is acknowledged.
-use Rattle.std.specs.Prelude.{ℕ, suc, ◌+◌, ◌-◌, ◌≡◌, ◌≢◌, ◌<◌, ◌≤◌, ◌⊎◌, ◌++◌, ◌==◌, Bool, true, false, is_some, IsSome, List, [], ◌∷◌, length, take, slice_get, Option, None, Some, if◌then◌else◌}
+use Rattle.std.specs.Prelude.{ℕ, suc, ◌+◌, ◌-◌, ◌≡◌, ◌≢◌, ◌≤◌, ◌⊎◌, ◌++◌, ◌==◌, Bool, true, false, is_some, List, [], ◌∷◌, length, slice_get, Option, None, Some, if◌then◌else◌}
 use Rattle.std.proofs.Common.{refl, sym, ap, subst, ◌∙◌, inl, inr, arith}
 use Rattle.std.proofs.lemmas.List.{append-nil}
-use Rattle.ccr_commit.specs.Entries.{EntryList, all_committed, listed, texts_of, with_next}
+use Rattle.ccr_commit.specs.Entries.{EntryList, all_committed, texts_of, with_next}
 use Rattle.cl_base.specs.Sets.{has, set_without}
 use Rattle.cl_base.proofs.SetLemmas.{none_of_zero}
-use Rattle.cmm_attempt.specs.Attempts.{AttemptState}
-use Rattle.cmm_attempt.proofs.Basics.{false_true, none_some, same_number}
+use Rattle.cmm_attempt.proofs.Basics.{false_true, same_number}
 use Rattle.cmm_member.specs.Machine.{ShowsDown, ShowsMember, saved_of}
 use Rattle.cmm_member.specs.Nodes.{NodeState, with_entries}
 use Rattle.cmm_member.specs.Records.{NodeRecord}
@@ -33,15 +32,15 @@ use Rattle.node_model.specs.declared.presidency.Presidency.{Presidency}
 use Rattle.node_model.specs.declared.seat.Seat.{Seat}
 use Rattle.node_model.specs.declared.seat.Seat.TheVariants.{Forming, Member}
 use Rattle.node_model.specs.Seats.{record_of, session_of, state_of, with_state}
-use Rattle.refinement.specs.Doings.{Site, changed, gone_line, minded, site}
+use Rattle.refinement.specs.Doings.{changed, site}
 use Rattle.refinement.specs.Doings.Change.{Acks, Commits, Prepares, Proposes}
-use Rattle.refinement.specs.Guards.{Comes, IsAccepted, MayChange}
+use Rattle.refinement.specs.Guards.{Comes, MayChange}
 use Rattle.refinement.specs.Ties.{Delivered, GoesOn, HasLog, IsLog, Known, MessageTold, NodeTied, PresidentTied, Presides, ProposedTied, SeatTied, setting_of}
 use Rattle.refinement.proofs.Accepted.{accepted_log}
 use Rattle.refinement.proofs.Changes.{ChangeGoes, down_by, log_of_tied, said_known}
 use Rattle.refinement.proofs.Logs.{log_committed}
 use Rattle.refinement.proofs.Texts.{has_some, member_has, member_low, one_longer, texts_none, texts_some, without_other}
-use Rattle.refinement.proofs.Ties.{members_stay, one_event, presides_stays, sits_started}
+use Rattle.refinement.proofs.Ties.{members_stay, one_event, sits_started}
 
 -- A member in the machine.
 
@@ -337,8 +336,11 @@ less_tied M n from place s (Some p) low high told h = by_place (p.place == place
   where
     by_place : (b : Bool) → (p.place == place) ≡ b → ProposedTied M n s (if b then Some (record p { missing = set_without p.missing from }) else Some p)
     by_place false is = h
-    by_place true is = (h.0, λ k member other missing.
-        by_missing k member other (left_missing p.missing from k low high (has_some s.saved.members k (member_has s.saved.members k member)) (member_low s.saved.members k member) missing))
+    by_place true is = (
+      h.0,
+      λ k member other missing.
+          by_missing k member other (left_missing p.missing from k low high (has_some s.saved.members k (member_has s.saved.members k member)) (member_low s.saved.members k member) missing),
+    )
       where
         by_missing : (k : ℕ) → is_member s.saved.members k ≡ true → k ≢ n → (k ≡ from) ⊎ (has p.missing k ≡ false) → p.place ≤ (M.node k).reached s.session
         by_missing k member other (inl e) =

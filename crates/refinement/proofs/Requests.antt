@@ -1,5 +1,5 @@
 -- What a node does for requests and updates may be done.
-use Rattle.std.specs.Prelude.{ℕ, zero, suc, ◌+◌, ◌≡◌, ◌≢◌, ◌<◌, ◌≤◌, ◌++◌, ◌==◌, ◌&&◌, ◌||◌, nat_le, not, Bool, true, false, is_some, IsSome, List, [], ◌∷◌, length, map, Option, None, Some, Result, Ok, Err, if◌then◌else◌}
+use Rattle.std.specs.Prelude.{ℕ, zero, suc, ◌+◌, ◌≡◌, ◌<◌, ◌≤◌, ◌++◌, ◌==◌, ◌&&◌, ◌||◌, nat_le, not, Bool, true, false, is_some, List, [], ◌∷◌, length, Option, None, Some, Result, Ok, Err, if◌then◌else◌}
 use Rattle.std.proofs.Common.{refl, sym, ap, subst, ◌∙◌, arith}
 use Rattle.admin_commands.specs.Answers.{unless_refused}
 use Rattle.admin_commands.specs.declared.accepted.Accepted.{Accepted}
@@ -21,7 +21,7 @@ use Rattle.ccr_tables.specs.declared.update.Update.{Update}
 use Rattle.cl_base.specs.declared.command.Query.TheVariants as query
 use Rattle.cl_base.specs.declared.refusal.Refusal.{Refusal}
 use Rattle.cl_base.specs.Sets.{has, set_without}
-use Rattle.cmm_attempt.proofs.Basics.{and_cases, false_true, if_either, none_some, same_number, same_some}
+use Rattle.cmm_attempt.proofs.Basics.{and_cases, false_true, if_either, none_some, same_number}
 use Rattle.cmm_member.specs.Nodes.{NodeState, with_entries}
 use Rattle.attempt_laws.proofs.Walk.{if_with}
 use Rattle.proposals.specs.Arrivals as arrivals
@@ -40,7 +40,6 @@ use Rattle.request_queue.specs.declared.request.Request.{Request}
 use Rattle.status_report.specs.CommandLines.{reply_text}
 use Rattle.status_report.specs.declared.command_entry.Answer.{Answer}
 use Rattle.status_report.specs.declared.command_entry.Answer.TheVariants as answer
-use Rattle.status_report.specs.declared.entry.Entry.TheVariants as entry
 use Rattle.status_report.specs.declared.status_entry.StatusEntry.{StatusEntry}
 use Rattle.update_log.specs.Logs.{config_after, is_update}
 use Rattle.update_words.specs.Words.{ask_words_of, words_of}
@@ -48,13 +47,11 @@ use Rattle.wire.specs.declared.message.Body.TheVariants as body
 use Rattle.wire.specs.declared.message.Message.{Message}
 use Rattle.node_model.specs.declared.cluster.Cluster.{Cluster}
 use Rattle.node_model.specs.declared.node.UpNode.{UpNode}
-use Rattle.node_model.specs.declared.output.Output.{Output}
-use Rattle.node_model.specs.declared.output.Output.TheVariants.{Tells, Sends}
 use Rattle.node_model.specs.declared.presidency.Presidency.{Presidency}
 use Rattle.node_model.specs.declared.seat.Seat.{Seat}
 use Rattle.node_model.specs.declared.seat.Seat.TheVariants.{Forming, Member}
 use Rattle.node_model.specs.Members.{is_bad_update, is_next_of}
-use Rattle.node_model.specs.Presidents.{answer_given, checked, in_force, last_place, next_place, others_of, own_arrival, own_line, proposed_by, requests_of, told_lines, with_own, with_proposals, word_answer}
+use Rattle.node_model.specs.Presidents.{answer_given, checked, in_force, next_place, others_of, own_arrival, own_line, proposed_by, requests_of, told_lines, with_own, with_proposals, word_answer}
 use Rattle.node_model.specs.Requests.{is_idle, numbered, waiting_with}
 use Rattle.node_model.specs.Seats as seats
 use Rattle.node_model.specs.Seats.{coordinator_of, installed_of, is_in, record_of, session_of, state_of, version_of, with_state}
@@ -63,11 +60,10 @@ use Rattle.refinement.specs.Courses.{Course, joined}
 use Rattle.refinement.specs.Courses.Course.{Acts, Falls as Course_falls, Keeps, Stops}
 use Rattle.refinement.specs.Cuts as cuts
 use Rattle.refinement.specs.Cuts.{acknowledging_course, handling_course, one_turn_course, turns_course, writing}
-use Rattle.refinement.specs.Doings.{acted, changed, minded}
-use Rattle.refinement.specs.Doings.Act.{Gives, Minds, Notes, Spreads}
-use Rattle.refinement.specs.Doings.Change.{Acks, Commits, Prepares, Proposes}
+use Rattle.refinement.specs.Doings.{acted, changed}
+use Rattle.refinement.specs.Doings.Change.{Commits}
 use Rattle.refinement.specs.Facts.{OfMember, OfPresident, OfProposed}
-use Rattle.refinement.specs.Guards.{Comes, IsAccepted, MayChange, MayCommit, MayPrepare, MayWrite, SameProposed, TellNothing}
+use Rattle.refinement.specs.Guards.{Comes, IsAccepted, SameProposed, TellNothing}
 use Rattle.refinement.specs.Ties.{Delivered, IsLog}
 use Rattle.refinement.proofs.Calls.{Any, MayTo, joined_to}
 use Rattle.refinement.proofs.Logs.{log_next}
@@ -168,10 +164,14 @@ acknowledged_to c me told x p s a text is at prepared first =
     let t : NodeState = with_entries (state_of x.seat) (all_committed (record_of x).entries) in
     let e : state_of (with_state x.seat t) ≡ t = state_with x.seat t in (
       (is, member_seat x s at, prepared, none),
-      ((refl, sym (ap (λ (z : NodeState). z.session) e), no_more _ _ (sym (ap (λ (z : NodeState). length z.saved.entries.committed) e))),
-      (answer_nothing me x a answer.Ok,
-      subst (λ z. OfPresident (Some left) (with_state z (with_entries (state_of z) (all_committed (state_of z).saved.entries)))) (sym at)
-          (subst (λ o. OfProposed (with_entries s (all_committed s.saved.entries)) o) (sym none) refl))),
+      (
+        (refl, sym (ap (λ (z : NodeState). z.session) e), no_more _ _ (sym (ap (λ (z : NodeState). length z.saved.entries.committed) e))),
+        (
+          answer_nothing me x a answer.Ok,
+          subst (λ z. OfPresident (Some left) (with_state z (with_entries (state_of z) (all_committed (state_of z).saved.entries)))) (sym at)
+              (subst (λ o. OfProposed (with_entries s (all_committed s.saved.entries)) o) (sym none) refl),
+        ),
+      ),
     )
 
 acknowledging_to : (c : Cluster) (me : ℕ) (told : Delivered) (x : UpNode) (p : Presidency) → x.presidency ≡ Some p → President x → is_prepared p.proposals ≡ true
@@ -201,14 +201,16 @@ proposing_to c me told x p text is h none good =
     subst (λ z. OfPresident (Some (record p { proposals = proposing p.proposals (length (texts_of (state_of z).saved.entries) + 1) (others_of me x) })) (with_state z (with_entries (state_of z) (with_next (state_of z).saved.entries text))))
     (sym at) (sym (one_longer (texts_of s.saved.entries) text)) in (
       (is, member_seat x s at, none, good),
-      ((
-        refl,
-        sym (ap (λ (z : NodeState). z.session) e),
-        sym (one_longer (texts_of (record_of x).entries) text) ∙ sym (ap (λ (z : NodeState). length (texts_of z.saved.entries)) e),
-        ap (λ (z : NodeState). z.saved.entries.pending) e,
+      (
+        (
+          refl,
+          sym (ap (λ (z : NodeState). z.session) e),
+          sym (one_longer (texts_of (record_of x).entries) text) ∙ sym (ap (λ (z : NodeState). length (texts_of z.saved.entries)) e),
+          ap (λ (z : NodeState). z.saved.entries.pending) e,
+        ),
+        if_with (MayTo c me told President y) (others_of me x == 0) (others_of me x == 0) (acknowledging_course me y) Stops refl
+            (λ alone. acknowledging_to c me told y q refl after alone) (λ alone. after),
       ),
-      if_with (MayTo c me told President y) (others_of me x == 0) (others_of me x == 0) (acknowledging_course me y) Stops refl
-          (λ alone. acknowledging_to c me told y q refl after alone) (λ alone. after)),
     ))
 
 taken_as_to : (c : Cluster) (me : ℕ) (told : Delivered) (x : UpNode) (p : Presidency) (a : Arrived) (r : Result Accepted CheckError) → x.presidency ≡ Some p → President x

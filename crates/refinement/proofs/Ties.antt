@@ -1,5 +1,5 @@
 -- What is tied stays so while the machine goes on at other nodes.
-use Rattle.std.specs.Prelude.{ℕ, ◌-◌, ◌≤◌, ◌≡◌, ◌⊎◌, ◌++◌, ◌∷◌, true, false, List, [], Option, None, Some}
+use Rattle.std.specs.Prelude.{ℕ, ◌-◌, ◌≡◌, ◌⊎◌, ◌++◌, ◌∷◌, true, false, List, [], Option, None, Some}
 use Rattle.std.proofs.Common.{refl, sym, subst, ◌∙◌, inl, inr}
 use Rattle.machine_base.specs.Put.{put}
 use Rattle.machine_base.proofs.Puts.{put_here, put_there}
