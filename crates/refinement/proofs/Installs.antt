@@ -1,5 +1,5 @@
 -- Installs, starts, and what joins a membership, as events of the machine.
-use Rattle.std.specs.Prelude.{ℕ, ◌≡◌, ◌≢◌, ◌<◌, ◌≤◌, ◌⊎◌, ◌++◌, Bool, true, false, List, [], length, Option, None, Some}
+use Rattle.std.specs.Prelude.{ℕ, ◌≡◌, ◌≢◌, ◌<◌, ◌≤◌, ◌⊎◌, ◌++◌, Bool, true, false, List, [], length, Option, None, Some, is_some}
 use Rattle.std.proofs.Common.{refl, sym, ap, subst, ◌∙◌, inl, inr, arith}
 use Rattle.std.proofs.lemmas.List.{append-nil}
 use Rattle.machine_base.specs.Epochs.{coordinator}
@@ -344,7 +344,8 @@ proposed_same : (M : Memberships) (n : ℕ) (s s' : NodeState) (o : Option Propo
 proposed_same M n s s' None e m t h = ap (λ z. z.pending) t ∙ h
 proposed_same M n s s' (Some p) e m t h = (
   h.0 ∙ ap (λ z. length (texts_of z)) (sym t),
-  λ k member other missing. subst (λ q. p.place ≤ (M.node k).reached q) (sym e) (h.1 k (subst (λ z. is_member z k ≡ true) m member) other missing),
+  ap (λ z. is_some z.pending) t ∙ h.1,
+  λ k member other missing. subst (λ q. p.place ≤ (M.node k).reached q) (sym e) (h.2 k (subst (λ z. is_member z k ≡ true) m member) other missing),
 )
 
 pub presides_same : (M : Memberships) (n : ℕ) (s s' : NodeState) (p : Presidency) → s'.session ≡ s.session → s'.saved.members ≡ s.saved.members → s'.saved.entries ≡ s.saved.entries

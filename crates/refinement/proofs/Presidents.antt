@@ -145,6 +145,7 @@ proposed_so c M N n s p text i g shows presides = record {
   members = λ k. members_stay c M N s.session i g (sits_started c M n s i shows) k ∙ presides.members k;
   proposed = (
     sym (one_longer (texts_of s.saved.entries) text),
+    refl,
     λ k member other missing. absurd (others_missing n s.saved.members k (own_member c M n s p i shows presides) member other missing),
   );
 }
@@ -213,7 +214,7 @@ all_prepared c M n s p i shows presides prepared m member =
         subst (λ k. length (M.epoch s.session).log ≤ (M.node k).reached s.session) (sym e) (no_more (length (M.epoch s.session).log) ((M.node n).reached s.session) (sym whole ∙ sym (reached_all c M n s i shows)))
     by_node a tied none (inr ne) =
         subst (λ l. l ≤ (M.node m).reached s.session) (tied.0 ∙ whole)
-        (tied.1 m (sym (presides.members m) ∙ member) ne (subst (λ z. has z m ≡ false) (sym none) (none_of_zero m)))
+        (tied.2 m (sym (presides.members m) ∙ member) ne (subst (λ z. has z m ≡ false) (sym none) (none_of_zero m)))
 
 acknowledged_so : (c : Cluster) (M N : Memberships) (n : ℕ) (s : NodeState) (p left : Presidency) → Holds (setting_of c) M → Grows M N → ShowsMember s (M.node n) → Presides M n s p
     → left.proposals.proposed ≡ None → Presides N n (with_entries s (all_committed s.saved.entries)) left
@@ -338,6 +339,7 @@ less_tied M n from place s (Some p) low high told h = by_place (p.place == place
     by_place false is = h
     by_place true is = (
       h.0,
+      h.1,
       λ k member other missing.
           by_missing k member other (left_missing p.missing from k low high (has_some s.saved.members k (member_has s.saved.members k member)) (member_low s.saved.members k member) missing),
     )
@@ -345,7 +347,7 @@ less_tied M n from place s (Some p) low high told h = by_place (p.place == place
         by_missing : (k : ℕ) → is_member s.saved.members k ≡ true → k ≢ n → (k ≡ from) ⊎ (has p.missing k ≡ false) → p.place ≤ (M.node k).reached s.session
         by_missing k member other (inl e) =
             subst (λ j. p.place ≤ (M.node j).reached s.session) (sym e) (subst (λ v. v ≤ (M.node from).reached s.session) (sym (same_number p.place place is)) told)
-        by_missing k member other (inr gone) = h.1 k member other gone
+        by_missing k member other (inr gone) = h.2 k member other gone
 
 -- whoever is ready in the session is one of its members
 ready_member : (c : Cluster) (M : Memberships) (n from : ℕ) (s : NodeState) (p : Presidency) → Holds (setting_of c) M → Presides M n s p → (M.node from).ready s.session ≡ true

@@ -141,8 +141,9 @@ proposed_stays : (c : Cluster) (M N : Memberships) (n : ℕ) (s : NodeState) (o 
 proposed_stays c M N n s None i g started members h = h
 proposed_stays c M N n s (Some p) i g started members h = (
   h.0,
+  h.1,
   λ k member other missing.
-      over p.place ((M.node k).reached s.session) ((N.node k).reached s.session) (h.1 k member other missing)
+      over p.place ((M.node k).reached s.session) ((N.node k).reached s.session) (h.2 k member other missing)
       ((g.node k).reached s.session ((i.epoch s.session).started_ready started k (members k ∙ member))),
 )
 

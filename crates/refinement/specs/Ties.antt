@@ -1,5 +1,5 @@
 -- When a node, its disk and what it says are those of the abstract machine of memberships.
-use Rattle.std.specs.Prelude.{ℕ, ◌-◌, ◌≡◌, ◌≢◌, ◌≤◌, ◌++◌, ◌==◌, Bool, true, false, All, List, [], ◌∷◌, length, slice_get, Option, None, Some, if◌then◌else◌}
+use Rattle.std.specs.Prelude.{ℕ, ◌-◌, ◌≡◌, ◌≢◌, ◌≤◌, ◌++◌, ◌==◌, Bool, true, false, All, List, [], ◌∷◌, length, slice_get, Option, None, Some, is_some, if◌then◌else◌}
 use Rattle.ccr_commit.specs.Entries.{listed, texts_of}
 use Rattle.cl_base.specs.Sets.{has}
 use Rattle.quorum_votes.specs.Tables.{VoteTable}
@@ -140,13 +140,14 @@ abbrev pub AttemptTied : Cluster → Memberships → ℕ → NodeState → Optio
 AttemptTied c M n s None = Unit {0}
 AttemptTied c M n s (Some a) = Coordinates c M n s a
 
--- A president: what it has proposed is the last of its updates, and each member that is not missing has it. Where nothing is proposed all
--- its updates are committed.
+-- A president: what it has proposed is the last of its updates, which is pending, and each member that is not missing has it. Where
+-- nothing is proposed all its updates are committed.
 
 abbrev pub ProposedTied : Memberships → ℕ → NodeState → Option Proposed → Type 0
 ProposedTied M n s None = s.saved.entries.pending ≡ None
 ProposedTied M n s (Some p) =
     (p.place ≡ length (texts_of s.saved.entries))
+    × (is_some s.saved.entries.pending ≡ true)
     × ((k : ℕ) → is_member s.saved.members k ≡ true → k ≢ n → has p.missing k ≡ false → p.place ≤ (M.node k).reached s.session)
 
 pub record Presides (M : Memberships) (n : ℕ) (s : NodeState) (p : Presidency) : Type 0 where
