@@ -8,7 +8,8 @@ use Rattle.update_log.specs.Logs.{votes_beside, with_text, with_texts}
 use Rattle.update_log.specs.declared.votes.LogVotes.{LogVotes}
 
 -- what was taken was there
-pub some_taken : (found : Option ConfigState) (old new : ConfigState) (taken : Bool) → taken ≡ is_some found → taken ≡ true → new ≡ unwrap_or found old → found ≡ Some new
+pub some_taken : (found : Option ConfigState) (old new : ConfigState) (taken : Bool) → taken ≡ is_some found → taken ≡ true
+    → new ≡ unwrap_or found old → found ≡ Some new
 some_taken None old new taken is so after = cc (sym so ∙ is)
 some_taken (Some s) old new taken is so after = ap Some (sym after)
 
@@ -42,17 +43,20 @@ module _ (whole : Option ConfigState) (old : ConfigState) (texts : List (List �
   pub all_done : length texts ≤ i → Some old ≡ whole
   all_done past = sym (so_far ∙ ap (λ rest. with_texts old rest) (drop_all i texts past))
 
--- the votes with a pending update that is taken
+-- the votes with an update, where it may come
+with_votes : ConfigState → Option ConfigState → Option LogVotes
+with_votes old found = option_map (λ (next : ConfigState). record { committed = old.votes; pending = Some next.votes }) found
+
 pub votes_taken : (old new : ConfigState) (before after : VoteTable) (text : List ℕ) (taken : Bool) → before ≡ old.votes → after ≡ new.votes
     → taken ≡ is_some (with_text old text) → taken ≡ true → new ≡ unwrap_or (with_text old text) old
     → Some (record { committed = before; pending = Some after }) ≡ votes_beside old (Some text)
+unfolding with_votes
 votes_taken old new before after text taken first last is so made =
     ap (λ (v : VoteTable). Some (let both : LogVotes = record { committed = v; pending = Some after } in both)) first
     ∙ ap (λ (v : VoteTable). Some (let both : LogVotes = record { committed = old.votes; pending = Some v } in both)) last
-    ∙ sym (ap (λ found. option_map (λ (next : ConfigState). record { committed = old.votes; pending = Some next.votes }) found)
-    (some_taken (with_text old text) old new taken is so made))
+    ∙ sym (ap (with_votes old) (some_taken (with_text old text) old new taken is so made))
 
--- none with one that is not taken
-pub votes_untaken : (old : ConfigState) (text : List ℕ) (taken : Bool) → taken ≡ is_some (with_text old text) → taken ≡ false → votes_beside old (Some text) ≡ None
-votes_untaken old text taken is so =
-    ap (λ found. option_map (λ (next : ConfigState). record { committed = old.votes; pending = Some next.votes }) found) (none_taken (with_text old text) taken is so)
+pub votes_untaken : (old : ConfigState) (text : List ℕ) (taken : Bool) → taken ≡ is_some (with_text old text) → taken ≡ false
+    → votes_beside old (Some text) ≡ None
+unfolding with_votes
+votes_untaken old text taken is so = ap (with_votes old) (none_taken (with_text old text) taken is so)

@@ -16,14 +16,14 @@ loop-text-preserved c =
 pub returns-then-not-branch : goal.returns-then-not-branch
 unfolding config_after
 returns-then-not-branch c = record {
-  value = one_bad (with_texts (first_config c.args.header.now) c.args.texts.now) c.loop-text.config c.args.texts.now c.loop-text.text-index c.loop-text.invariant
-      c.items.result.now c.text-item.result c.in_ok-add.field-0 c.loop-text-test.true c.items.ensures.value c.text-item.is
+  value = one_bad (with_texts (first_config c.args.header.now) c.args.texts.now) c.loop-text.config c.args.texts.now c.loop-text.text-index
+      c.loop-text.invariant c.items.result.now c.text-item.result c.in_ok-add.field-0 c.loop-text-test.true c.items.ensures.value c.text-item.is
       c.in_ok-add.ensures.taken c.if-not-branch.true;
 }
 
 pub returns : goal.returns
 unfolding config_after
 returns c = record {
-  value = all_done (with_texts (first_config c.args.header.now) c.args.texts.now) c.loop-text.config c.args.texts.now c.loop-text.text-index c.loop-text.invariant
-      c.loop-text-test.false;
+  value = all_done (with_texts (first_config c.args.header.now) c.args.texts.now) c.loop-text.config c.args.texts.now c.loop-text.text-index
+      c.loop-text.invariant c.loop-text-test.false;
 }
