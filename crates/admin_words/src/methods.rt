@@ -1,5 +1,6 @@
 // The set of methods that a word spells.
 ghost use Rattle.std.specs.Prelude.{◌≡◌, ◌&&◌, [], map, find, Some, IfOk};
+ghost use Rattle.std.specs.List.{filter};
 ghost use Rattle.std.specs.Option.{option_map};
 ghost use Rattle.std.specs.Str.{bytes_eq};
 ghost use Rattle.update_words.specs.Methods.{method_text};
@@ -83,16 +84,25 @@ fn complete_set(methods: &[Method]) -> Option<MethodSet>
     }
 }
 
-/// The same methods, put into the set in the order of listing.
 #[tactic(auto, unfolding(update_words::specs::Methods::listed))]
+/// The same methods, put into the set in the order of listing.
 fn in_order(set: MethodSet) -> MethodSet
     ensures { result ≡ plain_set set }
 {
-    METHODS
-        .iter()
-        .copied()
-        .filter(|m| set.has(*m))
-        .fold(MethodSet::empty(), |methods, m| methods.with(m))
+    those_in(set, &METHODS)
+}
+
+/// Those of the methods that the set has, put into a set one after the other.
+fn those_in(set: MethodSet, among: &[Method]) -> MethodSet
+    ensures { result ≡ set_of (filter (has_method set) among.now) }
+{
+    let mut those = MethodSet::empty();
+    for method in among {
+        if set.has(*method) {
+            those = those.with(*method);
+        }
+    }
+    those
 }
 
 fn set_of(methods: &[Method]) -> MethodSet

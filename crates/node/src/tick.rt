@@ -41,7 +41,7 @@ pub(crate) fn tick(
     out.push(Output::Tells(entry))?;
     up.beats.tick(cluster.configured);
     send_heartbeats(alloc, cluster, up, out)?;
-    tick_requests(alloc, me, up, out)?;
+    tick_requests(alloc, up, out)?;
     Ok(due(cluster, me, up))
 }
 

@@ -1,4 +1,4 @@
-ghost use Rattle.std.specs.Prelude.{◌≡◌, IfOk, OnOk, OnErr};
+ghost use Rattle.std.specs.Prelude.{◌≡◌, ◌<◌, ◌^◌, length, IfOk, OnOk, OnErr};
 ghost use Rattle.std.specs.List.{list_any};
 ghost use Rattle.std.specs.Option.{option_map};
 ghost use Rattle.proposals.specs.declared.arrived.Arrival.TheVariants.{New};
@@ -96,6 +96,14 @@ impl Proposals {
         ensures value { option_map (λ a. a.now) result ≡ first_in self.now.arrived }
     {
         self.arrived.first()
+    }
+
+    /// How many requests there are.
+    pub fn len(&self) -> usize
+        ensures value { result ≡ length self.now.arrived }
+        ensures most { result < 2 ^ 63 }
+    {
+        self.arrived.len()
     }
 
     /// The update that is proposed.

@@ -1,4 +1,4 @@
-ghost use Rattle.std.specs.Prelude.{◌≡◌, ◌<◌, length, OnOk, OnErr};
+ghost use Rattle.std.specs.Prelude.{◌≡◌, ◌<◌, ◌^◌, length, OnOk, OnErr};
 ghost use Rattle.std.specs.Option.{option_map};
 ghost use Rattle.request_queue.specs.Queue.{answered, ended, found, goes_again, is_full, most_requests, next_number, nothing_asked, oldest, ticked, with_number, with_request};
 
@@ -74,6 +74,14 @@ impl RequestQueue {
             self.age = 0;
         }
         Ok(())
+    }
+
+    /// How many requests wait.
+    pub fn len(&self) -> usize
+        ensures value { result ≡ length self.now.waiting }
+        ensures most { result < 2 ^ 63 }
+    {
+        self.waiting.len()
     }
 
     /// The request that waits longest: it is the one that the president has or is to get.

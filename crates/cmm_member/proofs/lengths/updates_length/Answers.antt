@@ -9,6 +9,6 @@ returns-in-None c =
 pub returns-in-Some : goal.returns-in-Some
 returns-in-Some c =
     let xs = c.committed-committed.result.now in
-    let added = c.update_length-in-Some.ensures ∙ ap (λ t. capped (one_row (length xs + 1) t)) c.items.ensures.value in
-    total_some c.args.entries.now c.in-Some.text.now xs c.committed_length-length.result c.update_length-in-Some.result c.saturating_add-in-Some.result
-    c.in-Some.ensures.value c.committed-committed.ensures.value c.committed_length-length.ensures added c.saturating_add-in-Some.ensures
+    let added = c.update_length.ensures ∙ ap (λ t. capped (one_row (length xs + 1) t)) c.items.ensures.value in
+    total_some c.args.entries.now c.in-Some.text.now xs c.committed_length-length.result c.update_length.result c.saturating_add.result
+    c.in-Some.ensures.value c.committed-committed.ensures.value c.committed_length-length.ensures added c.saturating_add.ensures

@@ -1,0 +1,4 @@
+pub mod Spellings
+pub mod Operands
+pub mod Answers
+pub mod Laws
