@@ -1,2 +1,2 @@
-mod Accepting
-mod Counting
+pub mod Accepting
+pub mod Counting

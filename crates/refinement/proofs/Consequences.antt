@@ -1,10 +1,11 @@
 -- What follows of every run.
 use Rattle.std.specs.Prelude.{◌≡◌}
 use Rattle.std.proofs.Common.{sym, ap, ◌∙◌}
+use Rattle.cmm_attempt.proofs.Basics.{same_some}
 use Rattle.wire.specs.declared.message.Body.TheVariants as body
 use Rattle.wire.specs.declared.message.Install.{Install}
 use Rattle.membership_machine.specs.State.{Memberships}
-use Rattle.refinement.specs.Runs.{CollectsAgree, InstallsAgree, SameInstall}
+use Rattle.refinement.specs.Runs.{CollectsAgree, InstallsAgree, PreparesAgree, SameInstall}
 use Rattle.refinement.specs.Ties.{InstallTold}
 use Rattle.refinement.proofs.EveryRun.{true_of}
 
@@ -22,3 +23,8 @@ same_install M i j e h k = record {
 pub installs_agree : InstallsAgree
 installs_agree c w from other i j run one two e =
     same_install run.machine i j e (true_of run.machine from (body.Install i) w.sent one run.sent) (true_of run.machine other (body.Install j) w.sent two run.sent)
+
+pub prepares_agree : PreparesAgree
+prepares_agree c w from other p place first second run one two =
+    same_some first second
+    (sym (true_of run.machine from (body.Prepare p place first) w.sent one run.sent) ∙ true_of run.machine other (body.Prepare p place second) w.sent two run.sent)

@@ -1,5 +1,5 @@
 -- Devices keep to 64 bits: those of the header do, and each command keeps them so whose numbers have 64 bits.
-use Rattle.std.specs.Prelude.{ℕ, zero, suc, ◌+◌, ◌≡◌, ◌≢◌, ◌≤◌, ◌<◌, ◌^◌, ◌++◌, ◌==◌, ◌||◌, not, Bool, true, false, List, [], ◌∷◌, Option, None, Some, Ok, length, map, filter, slice_get, if◌then◌else◌}
+use Rattle.std.specs.Prelude.{ℕ, zero, suc, ◌≡◌, ◌≢◌, ◌≤◌, ◌<◌, ◌^◌, ◌++◌, ◌==◌, ◌||◌, not, Bool, true, false, List, [], ◌∷◌, Option, None, Some, Ok, length, map, filter, slice_get, if◌then◌else◌}
 use Rattle.std.proofs.Common.{refl, sym, ap, subst, ◌∙◌, arith}
 use Rattle.std.specs.List.{AllByRecursion}
 use Rattle.std.proofs.lemmas.Bool.{cond_both, eqb-true, eqb-false, or_from, or_parts}

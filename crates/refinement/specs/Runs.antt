@@ -107,3 +107,8 @@ pub record SameInstall (i j : Install) : Type 0 where
 abbrev pub InstallsAgree : Type 0
 InstallsAgree = (c : Cluster) (w : Nodes) (from other : ℕ) (i j : Install) → IsRun c w → IsAmong from (body.Install i) w.sent → IsAmong other (body.Install j) w.sent → i.epoch ≡ j.epoch
     → SameInstall i j
+
+-- two Prepares of one place in one membership bring the same update
+abbrev pub PreparesAgree : Type 0
+PreparesAgree = (c : Cluster) (w : Nodes) (from other p place : ℕ) (first second : List ℕ) → IsRun c w → IsAmong from (body.Prepare p place first) w.sent
+    → IsAmong other (body.Prepare p place second) w.sent → first ≡ second

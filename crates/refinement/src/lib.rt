@@ -4,12 +4,15 @@
 //! cut the plan of each input into them; `specs/Guards` says when a node may take each, by its own state and the delivered packet
 //! alone; `specs/Ties` says when a node, its disk and what it says are those of the machine.
 //!
+//! Requests and answers tell the machine nothing. An update is its events: proposed, prepared by the members, acknowledged, committed.
+//! The machine's votes are those under a list of updates; no node keeps or shows a list that is bad.
+//!
 //! Each function here is a law. It has no body, and its contract is proved of every node, every disk and every input.
 #![tactic(auto)]
 
 ghost use Rattle.refinement.specs.Steps.{DisksKeepRules, StepsAreCut};
 ghost use Rattle.refinement.specs.Whole.{NodesGo};
-ghost use Rattle.refinement.specs.Runs.{CollectsAgree, EveryRunIsOne, InstallsAgree};
+ghost use Rattle.refinement.specs.Runs.{CollectsAgree, EveryRunIsOne, InstallsAgree, PreparesAgree};
 ghost use Rattle.refinement.specs.Worlds.{WorldRunsAreOne};
 
 /// The simulated disk keeps what is supposed of a disk: a save that is done leaves the record, one that is lost leaves it or the
@@ -30,9 +33,10 @@ pub fn nodes_go()
     ensures { NodesGo }
 {}
 
-/// Every run of all nodes is a run of the machine of memberships: any node takes any input at any time, a save is done or lost, and
-/// what was sent comes late, twice or not at all, and to anyone; a device answers anything in 64 bits. Each node with its disk is tied to the machine's, and all that was
-/// ever sent is true there. So each law of the machine is one of these runs.
+/// Every run of all nodes is a run of the machine of memberships: any node takes any input at any time, an administrator's command
+/// among them, a save is done or lost, and what was sent comes late, twice or not at all, and to anyone; a device answers anything in
+/// 64 bits. Each node with its disk is tied to the machine's, and all that was ever sent is true there. So each law of the machine is
+/// one of these runs.
 pub fn every_run_is_one()
     ensures { EveryRunIsOne }
 {}
@@ -44,9 +48,10 @@ pub fn world_runs_are_one()
     ensures { WorldRunsAreOne }
 {}
 
-/// Of all that was ever sent in a run, two Collects of one number name the same members, and two Installs of one epoch bring the
-/// same members and the same updates.
+/// Of all that was ever sent in a run, two Collects of one number name the same members, two Installs of one epoch bring the
+/// same members and the same updates, and two Prepares of one place in one membership bring the same update.
 pub fn messages_agree()
     ensures collects { CollectsAgree }
     ensures installs { InstallsAgree }
+    ensures prepares { PreparesAgree }
 {}

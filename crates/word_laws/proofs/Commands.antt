@@ -1,12 +1,10 @@
 -- The words of each update are read as this update.
-use Rattle.std.proofs.Common.{◌≡◌, ℕ, Bool, true, false, List, [], ◌∷◌, ◌++◌, map, Option, Some, None, Ok, codes, refl, sym, ap, subst, ◌∙◌}
-use Rattle.std.specs.List.{AllByRecursion}
+use Rattle.std.proofs.Common.{◌≡◌, ℕ, true, false, List, [], ◌∷◌, map, Some, Ok, codes, refl, sym, ap, ◌∙◌}
 use Rattle.std.specs.Fmt.{decimal}
 use Rattle.cl_base.specs.declared.command.Policy.{Policy}
 use Rattle.cl_base.specs.declared.command.Policy.TheVariants.{Weighted, Sticky, StickyPort}
 use Rattle.cl_base.specs.declared.header.Version.{Version}
 use Rattle.cl_base.specs.declared.header.Version.TheVariants.{One, Two}
-use Rattle.ccr_tables.specs.declared.command.AdminCommand.{AdminCommand}
 use Rattle.ccr_tables.specs.declared.command.AdminCommand.TheVariants.{Change}
 use Rattle.ccr_tables.specs.declared.update.DeviceChange.TheVariants as device
 use Rattle.ccr_tables.specs.declared.update.GroupChange.{GroupChange}
@@ -17,12 +15,12 @@ use Rattle.ccr_tables.specs.declared.update.Update.{Update}
 use Rattle.ccr_tables.specs.declared.update.Update.TheVariants.{RegisterType, UnregisterType, CreateGroup, DeleteGroup, SetGroup, ChangeGroup, SwitchGroup, CreateResource, DeleteResource, SetResource, ChangeResource, Device, NodeVote, AddNode, RemoveNode, CreateLimit, DeleteLimit, CreateAddress, DeleteAddress, SetWeights}
 use Rattle.update_words.specs.Joined.{spaced}
 use Rattle.update_words.specs.Methods.{methods_text}
-use Rattle.update_words.specs.Words.{flag_words, group_word, nodes_text, policy_text, resource_word, vote_word, weights_text, words_of}
+use Rattle.update_words.specs.Words.{flag_words, group_word, nodes_text, policy_text, resource_word, weights_text, words_of}
 use Rattle.admin_words.specs.Answers.{Spelled, by_word}
 use Rattle.admin_words.specs.Commands.{address_least, address_operands, command_in, command_of, group_least, group_operands, node_least, node_operands, quorum_by_word, resource_least, resource_operands, type_least, type_operands}
 use Rattle.admin_words.specs.Operands.{both_flags_in, flag_in, policy_in}
 use Rattle.admin_words.specs.Spellings.{address_command_in, group_command_in, node_command_in, quorum_command_in, resource_command_in, tool_named, type_command_in, voter_in}
-use Rattle.word_laws.specs.Spelled.{IsSecond, IsSpelled}
+use Rattle.word_laws.specs.Spelled.{IsSpelled}
 use Rattle.word_laws.proofs.Split.{EachLacks, lacks, parts_joined}
 use Rattle.word_laws.proofs.Reading.{device_known, device_word, load_known, load_word, name_known, name_word, node_known, node_word, nodes_known, nodes_word, weights_known, weights_word}
 use Rattle.word_laws.proofs.Methods.{methods_known, methods_word}

@@ -1,14 +1,12 @@
 -- A set of methods is read back from its words.
-use Rattle.std.proofs.Common.{◌≡◌, ℕ, ◌≤◌, ◌==◌, ◌&&◌, ◌||◌, Bool, true, false, List, [], ◌∷◌, length, Option, Some, None, refl, ap, ◌∙◌, arith, cond}
+use Rattle.std.proofs.Common.{◌≡◌, ℕ, ◌≤◌, ◌==◌, ◌&&◌, ◌||◌, Bool, true, false, List, [], ◌∷◌, length, Some, refl, ap, ◌∙◌, arith, cond}
 use Rattle.std.specs.List.{AllByRecursion, filter, list_any}
-use Rattle.std.specs.Option.{option_map}
 use Rattle.cl_base.specs.Methods.{has_method, place_of}
 use Rattle.cl_base.specs.declared.method.Method.{Method}
 use Rattle.cl_base.specs.declared.method.Method.TheVariants.{PrenetStart, Start, MonitorStart, MonitorCheck, MonitorStop, Stop, PostnetStop, Validate, Init, Fini, Boot, Update}
-use Rattle.rg_props.specs.Values.{items_in, kept_if}
 use Rattle.ccr_tables.specs.Refusals.{both_or_neither, is_complete}
 use Rattle.update_words.specs.Methods.{all_methods, listed, method_text, methods_text}
-use Rattle.admin_words.specs.Methods.{are_complete, in_order, lists, method_in, methods_in, plain_set, set_of}
+use Rattle.admin_words.specs.Methods.{are_complete, in_order, lists, method_in, methods_in}
 use Rattle.word_laws.specs.Spelled.{AreMethods}
 use Rattle.word_laws.proofs.Split.{first, items_known, lacks}
 use Rattle.word_laws.proofs.Reading.{list_word}
@@ -26,7 +24,7 @@ kept p q k ms false = and_false (q k) (list_any q (filter p ms))
     and_false false rest = refl
 
 -- a filtered list has what passes both tests
-any_filter : (p q : Method → Bool) (ms : List Method) → list_any q (filter p ms) ≡ list_any (λ k. q k && p k) ms
+pub any_filter : (p q : Method → Bool) (ms : List Method) → list_any q (filter p ms) ≡ list_any (λ k. q k && p k) ms
 any_filter p q [] = refl
 any_filter p q (k ∷ ms) = kept p q k ms (p k) ∙ ap (λ (rest : Bool). (q k && p k) || rest) (any_filter p q ms)
 
@@ -34,24 +32,24 @@ or_nothing : (b : Bool) → (b || false) ≡ b
 or_nothing true = refl
 or_nothing false = refl
 
-lists_one : (set : ℕ) (m : Method) → list_any (λ k. (place_of m == place_of k) && has_method set k) all_methods ≡ has_method set m
-lists_one set PrenetStart = or_nothing (has_method set PrenetStart)
-lists_one set Start = or_nothing (has_method set Start)
-lists_one set MonitorStart = or_nothing (has_method set MonitorStart)
-lists_one set MonitorCheck = or_nothing (has_method set MonitorCheck)
-lists_one set MonitorStop = or_nothing (has_method set MonitorStop)
-lists_one set Stop = or_nothing (has_method set Stop)
-lists_one set PostnetStop = or_nothing (has_method set PostnetStop)
-lists_one set Validate = or_nothing (has_method set Validate)
-lists_one set Init = or_nothing (has_method set Init)
-lists_one set Fini = or_nothing (has_method set Fini)
-lists_one set Boot = or_nothing (has_method set Boot)
-lists_one set Update = or_nothing (has_method set Update)
+pub lists_test : (test : Method → Bool) (m : Method) → list_any (λ k. (place_of m == place_of k) && test k) all_methods ≡ test m
+lists_test test PrenetStart = or_nothing (test PrenetStart)
+lists_test test Start = or_nothing (test Start)
+lists_test test MonitorStart = or_nothing (test MonitorStart)
+lists_test test MonitorCheck = or_nothing (test MonitorCheck)
+lists_test test MonitorStop = or_nothing (test MonitorStop)
+lists_test test Stop = or_nothing (test Stop)
+lists_test test PostnetStop = or_nothing (test PostnetStop)
+lists_test test Validate = or_nothing (test Validate)
+lists_test test Init = or_nothing (test Init)
+lists_test test Fini = or_nothing (test Fini)
+lists_test test Boot = or_nothing (test Boot)
+lists_test test Update = or_nothing (test Update)
 
 -- the methods that a set lists are those that it has
 listed_has : (set : ℕ) (m : Method) → lists (listed set) m ≡ has_method set m
 unfolding listed
-listed_has set m = any_filter (has_method set) (λ k. place_of m == place_of k) all_methods ∙ lists_one set m
+listed_has set m = any_filter (has_method set) (λ k. place_of m == place_of k) all_methods ∙ lists_test (has_method set) m
 
 in_order_again : (set : ℕ) → in_order (listed set) ≡ listed set
 unfolding in_order listed

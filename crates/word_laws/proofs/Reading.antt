@@ -3,7 +3,6 @@ use Rattle.std.proofs.Common.{◌≡◌, ℕ, zero, suc, ◌+◌, ◌%◌, ◌^�
 use Rattle.std.specs.Char.{is_ascii_digit}
 use Rattle.std.specs.Fmt.{decimal}
 use Rattle.std.specs.List.{AllByRecursion, list_all}
-use Rattle.std.specs.Option.{option_map}
 use Rattle.std.proofs.lemmas.Bool.Decides.{nat_tests}
 use Rattle.std.proofs.lemmas.Fmt.{decimal_by_steps, decimal_is_IsNumeral, decimal_nonempty, decimal_digit, first_decimal}
 use Rattle.std.proofs.lemmas.List.Folds.{list_all-append}
@@ -12,7 +11,7 @@ use Rattle.cl_base.specs.Limits.{most_devices}
 use Rattle.cl_base.specs.Names.{IsName, is_name_byte}
 use Rattle.cl_base.specs.declared.header.Version.{Version}
 use Rattle.cl_base.specs.declared.header.Version.TheVariants.{One, Two}
-use Rattle.rg_props.specs.Values.{are_distinct, items_in, most_of, nodes_in, same_node}
+use Rattle.rg_props.specs.Values.{most_of, nodes_in}
 use Rattle.rg_props.specs.Words.{has_no_leading_zero, is_decimal, name_in, number_in, parts_at}
 use Rattle.rg_props.proofs.NameLemmas.{name_read}
 use Rattle.ccr_tables.specs.declared.address.Weight.{Weight}

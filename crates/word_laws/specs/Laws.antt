@@ -1,5 +1,5 @@
 -- What the words of an update are read as.
-use Rattle.std.specs.Prelude.{◌≡◌, Ok}
+use Rattle.std.specs.Prelude.{ℕ, ◌≡◌, List, Ok}
 use Rattle.cl_base.specs.declared.header.Version.{Version}
 use Rattle.ccr_tables.specs.declared.command.AdminCommand.TheVariants.{Change}
 use Rattle.ccr_tables.specs.declared.update.Update.{Update}
@@ -14,3 +14,7 @@ WordsAreRead = (version : Version) (u : Update) → IsSpelled version u → comm
 -- and no two updates have the same words
 abbrev pub SameWordsSameUpdate : Type 0
 SameWordsSameUpdate = (version : Version) (u w : Update) → IsSpelled version u → IsSpelled version w → words_of u ≡ words_of w → u ≡ w
+
+-- what is read as an update has such operands
+abbrev pub UpdatesAreSpelled : Type 0
+UpdatesAreSpelled = (version : Version) (text : List ℕ) (u : Update) → command_of version text ≡ Ok (Change u) → IsSpelled version u

@@ -4,7 +4,7 @@ use Rattle.std.specs.List.{AllByRecursion, list_all}
 use Rattle.cl_base.specs.Limits.{most_devices}
 use Rattle.cl_base.specs.Names.{IsName}
 use Rattle.cl_base.specs.declared.header.Version.{Version}
-use Rattle.cl_base.specs.declared.header.Version.TheVariants.{One, Two}
+use Rattle.cl_base.specs.declared.header.Version.TheVariants.{Two}
 use Rattle.rg_props.specs.Values.{are_distinct, most_of, same_node}
 use Rattle.ccr_tables.specs.Refusals.{is_complete}
 use Rattle.ccr_tables.specs.declared.address.Weight.{Weight}

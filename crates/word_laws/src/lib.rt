@@ -4,4 +4,4 @@
 
 mod laws;
 
-pub use laws::{same_words_same_update, words_are_read};
+pub use laws::{same_words_same_update, updates_are_spelled, words_are_read};
