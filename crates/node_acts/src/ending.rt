@@ -1,14 +1,13 @@
 // The requests that wait when a membership ends.
-ghost use Rattle.std.specs.Prelude.{◌≡◌, ◌++◌, OnOk, IfErr};
+ghost use Rattle.std.specs.Prelude.{◌≡◌, ◌++◌, OnOk};
 ghost use Rattle.request_queue.specs.Queue.{ended};
-ghost use Rattle.node_model.specs.declared.stop.Stop.TheVariants.{NoMemory};
 ghost use Rattle.node_model.specs.Entries.{unknown_line, unknown_lines};
 
 use cl_base::NodeId;
-use node_model::{Output, Stop, tell};
+use node_model::Output;
 use request_queue::{Request, RequestQueue};
 use status_report::{Answer, CommandEntry, Entry};
-use std::alloc::Global;
+use std::alloc::{AllocError, Global};
 
 /// The membership ends: of each command that waited, oldest first, it is told that nobody knows what
 /// comes of it.
@@ -17,18 +16,16 @@ pub fn end_requests(
     me: NodeId,
     requests: &mut RequestQueue,
     out: &mut Vec<Output>,
-) -> Result<(), Stop>
+) -> Result<(), AllocError>
     ensures told { OnOk result (out.new.items ≡ out.old.items ++ unknown_lines me requests.old.waiting) }
     ensures after { requests.new ≡ ended requests.old }
-    ensures only { IfErr result (λ e. e ≡ NoMemory) }
 {
     let waiting = requests.end(alloc);
     tell_each(me, &waiting, out)
 }
 
-fn tell_each(me: NodeId, waiting: &[Request], out: &mut Vec<Output>) -> Result<(), Stop>
+fn tell_each(me: NodeId, waiting: &[Request], out: &mut Vec<Output>) -> Result<(), AllocError>
     ensures told { OnOk result (out.new.items ≡ out.old.items ++ unknown_lines me waiting.now) }
-    ensures only { IfErr result (λ e. e ≡ NoMemory) }
 {
     for request in waiting {
         tell_unknown(me, request, out)?;
@@ -36,9 +33,8 @@ fn tell_each(me: NodeId, waiting: &[Request], out: &mut Vec<Output>) -> Result<(
     Ok(())
 }
 
-fn tell_unknown(me: NodeId, request: &Request, out: &mut Vec<Output>) -> Result<(), Stop>
+fn tell_unknown(me: NodeId, request: &Request, out: &mut Vec<Output>) -> Result<(), AllocError>
     ensures told { OnOk result (out.new.items ≡ out.old.items ++ unknown_line me request.now) }
-    ensures only { IfErr result (λ e. e ≡ NoMemory) }
 {
     if request.told {
         let answered = CommandEntry::Answered {
@@ -46,7 +42,7 @@ fn tell_unknown(me: NodeId, request: &Request, out: &mut Vec<Output>) -> Result<
             number: request.number,
             answer: Answer::Unknown,
         };
-        tell(out, Entry::Command(answered))?;
+        out.push(Output::Tells(Entry::Command(answered)))?;
     }
     Ok(())
 }

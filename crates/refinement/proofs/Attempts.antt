@@ -23,10 +23,9 @@ use Rattle.attempt_laws.proofs.Starts.{ends_once}
 use Rattle.attempt_laws.proofs.Stays.{final_stays, granted_stays, plan_stays}
 use Rattle.attempt_laws.proofs.Told.{calls_are_told}
 use Rattle.node_model.specs.declared.cluster.Cluster.{Cluster}
-use Rattle.node_model.specs.Attempts.{votes_in}
 use Rattle.refinement.specs.Guards.{MayCall}
 use Rattle.refinement.specs.Ties.{Coordinates, CountedIn, Delivered, InstallTold, Known, Seeks, setting_of}
-use Rattle.refinement.proofs.Given.{Gives, given_stays}
+use Rattle.refinement.proofs.Given.{logs_kept, votes_kept}
 use Rattle.refinement.proofs.Ties.{tells_of}
 
 -- a call that may be made is one that the attempt's rules allow
@@ -36,13 +35,6 @@ may_be_called c told a (With_votes both) h = h.1
 may_be_called c told a (Own_seized d r) h = tt
 may_be_called c told a Own_ready h = tt
 may_be_called c told a Tick h = tt
-
-pub gives_votes : (c : Cluster) (told : Delivered) (a : AttemptState) (k : Call) → MayCall c told a k → Gives (votes_in c) k
-gives_votes c told a (Take from m) h = tt
-gives_votes c told a (With_votes both) h = h.0
-gives_votes c told a (Own_seized d r) h = tt
-gives_votes c told a Own_ready h = tt
-gives_votes c told a Tick h = tt
 
 run_more : (s : AttemptState) (calls : List Call) (t : AttemptState) (k : Call) → CallRun s calls t → May t k → CallRun s (calls ++ k ∷ []) (turn t k).after
 run_more s [] t k run may = (subst (λ x. May x k) run may, ap (λ x. (turn x k).after) run)
@@ -113,7 +105,7 @@ pub record Shown (M : Memberships) (n : ℕ) (s : NodeState) : Type 0 where
 pub has_after : (c : Cluster) (M : Memberships) (n : ℕ) (s : NodeState) (told : Delivered) (a : AttemptState) (k : Call) → Holds (setting_of c) M → Known M told → Shown M n s
     → Coordinates c M n s a → MayCall c told a k → MachineHas M (turn a k).after
 has_after c M n s told a (Take from m) i known shows h may =
-    calls_are_told M a (Take from m) tt h.has (uncounted c M n s a i shows.session h) (tells_of M from m.body (subst (λ t. Known M t) may known))
+    calls_are_told M a (Take from m) tt h.has (uncounted c M n s a i shows.session h) (tells_of M from m.body (subst (λ t. Known M t) may.0 known))
 has_after c M n s told a (With_votes both) i known shows h may = calls_are_told M a (With_votes both) may.1 h.has (uncounted c M n s a i shows.session h) tt
 has_after c M n s told a (Own_seized d r) i known shows h may = calls_are_told M a (Own_seized d r) tt h.has (uncounted c M n s a i shows.session h) tt
 has_after c M n s told a Tick i known shows h may = calls_are_told M a Tick tt h.has (uncounted c M n s a i shows.session h) tt
@@ -177,8 +169,8 @@ installing_before a k reached may none is = by_cases (installs_come_first a k re
 
 counted_by : (M : Memberships) (s : NodeState) (a : AttemptState) (k : Call) → May a k → a.phase ≡ Installing → CountedIn M s a a.phase → CountedIn M s (turn a k).after Installing
 counted_by M s a k may is h =
-    let before : (s.saved.installed ≡ a.plan.epoch) × InstallTold M (install_in a) = subst (CountedIn M s a) is h in
-    (before.0 ∙ ap (λ p. p.epoch) (sym (plan_stays a k may)), subst (λ x. InstallTold M x) (sym (granted_stays a k may is)) before.1)
+    let before : (s.saved.installed ≡ a.plan.epoch) × InstallTold M (install_in a) × (s.saved.members ≡ a.plan.members) = subst (CountedIn M s a) is h in
+    (before.0 ∙ ap (λ p. p.epoch) (sym (plan_stays a k may)), subst (λ x. InstallTold M x) (sym (granted_stays a k may is)) before.1, before.2 ∙ ap (λ p. p.members) (sym (plan_stays a k may)))
 
 pub counted_phase : (M : Memberships) (s : NodeState) (a : AttemptState) (phase : Phase) → (phase ≡ Installing → CountedIn M s a Installing) → CountedIn M s a phase
 counted_phase M s a Installing h = h refl
@@ -206,5 +198,6 @@ goes_on_so c M n s told a k i known shows h call none =
       reached = reached_more a k may h.reached;
       seeks = seeks_after (M.node n).seeking a k may h.seeks;
       counted = counted_after M s a k h.reached may none h.counted;
-      votes = given_stays (votes_in c) a k (gives_votes c told a k call) h.votes;
+      votes = votes_kept c told a k may call h.votes;
+      logs = logs_kept c told a k may call h.logs;
     }

@@ -367,10 +367,10 @@ going_to c me told x a k s attempt seat f call =
     let t : AttemptState = (turn a k).after in
     let may : May a k = may_be_called c told a k call in
     if_with (MayTo c me told Any x) (is_choosing t.phase) (is_choosing t.phase)
-    (Acts (Goes_on a k) (called c me (going x a k) t (With_votes (votes_in c)))) (called c me x a k) refl
+    (Acts (Goes_on a k) (called c me (going x a k) t (With_votes (votes_in c t)))) (called c me x a k) refl
     (λ e.
     let h : t.phase ≡ Choosing = choosing_is t.phase e in (
       (attempt, call, none_choosing a k (installs_in (turn a k).steps) f.reached may h refl),
-      called_to c me told (going x a k) t (With_votes (votes_in c)) s refl seat (choosing_facts s a k f may h) (refl, h),
+      called_to c me told (going x a k) t (With_votes (votes_in c t)) s refl seat (choosing_facts s a k f may h) (refl, h),
     ))
     (λ e. called_to c me told x a k s attempt seat f call)

@@ -37,8 +37,9 @@ use Rattle.node_model.specs.Seats.{promised_of, record_of, state_of, with_state}
 use Rattle.refinement.specs.Doings.{Site, changed, site}
 use Rattle.refinement.specs.Doings.Change.{Leads, Promises}
 use Rattle.refinement.specs.Guards.{Asks, MayChange, Says}
-use Rattle.refinement.specs.Ties.{CountedIn, Delivered, GivenIn, GoesOn, Known, MessageTold, NodeTied, SeatTied, Seeks, SiteTied, setting_of}
+use Rattle.refinement.specs.Ties.{CountedIn, Delivered, GivenIn, GoesOn, HasLog, Known, MessageTold, NodeTied, SeatTied, Seeks, SiteTied, setting_of}
 use Rattle.refinement.proofs.Attempts.{Shown, seeks_any}
+use Rattle.refinement.proofs.Given.{logs_begin}
 use Rattle.refinement.proofs.Ties.{one_event}
 
 -- a change, made in memory and saved, as a small step that gives only what tells nothing
@@ -94,10 +95,10 @@ shown c M n disk o seat h =
     record { session = e.session; installed = ap (λ r. r.installed) e.saved }
 
 -- down: what it keeps is its disk
-down_by : (c : Cluster) (M : Memberships) (n : ℕ) (disk : NodeRecord) (node : Node) → NodeTied c M n disk node → ShowsDown disk (crashing (M.node n))
-down_by c M n disk Down h = record { promised = h.promised; saved = h.saved; session = refl; member = refl }
+pub down_by : (c : Cluster) (M : Memberships) (n : ℕ) (disk : NodeRecord) (node : Node) → NodeTied c M n disk node → ShowsDown disk (crashing (M.node n))
+down_by c M n disk Down h = record { promised = h.0.promised; saved = h.0.saved; session = refl; member = refl }
 down_by c M n disk (Up x) h =
-    let e : Sees M n disk (state_of x.seat) = sees c M n disk x.attempt x.seat h in
+    let e : Sees M n disk (state_of x.seat) = sees c M n disk x.attempt x.seat h.0 in
     record {
       promised = e.promised ∙ ap (λ r. r.promised) (sym e.disk_so);
       saved = e.saved ∙ ap saved_of (sym e.disk_so);
@@ -105,19 +106,24 @@ down_by c M n disk (Up x) h =
       member = refl;
     }
 
+-- its list of updates is not bad
+pub log_of_tied : (c : Cluster) (M : Memberships) (n : ℕ) (disk : NodeRecord) (node : Node) → NodeTied c M n disk node → HasLog c disk
+log_of_tied c M n disk Down h = h.1
+log_of_tied c M n disk (Up x) h = h.2
+
 -- The node goes down.
 pub goes_down : (c : Cluster) (M : Memberships) (n : ℕ) (x : Site) → Holds (setting_of c) M → SiteTied c M n x → GoesOn c M n (site Down x.disk) [] (Crash n ∷ [])
 goes_down c M n x i tied =
     one_event c M n (site Down x.disk) [] (Crash n) (crashing (M.node n)) i tt (λ k. refl)
-    (λ g e. subst (λ v. ShowsDown x.disk v) (sym e) (down_by c M n x.disk x.node tied)) (λ g. tt)
+    (λ g e. (subst (λ v. ShowsDown x.disk v) (sym e) (down_by c M n x.disk x.node tied), log_of_tied c M n x.disk x.node tied)) (λ g. tt)
 
 -- Promises.
 
 -- a promise ends the attempt, and rests where there was one
-promised_tied : (c : Cluster) (N : Memberships) (n : ℕ) (x : UpNode) (p : ℕ) (o : Option AttemptState) → ShowsForming (promised_to (state_of x.seat) p) (N.node n)
+promised_tied : (c : Cluster) (N : Memberships) (n : ℕ) (x : UpNode) (p : ℕ) (o : Option AttemptState) → ShowsForming (promised_to (state_of x.seat) p) (N.node n) → HasLog c (record_of x)
     → NodeTied c N n (record_of (rested_by (seats.promising x p) o)) (Up (rested_by (seats.promising x p) o))
-promised_tied c N n x p None h = (h, refl, tt)
-promised_tied c N n x p (Some a) h = (h, refl, tt)
+promised_tied c N n x p None h log = ((h, refl, tt), tt, log)
+promised_tied c N n x p (Some a) h log = ((h, refl, tt), tt, log)
 
 promise_shows : (M : Memberships) (n : ℕ) (disk : NodeRecord) (s : NodeState) (p : ℕ) (seeks : Bool) → Sees M n disk s → ShowsForming (promised_to s p) (promising (M.node n) p seeks)
 promise_shows M n disk s p seeks e = record { promised = refl; saved = e.saved; session = refl; member = refl }
@@ -125,9 +131,10 @@ promise_shows M n disk s p seeks e = record { promised = refl; saved = e.saved; 
 pub promises : (c : Cluster) (M : Memberships) (n : ℕ) (told : Delivered) (x : UpNode) (disk : NodeRecord) (p : ℕ) → Holds (setting_of c) M → Known M told → NodeTied c M n disk (Up x)
     → MayChange c n told x (Promises p) → ChangeGoes c M n (changed c n x (Promises p)) (Promise n p ∷ [])
 promises c M n told x disk p i known tied may =
-    let e : Sees M n disk (state_of x.seat) = sees c M n disk x.attempt x.seat tied in
+    let e : Sees M n disk (state_of x.seat) = sees c M n disk x.attempt x.seat tied.0 in
     one_event c M n _ [] (Promise n p) (promising (M.node n) p false) i (asked_known M told p may.0 known, subst (λ q. q < p) (sym e.promised) may.1) (λ k. refl)
-    (λ g is. promised_tied c (after M (Promise n p)) n x p x.attempt (subst (λ v. ShowsForming (promised_to (state_of x.seat) p) v) (sym is) (promise_shows M n disk (state_of x.seat) p false e)))
+    (λ g is. promised_tied c (after M (Promise n p)) n x p x.attempt (subst (λ v. ShowsForming (promised_to (state_of x.seat) p) v) (sym is) (promise_shows M n disk (state_of x.seat) p false e))
+    (subst (λ r. HasLog c r) e.disk_so tied.2))
     (λ g. tt)
 
 -- An attempt of its own begins.
@@ -170,7 +177,7 @@ first_counted M s a SeizingOthers h = absurd h
 first_counted M s a Installing h = absurd h
 first_counted M s a Over h = absurd h
 
-first_given : (c : Cluster) (a : AttemptState) (phase : Phase) → IsFirst phase → GivenIn a.votes (votes_in c) phase
+first_given : (c : Cluster) (a : AttemptState) (phase : Phase) → IsFirst phase → GivenIn a.votes (votes_in c a) phase
 unfolding IsFirst
 first_given c a Collecting h = tt
 first_given c a Choosing h = tt
@@ -192,8 +199,9 @@ coordinates p n h = h
 leads_at : (c : Cluster) (M : Memberships) (n : ℕ) (x : UpNode) (disk : NodeRecord) (p members : ℕ) → All IsDevice c.attached → Holds (setting_of c) M → coordinator p ≡ n
     → NodeTied c M n disk (Up x) → MayChange c n None x (Leads p members) → ChangeGoes c M n (changed c n x (Leads p members)) (Begin p (is_member members) ∷ [])
 leads_at c M n x disk p members fits i at tied may =
-    let e : Sees M n disk (state_of x.seat) = sees c M n disk x.attempt x.seat tied in
+    let e : Sees M n disk (state_of x.seat) = sees c M n disk x.attempt x.seat tied.0 in
     let s : NodeState = promised_to (state_of x.seat) p in
+    let log : HasLog c (record_of x) = subst (λ r. HasLog c r) e.disk_so tied.2 in
     let z : UpNode = record (seats.promising x p) { greatest = p } in
     let t : Turn = beginning p members (own_promise n z p) c.attached c.id in
     let all : ℕ → Bool = is_member members in
@@ -201,7 +209,7 @@ leads_at c M n x disk p members fits i at tied may =
     (subst (λ k. (M.node k).promised < p) (sym at) (subst (λ q. q < p) (sym e.promised) may.0), subst (λ k. all k ≡ true) (sym at) may.2) in
     one_event c M n _ [] (Begin p all) (promising (M.node n) p true) i allowed
     (λ k. subst (λ j. put M.node j (promising (M.node j) p true) k ≡ put M.node n (promising (M.node n) p true) k) (sym at) refl)
-    (λ g is. (
+    (λ g is. ((
       subst (λ v. ShowsForming s v) (sym is) (promise_shows M n disk (state_of x.seat) p true e),
       refl,
       record {
@@ -212,8 +220,9 @@ leads_at c M n x disk p members fits i at tied may =
         seeks = subst (λ v. Seeks v.seeking t.after.phase) (sym is) (seeks_any true t.after.phase refl);
         counted = first_counted (after M (Begin p all)) s t.after t.after.phase (first_phase p members (own_promise n z p) c.attached c.id);
         votes = first_given c t.after t.after.phase (first_phase p members (own_promise n z p) c.attached c.id);
+        logs = logs_begin c p members (own_promise n z p) c.attached c.id log;
       },
-    ))
+    ), tt, log))
     (λ g. tt)
 
 pub leads : (c : Cluster) (M : Memberships) (n : ℕ) (told : Delivered) (x : UpNode) (disk : NodeRecord) (p members : ℕ) → All IsDevice c.attached → Holds (setting_of c) M

@@ -1,65 +1,108 @@
 -- What a node does in a step is its course.
-use Rattle.std.specs.Prelude.{ℕ, ◌≡◌, ◌==◌, nat_le, nat_lt, Bool, true, false, List, [], ◌∷◌, ◌++◌, Option, None, Some, Ok, Err, is_some, length, if◌then◌else◌}
+use Rattle.std.specs.Prelude.{ℕ, zero, suc, ◌≡◌, ◌==◌, ◌&&◌, nat_le, nat_lt, Bool, true, false, List, [], ◌∷◌, ◌++◌, Option, None, Some, Result, Ok, Err, is_some, length, if◌then◌else◌}
 use Rattle.std.proofs.Common.{refl, sym, ap, ◌∙◌, subst}
 use Rattle.std.specs.Option.{unwrap_or}
+use Rattle.admin_commands.specs.declared.accepted.Accepted.{Accepted}
+use Rattle.admin_commands.specs.declared.accepted.Accepted.TheVariants as accepted
+use Rattle.admin_commands.specs.declared.error.CheckError.{CheckError}
+use Rattle.admin_commands.specs.declared.error.CheckError.TheVariants as because
+use Rattle.admin_words.specs.Commands.{command_of, request_of}
+use Rattle.admin_words.specs.declared.error.WordError.{WordError}
+use Rattle.admin_words.specs.declared.request.Request.TheVariants as asked
+use Rattle.admin_words.specs.declared.request.Request as wanted
+use Rattle.answer_words.specs.Answers.{answer_in}
+use Rattle.ccr_commit.specs.declared.entries.Prepared.{Prepared}
+use Rattle.ccr_commit.specs.declared.entries.Prepared.TheVariants.{Taken, Already, Gap}
+use Rattle.ccr_tables.specs.State.{ConfigState}
+use Rattle.ccr_tables.specs.declared.command.AdminCommand.{AdminCommand}
+use Rattle.ccr_tables.specs.declared.command.AdminCommand.TheVariants as wish
 use Rattle.cl_base.specs.Sets.{has}
+use Rattle.cl_base.specs.declared.command.Query.TheVariants as query
 use Rattle.cl_base.specs.Seizings.{SeizeResult}
 use Rattle.cl_base.specs.declared.panic.Panic.TheVariants as panic
-use Rattle.ccr_commit.specs.Entries.{all_committed}
+use Rattle.ccr_commit.specs.Entries.{all_committed, answer_for, texts_of}
 use Rattle.cmm_attempt.specs.declared.step.AttemptEnd.{AttemptEnd}
 use Rattle.cmm_attempt.specs.declared.step.Step.{Step}
 use Rattle.cmm_attempt.specs.declared.step.Step.TheVariants as step
 use Rattle.cmm_attempt.specs.Attempts.{AttemptState, Turn, newest_installed}
 use Rattle.cmm_attempt.specs.Calls.{Call, Own_ready, Own_seized, Take, Tick as Call_tick, With_votes, turn}
+use Rattle.cmm_member.specs.Nodes.{NodeState}
 use Rattle.cmm_member.specs.Records.{NodeRecord}
 use Rattle.device_queue.specs.declared.progress.Progress.{Progress}
 use Rattle.device_queue.specs.declared.progress.Progress.TheVariants.{GoesOn, Seized, Joined}
 use Rattle.device_queue.specs.Queue.{begins_plainly, due_device, joins, kept_of, next_of, progress_after}
 use Rattle.pgr_device.specs.declared.command.PrAnswer.TheVariants as given
 use Rattle.pgr_device.specs.declared.command.PrCommand.{PrCommand}
+use Rattle.proposals.specs.Arrivals as arrivals
+use Rattle.proposals.specs.Arrivals.{arrival_of, with_arrival}
+use Rattle.proposals.specs.Proposing.{is_prepared, prepared_by}
+use Rattle.proposals.specs.State.{State, first_in, kept_at}
+use Rattle.proposals.specs.declared.arrived.Arrival.{Arrival}
+use Rattle.proposals.specs.declared.arrived.Arrival.TheVariants.{New, Waits as Waits_already, Answered as Answered_last, Past}
+use Rattle.proposals.specs.declared.arrived.Arrived.{Arrived}
+use Rattle.proposals.specs.declared.arrived.Kept.{Kept}
+use Rattle.proposals.specs.declared.arrived.Proposed.{Proposed}
+use Rattle.query_lines.specs.Lines.{quorum_lines, table_lines}
 use Rattle.record_disk.specs.Savings.{Saving}
-use Rattle.seize.specs.Answers.{Answer}
+use Rattle.request_queue.specs.Queue as queue
+use Rattle.request_queue.specs.Queue.{Queue, found, is_full, next_number, oldest, with_request}
+use Rattle.request_queue.specs.declared.request.Request.{Request}
+use Rattle.seize.specs.Answers.{Answer as DeviceAnswer}
 use Rattle.seize.specs.declared.kind.JoinResult.{JoinResult}
 use Rattle.seize.specs.declared.kind.JoinResult.TheVariants as join
 use Rattle.seize.specs.declared.kind.SeizeKind.{SeizeKind}
 use Rattle.seize.specs.declared.kind.SeizeKind.TheVariants.{Vote, Plain}
+use Rattle.status_report.specs.CommandLines.{reply_text}
+use Rattle.status_report.specs.declared.attempt_entry.AttemptEntry.TheVariants as attempt
+use Rattle.status_report.specs.declared.command_entry.Answer.{Answer}
+use Rattle.status_report.specs.declared.command_entry.Answer.TheVariants as answer
+use Rattle.status_report.specs.declared.command_entry.CommandEntry.TheVariants as command
 use Rattle.status_report.specs.declared.entry.Entry.TheVariants as entry
 use Rattle.status_report.specs.declared.node_entry.DownCause.TheVariants as down
 use Rattle.status_report.specs.declared.node_entry.NodeEntry.TheVariants as note
+use Rattle.status_report.specs.declared.status_entry.StatusEntry.{StatusEntry}
+use Rattle.update_words.specs.Words.{ask_words_of, words_of}
 use Rattle.wire.specs.declared.message.Body.{Body}
 use Rattle.wire.specs.declared.message.Body.TheVariants as body
 use Rattle.wire.specs.declared.message.Install.{Install}
 use Rattle.wire.specs.declared.message.Message.{Message}
 use Rattle.node_model.specs.declared.cluster.Cluster.{Cluster}
 use Rattle.node_model.specs.declared.input.Input.{Input}
-use Rattle.node_model.specs.declared.input.Input.TheVariants.{Boot, Crash, Tick, Packet, CommandDue, Answered, Wrote}
+use Rattle.node_model.specs.declared.input.Input.TheVariants.{Boot, Crash, Tick, Packet, CommandDue, Answered, Wrote, Commanded}
 use Rattle.node_model.specs.declared.node.UpNode.{UpNode}
 use Rattle.node_model.specs.declared.output.Output.{Output}
 use Rattle.node_model.specs.declared.output.Output.TheVariants.{Tells}
+use Rattle.node_model.specs.declared.presidency.Presidency.{Presidency}
 use Rattle.node_model.specs.declared.seat.Seat.{Seat}
 use Rattle.node_model.specs.declared.seat.Seat.TheVariants.{Forming, Member}
 use Rattle.node_model.specs.Attempts as plans
 use Rattle.node_model.specs.Attempts.{base_lines, begins_install, installs_now, is_choosing, left_out_by, next_epoch, promise_of, starts_now, starting_as, under_way, votes_in}
 use Rattle.node_model.specs.Devices as devices
 use Rattle.node_model.specs.Devices.{distrusting, joining_so}
+use Rattle.node_model.specs.Entries.{replying, unknown_lines}
 use Rattle.node_model.specs.Members as members
 use Rattle.node_model.specs.Members.{awaits_start, hearing, is_foreign, promised_so, ready_of}
 use Rattle.node_model.specs.Plans.{Plan, and_then}
 use Rattle.node_model.specs.Plans.Plan.{Stays, Falls, Says, Saves}
-use Rattle.node_model.specs.Seats.{coordinator_of, installed_of, is_in, promised_of, promising, record_of, session_of}
+use Rattle.node_model.specs.Presidents as presidents
+use Rattle.node_model.specs.Presidents.{answer_given, answered_by, checked, committing, in_force, last_place, next_place, others_of, own_arrival, own_line, proposed_by, sent_to, told_lines, with_own, with_proposals, word_answer}
+use Rattle.node_model.specs.Requests as requests
+use Rattle.node_model.specs.Requests.{is_idle, numbered, waiting_with}
+use Rattle.node_model.specs.Seats.{coordinator_of, installed_of, is_in, is_member, promised_of, promising, record_of, session_of, state_of, version_of}
 use Rattle.node_model.specs.Steps.{plan_of}
 use Rattle.node_model.specs.Ticks as ticks
-use Rattle.node_model.specs.Ticks.{heartbeats_to, later, members_to_form, waiting_less}
-use Rattle.heartbeats.specs.Views.{receivers_of}
-use Rattle.refinement.specs.Doings.{acted, answered_so, changed, first_lines, going, last_lines, of_node, said, saved_lines, superseded_lines, write_lines}
-use Rattle.refinement.specs.Doings.Act.{Accepts, Ends, Goes_on, Hears, Takes, Waits}
-use Rattle.refinement.specs.Doings.Change.{Admits, Counts, Distrusts, Installs, Leads, Promises, Sits, Starts}
+use Rattle.node_model.specs.Ticks.{later, members_to_form, ticked_output, waiting_less}
+use Rattle.node_model.specs.Updates as updates
+use Rattle.node_model.specs.Updates.{commits_now, is_of_member}
+use Rattle.refinement.specs.Doings.{Change, acted, answered_so, changed, first_lines, going, last_lines, minded, of_node, said, saved_lines, superseded_lines, write_lines}
+use Rattle.refinement.specs.Doings.Act.{Accepts, Ends, Goes_on, Hears, Minds, Takes, Waits}
+use Rattle.refinement.specs.Doings.Change.{Acks, Admits, Commits, Counts, Distrusts, Installs, Leads, Promises, Proposes, Sits, Starts}
 use Rattle.refinement.specs.Courses.{Course, joined, plan_from, saying}
 use Rattle.refinement.specs.Courses.Course.{Acts, Falls as Course_falls, Keeps, Stops}
 use Rattle.refinement.specs.Cuts as cuts
 use Rattle.refinement.specs.Cuts.{begun_course, called, counted, course_of, going_course, gone_on, if_installed, kept_if, own_ready_course, started, step_course, steps_course, turned, turned_by, writing}
 use Rattle.refinement.proofs.Heads.{ArePlain, IsHeaded, IsPlain, first_plain, heads}
-use Rattle.refinement.proofs.Plans.{Same, said_singly, same, same_is, same_says, same_saves, same_saying, same_then, same_trans, saying_append, saying_then}
+use Rattle.refinement.proofs.Plans.{Same, said_singly, same, same_gives, same_is, same_says, same_saves, same_saying, same_then, same_trans, saying_append, saying_then}
 
 -- the plan is this course, from the node x on
 abbrev pub Cut : {K : Type 0} → (K → NodeRecord → Saving K) → Cluster → ℕ → UpNode → Plan → Course → Type 0
@@ -225,7 +268,7 @@ going_cut : {K : Type 0} → (saving : K → NodeRecord → Saving K) (c : Clust
     → Cut saving c me x (plans.going_on c me x (turn a k)) (going_course c me x a k)
 going_cut saving c me x a k =
     let t : AttemptState = (turn a k).after in
-    let votes : Call = With_votes (votes_in c) in
+    let votes : Call = With_votes (votes_in c t) in
     cut_if saving c me x (is_choosing t.phase) (plans.performed c me (under_way x (turn t votes).after) (turn t votes).steps) (plans.performed c me (going x a k) (turn a k).steps)
     (Acts (Goes_on a k) (called c me (going x a k) t votes)) (called c me x a k)
     (called_cut saving c me (going x a k) t votes) (called_cut saving c me x a k)
@@ -251,7 +294,7 @@ begun_cut : {K : Type 0} → (saving : K → NodeRecord → Saving K) (c : Clust
     → Cut saving c me (under_way x t.after) (plans.going_on c me x t) (begun_course c me (under_way x t.after) t)
 begun_cut saving c me x t h =
     let y : UpNode = under_way x t.after in
-    let votes : Call = With_votes (votes_in c) in
+    let votes : Call = With_votes (votes_in c t.after) in
     cut_if saving c me y (is_choosing t.after.phase) (plans.performed c me (under_way x (turn t.after votes).after) (turn t.after votes).steps) (plans.performed c me y t.steps)
     (called c me y t.after votes) (steps_course c me y t.steps)
     (called_cut saving c me y t.after votes)
@@ -264,9 +307,9 @@ leading_cut saving c me x p members =
     let z : UpNode = record (promising x p) { greatest = p } in
     let y : UpNode = changed c me x (Leads p members) in
     let t : Turn = cuts.first_turn c me x p members in
-    cut_if saving c me x (nat_lt (promised_of x) p) (plans.led c me z p members) (Stays x) (Keeps (Leads p members) (begun_course c me y t)) Stops
-    (same_saves saving me (record_of y) _ _ (same_says saving me (of_node me note.Saved ∷ []) _ _ (same_says saving me (last_lines me x (Leads p members)) _ _
-    (begun_cut saving c me z t (first_plain p members _ c.attached c.id))))) (same saving me (Stays x))
+    cut_if saving c me x (nat_lt (promised_of x) p) (plans.led c me z x.requests.waiting p members) (Stays x) (Keeps (Leads p members) (begun_course c me y t)) Stops
+    (same_saves saving me (record_of y) _ _ (same_says saving me (of_node me note.Saved ∷ []) _ _ (same_says saving me (Tells (entry.Attempt (attempt.Begun p members)) ∷ []) _ _
+    (same_gives saving me (unknown_lines me x.requests.waiting) _ _ (begun_cut saving c me z t (first_plain p members _ c.attached c.id)))))) (same saving me (Stays x))
 
 -- A tick.
 
@@ -286,11 +329,8 @@ ticked_cut saving c me x None =
 pub tick_cut : {K : Type 0} → (saving : K → NodeRecord → Saving K) (c : Cluster) (me : ℕ) (x : UpNode) → Cut saving c me x (ticks.on_tick c me x) (cuts.tick_course c me x)
 tick_cut saving c me x =
     let y : UpNode = later c x in
-    let beats : List Output = heartbeats_to y (receivers_of y.beats c.configured) in
-    same_says saving me (of_node me note.Ticked ∷ []) (Says beats (ticks.attempt_ticked c me y y.attempt)) (saying beats (plan_from c me y (cuts.ticked_course c me y y.attempt)))
-    (same_trans saving me (Says beats (ticks.attempt_ticked c me y y.attempt)) (saying beats (ticks.attempt_ticked c me y y.attempt)) (saying beats (plan_from c me y (cuts.ticked_course c me y y.attempt)))
-    (said_singly saving me beats (ticks.attempt_ticked c me y y.attempt))
-    (same_saying saving me beats (ticks.attempt_ticked c me y y.attempt) (plan_from c me y (cuts.ticked_course c me y y.attempt)) (ticked_cut saving c me y y.attempt)))
+    same_says saving me (of_node me note.Ticked ∷ []) _ _
+    (same_gives saving me (ticked_output c x y) (ticks.attempt_ticked c me y y.attempt) (plan_from c me y (cuts.ticked_course c me y y.attempt)) (ticked_cut saving c me y y.attempt))
 
 -- Messages.
 
@@ -299,10 +339,10 @@ heartbeat_cut : {K : Type 0} → (saving : K → NodeRecord → Saving K) (c : C
 heartbeat_cut saving c me x from session member =
     cut_if saving c me x (awaits_start me x from session member) _ (Stays x) (writing from (body.Start (session_of x))) Stops (same saving me _) (same saving me (Stays x))
 
-superseded_cut : {K : Type 0} → (saving : K → NodeRecord → Saving K) (me : ℕ) (x : UpNode) (p : ℕ) (o : Option AttemptState) (rest : Plan)
-    → Same saving me (members.superseded_by x p o rest) (saying (superseded_lines p o) rest)
-superseded_cut saving me x p None rest = same saving me rest
-superseded_cut saving me x p (Some a) rest = same saving me (members.superseded_by x p (Some a) rest)
+superseded_cut : {K : Type 0} → (saving : K → NodeRecord → Saving K) (me : ℕ) (x : UpNode) (p : ℕ) (o : Option AttemptState) (more : List Output) (rest : Plan)
+    → Same saving me (members.superseded_by x p o (Says more rest)) (saying (superseded_lines p o ++ more) rest)
+superseded_cut saving me x p None more rest = said_singly saving me more rest
+superseded_cut saving me x p (Some a) more rest = same_says saving me (superseded_lines p (Some a)) (Says more rest) (saying more rest) (said_singly saving me more rest)
 
 collect_cut : {K : Type 0} → (saving : K → NodeRecord → Saving K) (c : Cluster) (me : ℕ) (x : UpNode) (from p : ℕ)
     → Cut saving c me x (members.on_collect me x from p) (cuts.collect_course x from p)
@@ -310,7 +350,7 @@ collect_cut saving c me x from p =
     let y : UpNode = promised_so x p in
     cut_if saving c me x (nat_lt (promised_of x) p) _ _ (Keeps (Promises p) (writing from (promise_of y p)))
     (if is_in x p then writing from (promise_of x p) else writing from (body.Nack p (promised_of x)))
-    (same_saves saving me (record_of y) _ _ (same_says saving me (of_node me note.Saved ∷ []) _ _ (superseded_cut saving me x p x.attempt (plan_from c me y (writing from (promise_of y p))))))
+    (same_saves saving me (record_of y) _ _ (same_says saving me (of_node me note.Saved ∷ []) _ _ (superseded_cut saving me x p x.attempt (unknown_lines me x.requests.waiting) (plan_from c me y (writing from (promise_of y p))))))
     (cut_if saving c me x (is_in x p) _ _ (writing from (promise_of x p)) (writing from (body.Nack p (promised_of x))) (same saving me _) (same saving me _))
 
 request_cut : {K : Type 0} → (saving : K → NodeRecord → Saving K) (c : Cluster) (me : ℕ) (x : UpNode) (from : ℕ) (kind : SeizeKind) (e ms d : ℕ) (o : Option SeizeResult)
@@ -362,6 +402,260 @@ notice_cut : {K : Type 0} → (saving : K → NodeRecord → Saving K) (c : Clus
 notice_cut saving c me x e newest =
     cut_if saving c me x (is_in x e) _ (Stays x) (Course_falls (down.Panic (panic.Excluded newest))) Stops (same saving me _) (same saving me (Stays x))
 
+-- Requests and updates at the president.
+
+answered_is : (me : ℕ) (x : UpNode) (p : Presidency) (a : Arrived) (told : Answer)
+    → answered_by me x p a told ≡ minded x (cuts.queue_by me x a) (Some (cuts.left_by_answer me x p a told))
+answered_is me x p a told = by_test (a.from == me)
+  where
+    s : State
+    s = arrivals.answered p.proposals (reply_text told)
+
+    q : Queue
+    q = queue.answered x.requests a.number
+
+    by_test : (b : Bool)
+        → (if b then presidents.own_answered me x p s q else with_proposals x p s)
+        ≡ minded x (if b then q else x.requests) (Some (record p { proposals = if b then with_own me s (oldest q) else s }))
+    by_test true = refl
+    by_test false = refl
+
+answering_cut : {K : Type 0} → (saving : K → NodeRecord → Saving K) (c : Cluster) (me : ℕ) (x : UpNode) (p : Presidency) (a : Arrived) (told : Answer)
+    → Cut saving c me x (presidents.answering_first me x p a told) (cuts.answering_course me x p a told)
+answering_cut saving c me x p a told =
+    same_gives saving me (answer_given me x a told) _ _ (same_is saving me _ _ (ap (λ y. Stays y) (answered_is me x p a told)))
+
+acknowledged_cut : {K : Type 0} → (saving : K → NodeRecord → Saving K) (c : Cluster) (me : ℕ) (x : UpNode) (p : Presidency) (a : Arrived) (text : List ℕ)
+    → Cut saving c me x (presidents.acknowledging_so me x p a text (answered_by me (committing x) p a answer.Ok)) (cuts.acknowledged_course me x p a text)
+acknowledged_cut saving c me x p a text =
+    let s : NodeState = state_of x.seat in
+    let change : Change = Acks s p (cuts.queue_by me x a) (cuts.left_by_answer me x p a answer.Ok) text in
+    let y : UpNode = changed c me x change in
+    subst (λ z. Cut saving c me x (presidents.acknowledging_so me x p a text z) (cuts.acknowledged_course me x p a text)) (sym (answered_is me (committing x) p a answer.Ok))
+    (same_saves saving me (record_of y) _ _ (same_says saving me (of_node me note.Saved ∷ []) _ _ (same_says saving me (last_lines me x change) _ _
+    (same_gives saving me (sent_to (others_of me x) (body.Commit (session_of x) (last_place x))) _ _ (same_gives saving me (answer_given me x a answer.Ok) (Stays y) (Stays y) (same saving me (Stays y)))))))
+
+acknowledging_text_cut : {K : Type 0} → (saving : K → NodeRecord → Saving K) (c : Cluster) (me : ℕ) (x : UpNode) (p : Presidency) (first : Option Arrived) (pending : Option (List ℕ))
+    → Cut saving c me x (presidents.acknowledging_text me x p first pending) (cuts.acknowledging_text_course me x p first pending)
+acknowledging_text_cut saving c me x p (Some a) (Some text) = acknowledged_cut saving c me x p a text
+acknowledging_text_cut saving c me x p None pending = same saving me (Stays x)
+acknowledging_text_cut saving c me x p (Some a) None = same saving me (Stays x)
+
+acknowledging_by_cut : {K : Type 0} → (saving : K → NodeRecord → Saving K) (c : Cluster) (me : ℕ) (x : UpNode) (o : Option Presidency)
+    → Cut saving c me x (presidents.acknowledging_by me x o) (cuts.acknowledging_by_course me x o)
+acknowledging_by_cut saving c me x None = same saving me (Stays x)
+acknowledging_by_cut saving c me x (Some p) = acknowledging_text_cut saving c me x p (first_in p.proposals.arrived) (record_of x).entries.pending
+
+acknowledging_cut : {K : Type 0} → (saving : K → NodeRecord → Saving K) (c : Cluster) (me : ℕ) (x : UpNode) → Cut saving c me x (presidents.acknowledging me x) (cuts.acknowledging_course me x)
+acknowledging_cut saving c me x = acknowledging_by_cut saving c me x x.presidency
+
+proposing_cut : {K : Type 0} → (saving : K → NodeRecord → Saving K) (c : Cluster) (me : ℕ) (x : UpNode) (p : Presidency) (text : List ℕ)
+    → Cut saving c me x (presidents.proposing_so me x text (proposed_by me x p text)) (cuts.proposing_course me x p text)
+proposing_cut saving c me x p text =
+    let y : UpNode = proposed_by me x p text in
+    let line : List Output = first_lines me (Proposes (state_of x.seat) p text) in
+    let sent : List Output = sent_to (others_of me x) (body.Prepare (session_of x) (next_place x) text) in
+    same_says saving me line _ _ (same_saves saving me (record_of y) _ _ (same_says saving me (of_node me note.Saved ∷ []) _ _ (same_gives saving me sent _ _
+    (cut_if saving c me y (others_of me x == 0) (presidents.acknowledging me y) (Stays y) (cuts.acknowledging_course me y) Stops (acknowledging_cut saving c me y) (same saving me (Stays y))))))
+
+taken_as_cut : {K : Type 0} → (saving : K → NodeRecord → Saving K) (c : Cluster) (me : ℕ) (x : UpNode) (p : Presidency) (a : Arrived) (r : Result Accepted CheckError)
+    → Cut saving c me x (presidents.taken_as me x p a r) (cuts.taken_as_course me x p a r)
+taken_as_cut saving c me x p a (Ok (accepted.Change u)) = proposing_cut saving c me x p (words_of u)
+taken_as_cut saving c me x p a (Ok (accepted.Act ask)) = answering_cut saving c me x p a answer.Ok
+taken_as_cut saving c me x p a (Ok (accepted.Query q)) = answering_cut saving c me x p a answer.Ok
+taken_as_cut saving c me x p a (Err (because.Refused r)) = answering_cut saving c me x p a (answer.Refused r)
+taken_as_cut saving c me x p a (Err because.NoMemory) = same saving me (Stays x)
+
+taken_cut : {K : Type 0} → (saving : K → NodeRecord → Saving K) (c : Cluster) (me : ℕ) (x : UpNode) (p : Presidency) (a : Arrived) (r : Result wanted.Request WordError)
+    → Cut saving c me x (presidents.taken c me x p a r) (cuts.taken_course c me x p a r)
+taken_cut saving c me x p a (Ok (asked.Change u)) = taken_as_cut saving c me x p a (checked c x p (wish.Change u))
+taken_cut saving c me x p a (Ok (asked.Act ask)) = taken_as_cut saving c me x p a (checked c x p (wish.Act ask))
+taken_cut saving c me x p a (Err e) = answering_cut saving c me x p a (word_answer e)
+
+turn_of_cut : {K : Type 0} → (saving : K → NodeRecord → Saving K) (c : Cluster) (me : ℕ) (x : UpNode) (p : Presidency) (proposed : Option Proposed) (first : Option Arrived)
+    → Cut saving c me x (presidents.turn_of c me x p proposed first) (cuts.turn_of_course c me x p proposed first)
+turn_of_cut saving c me x p None (Some a) = taken_cut saving c me x p a (request_of (version_of c) a.text)
+turn_of_cut saving c me x p None None = same saving me (Stays x)
+turn_of_cut saving c me x p (Some proposed) first = same saving me (Stays x)
+
+turn_by_cut : {K : Type 0} → (saving : K → NodeRecord → Saving K) (c : Cluster) (me : ℕ) (x : UpNode) (o : Option Presidency) → Cut saving c me x (presidents.turn_by c me x o) (cuts.turn_by_course c me x o)
+turn_by_cut saving c me x None = same saving me (Stays x)
+turn_by_cut saving c me x (Some p) = turn_of_cut saving c me x p p.proposals.proposed (first_in p.proposals.arrived)
+
+turns_cut : {K : Type 0} → (saving : K → NodeRecord → Saving K) (c : Cluster) (me : ℕ) (x : UpNode) (k : ℕ) → Cut saving c me x (presidents.turns c me x k) (cuts.turns_course c me x k)
+turns_cut saving c me x zero = same saving me (Stays x)
+turns_cut saving c me x (suc k) =
+    cut_then saving c me x (presidents.turns c me x k) (cuts.turns_course c me x k) (presidents.one_turn c me) (cuts.one_turn_course c me)
+    (turns_cut saving c me x k) (λ y. turn_by_cut saving c me y y.presidency)
+
+handling_cut : {K : Type 0} → (saving : K → NodeRecord → Saving K) (c : Cluster) (me : ℕ) (x : UpNode) → Cut saving c me x (presidents.handling c me x) (cuts.handling_course c me x)
+handling_cut saving c me x = turns_cut saving c me x (presidents.requests_of x x.presidency)
+
+-- A request comes.
+
+kept_again_cut : {K : Type 0} → (saving : K → NodeRecord → Saving K) (c : Cluster) (me : ℕ) (x : UpNode) (from : ℕ) (o : Option Kept)
+    → Cut saving c me x (presidents.kept_again x from o) (cuts.kept_again_course x from o)
+kept_again_cut saving c me x from None = same saving me (Stays x)
+kept_again_cut saving c me x from (Some k) = same saving me _
+
+arrived_cut : {K : Type 0} → (saving : K → NodeRecord → Saving K) (c : Cluster) (me : ℕ) (x : UpNode) (p : Presidency) (a : Arrived) (arrival : Arrival)
+    → Cut saving c me x (presidents.arrived_as c me x p a arrival) (cuts.arrived_course c me x p a arrival)
+arrived_cut saving c me x p a New = handling_cut saving c me (with_proposals x p (with_arrival p.proposals a New))
+arrived_cut saving c me x p a Waits_already = same saving me (Stays x)
+arrived_cut saving c me x p a Answered_last = kept_again_cut saving c me x a.from (kept_at p.proposals.answers a.from)
+arrived_cut saving c me x p a Past = same saving me (Stays x)
+
+arriving_cut : {K : Type 0} → (saving : K → NodeRecord → Saving K) (c : Cluster) (me : ℕ) (x : UpNode) (p : Presidency) (a : Arrived) → Cut saving c me x (presidents.arriving c me x p a) (cuts.arriving_course c me x p a)
+arriving_cut saving c me x p a = arrived_cut saving c me x p a (arrival_of p.proposals a.from a.number)
+
+requested_cut : {K : Type 0} → (saving : K → NodeRecord → Saving K) (c : Cluster) (me : ℕ) (x : UpNode) (from number : ℕ) (text : List ℕ) (o : Option Presidency)
+    → Cut saving c me x (updates.requested c me x from number text o) (cuts.requested_course c me x from number text o)
+requested_cut saving c me x from number text None = same saving me (Stays x)
+requested_cut saving c me x from number text (Some p) = arriving_cut saving c me x p (record { from = from; number = number; text = text })
+
+asked_cut : {K : Type 0} → (saving : K → NodeRecord → Saving K) (c : Cluster) (me : ℕ) (x : UpNode) (from e number : ℕ) (text : List ℕ)
+    → Cut saving c me x (updates.on_asked c me x from e number text) (cuts.asked_course c me x from e number text)
+asked_cut saving c me x from e number text =
+    cut_if saving c me x (is_of_member x from e) _ (Stays x) (cuts.requested_course c me x from number text x.presidency) Stops
+    (requested_cut saving c me x from number text x.presidency) (same saving me (Stays x))
+
+-- Requests of the node itself.
+
+request_to_cut : {K : Type 0} → (saving : K → NodeRecord → Saving K) (c : Cluster) (me : ℕ) (x : UpNode) (r : Request) (o : Option ℕ) → Cut saving c me x (requests.request_to x r o) (cuts.request_to_course x r o)
+request_to_cut saving c me x r None = same saving me (Stays x)
+request_to_cut saving c me x r (Some president) = same saving me _
+
+asking_of_cut : {K : Type 0} → (saving : K → NodeRecord → Saving K) (c : Cluster) (me : ℕ) (x : UpNode) (r : Request) (o : Option Presidency) → Cut saving c me x (requests.asking_of c me x r o) (cuts.asking_of_course c me x r o)
+asking_of_cut saving c me x r None = request_to_cut saving c me x r (coordinator_of x)
+asking_of_cut saving c me x r (Some p) = arriving_cut saving c me x p (own_arrival me r)
+
+asking_for_cut : {K : Type 0} → (saving : K → NodeRecord → Saving K) (c : Cluster) (me : ℕ) (x : UpNode) (o : Option Request) → Cut saving c me x (requests.asking_for c me x o) (cuts.asking_for_course c me x o)
+asking_for_cut saving c me x None = same saving me (Stays x)
+asking_for_cut saving c me x (Some r) = asking_of_cut saving c me x r x.presidency
+
+asking_cut : {K : Type 0} → (saving : K → NodeRecord → Saving K) (c : Cluster) (me : ℕ) (x : UpNode) → Cut saving c me x (requests.asking c me x) (cuts.asking_course c me x)
+asking_cut saving c me x = asking_for_cut saving c me x (oldest x.requests)
+
+replying_cut : {K : Type 0} → (saving : K → NodeRecord → Saving K) (c : Cluster) (me : ℕ) (x : UpNode) (number : ℕ) (told : Answer) → Cut saving c me x (replying me number told x) (cuts.replying_course me number told)
+replying_cut saving c me x number told = same saving me _
+
+asking_if_cut : {K : Type 0} → (saving : K → NodeRecord → Saving K) (c : Cluster) (me : ℕ) (x : UpNode) (alone : Bool) → Cut saving c me x (requests.asking_if alone c me x) (cuts.asking_if_course alone c me x)
+asking_if_cut saving c me x alone = cut_if saving c me x alone (requests.asking c me x) (Stays x) (cuts.asking_course c me x) Stops (asking_cut saving c me x) (same saving me (Stays x))
+
+waiting_cut : {K : Type 0} → (saving : K → NodeRecord → Saving K) (c : Cluster) (me : ℕ) (x : UpNode) (number : ℕ) (text : List ℕ)
+    → Cut saving c me x (requests.queued c me x number text) (cuts.waiting_course c me x number text)
+waiting_cut saving c me x number text =
+    let alone : Bool = is_idle x.requests.waiting in
+    let y : UpNode = waiting_with x number text in
+    cut_if saving c me x (is_full x.requests) (replying me number answer.QueueFull x) (requests.asking_if alone c me y) (cuts.replying_course me number answer.QueueFull)
+    (Acts (Minds (with_request x.requests (record { number = number; text = text; told = true })) x.presidency) (cuts.asking_if_course alone c me y))
+    (replying_cut saving c me x number answer.QueueFull) (asking_if_cut saving c me y alone)
+
+elsewhere_cut : {K : Type 0} → (saving : K → NodeRecord → Saving K) (c : Cluster) (me : ℕ) (x : UpNode) (number : ℕ) (o : Option ℕ) → Cut saving c me x (requests.elsewhere me x number o) (cuts.elsewhere_course me number o)
+elsewhere_cut saving c me x number None = same saving me (Stays x)
+elsewhere_cut saving c me x number (Some president) = same saving me _
+
+telling_cut : {K : Type 0} → (saving : K → NodeRecord → Saving K) (c : Cluster) (me : ℕ) (x : UpNode) (number : ℕ) (lines : List StatusEntry)
+    → Cut saving c me x (Says (told_lines lines) (replying me number answer.Ok x)) (cuts.telling_course me number lines)
+telling_cut saving c me x number lines = same_gives saving me (told_lines lines) _ _ (replying_cut saving c me x number answer.Ok)
+
+query_cut : {K : Type 0} → (saving : K → NodeRecord → Saving K) (c : Cluster) (me : ℕ) (x : UpNode) (number : ℕ) (s : ConfigState) (held : ℕ) (r : Result Accepted CheckError)
+    → Cut saving c me x (presidents.query_told me x number s held r) (cuts.query_course me x number s held r)
+query_cut saving c me x number s held (Ok (accepted.Query query.QuorumStatus)) = telling_cut saving c me x number (quorum_lines s.votes (record_of x).members held)
+query_cut saving c me x number s held (Ok (accepted.Query (query.Rows t))) = telling_cut saving c me x number (table_lines s t)
+query_cut saving c me x number s held (Ok (accepted.Query query.GroupStatus)) = same saving me (Stays x)
+query_cut saving c me x number s held (Ok (accepted.Query query.ResourceStatus)) = same saving me (Stays x)
+query_cut saving c me x number s held (Ok (accepted.Change u)) = same saving me (Stays x)
+query_cut saving c me x number s held (Ok (accepted.Act ask)) = same saving me (Stays x)
+query_cut saving c me x number s held (Err (because.Refused r)) = replying_cut saving c me x number (answer.Refused r)
+query_cut saving c me x number s held (Err because.NoMemory) = same saving me (Stays x)
+
+queried_cut : {K : Type 0} → (saving : K → NodeRecord → Saving K) (c : Cluster) (me : ℕ) (x : UpNode) (number : ℕ) (question : AdminCommand) (o : Option Presidency)
+    → Cut saving c me x (requests.queried c me x number question o) (cuts.queried_course c me x number question o)
+queried_cut saving c me x number question None = elsewhere_cut saving c me x number (coordinator_of x)
+queried_cut saving c me x number question (Some p) =
+    cut_if saving c me x (is_full x.requests) (replying me number answer.QueueFull x) (presidents.answering_query c me x p number question)
+    (cuts.replying_course me number answer.QueueFull) (cuts.query_course me x number (in_force c x) p.held (checked c x p question))
+    (replying_cut saving c me x number answer.QueueFull) (query_cut saving c me x number (in_force c x) p.held (checked c x p question))
+
+commanded_cut : {K : Type 0} → (saving : K → NodeRecord → Saving K) (c : Cluster) (me : ℕ) (x : UpNode) (number : ℕ) (command : AdminCommand)
+    → Cut saving c me x (requests.commanded c me x number command) (cuts.commanded_course c me x number command)
+commanded_cut saving c me x number (wish.Change u) = waiting_cut saving c me x number (words_of u)
+commanded_cut saving c me x number (wish.Act a) = waiting_cut saving c me x number (ask_words_of a)
+commanded_cut saving c me x number (wish.Status q) = queried_cut saving c me x number (wish.Status q) x.presidency
+commanded_cut saving c me x number (wish.Rows table) = queried_cut saving c me x number (wish.Rows table) x.presidency
+
+worded_cut : {K : Type 0} → (saving : K → NodeRecord → Saving K) (c : Cluster) (me : ℕ) (x : UpNode) (number : ℕ) (r : Result AdminCommand WordError)
+    → Cut saving c me x (requests.worded c me x number r) (cuts.worded_course c me x number r)
+worded_cut saving c me x number (Err e) = replying_cut saving c me x number (word_answer e)
+worded_cut saving c me x number (Ok command) =
+    cut_if saving c me x (is_member x.seat) (requests.commanded c me x number command) (replying me number answer.NotMember x) (cuts.commanded_course c me x number command)
+    (cuts.replying_course me number answer.NotMember) (commanded_cut saving c me x number command) (replying_cut saving c me x number answer.NotMember)
+
+command_cut : {K : Type 0} → (saving : K → NodeRecord → Saving K) (c : Cluster) (me : ℕ) (x : UpNode) (words : List ℕ) → Cut saving c me x (requests.on_command c me x words) (cuts.command_course c me x words)
+command_cut saving c me x words =
+    same_says saving me (Tells (entry.Command (command.Asked me (next_number x.requests))) ∷ []) _ _
+    (worded_cut saving c me (numbered x) (next_number x.requests) (command_of (version_of c) words))
+
+replied_to_cut : {K : Type 0} → (saving : K → NodeRecord → Saving K) (c : Cluster) (me : ℕ) (x : UpNode) (number : ℕ) (told : Answer) (o : Option Request)
+    → Cut saving c me x (requests.replied_to c me x number told o) (cuts.replied_to_course c me x number told o)
+replied_to_cut saving c me x number told None = same saving me (Stays x)
+replied_to_cut saving c me x number told (Some r) =
+    same_gives saving me (own_line me told (Some r)) _ _ (asking_cut saving c me (record x { requests = queue.answered x.requests number }))
+
+replied_cut : {K : Type 0} → (saving : K → NodeRecord → Saving K) (c : Cluster) (me : ℕ) (x : UpNode) (number : ℕ) (o : Option Answer)
+    → Cut saving c me x (requests.replied_as c me x number o) (cuts.replied_course c me x number o)
+replied_cut saving c me x number None = same saving me (Stays x)
+replied_cut saving c me x number (Some told) = replied_to_cut saving c me x number told (found x.requests.waiting number)
+
+reply_cut : {K : Type 0} → (saving : K → NodeRecord → Saving K) (c : Cluster) (me : ℕ) (x : UpNode) (e number : ℕ) (o : Option Answer)
+    → Cut saving c me x (requests.on_reply c me x e number o) (cuts.reply_course c me x e number o)
+reply_cut saving c me x e number o =
+    cut_if saving c me x (is_member x.seat && is_in x e) (requests.replied_as c me x number o) (Stays x) (cuts.replied_course c me x number o) Stops
+    (replied_cut saving c me x number o) (same saving me (Stays x))
+
+-- Updates at members and at their president.
+
+preparing_cut : {K : Type 0} → (saving : K → NodeRecord → Saving K) (c : Cluster) (me : ℕ) (x : UpNode) (from e place : ℕ) (s : NodeState) (text : List ℕ) (r : Prepared)
+    → Cut saving c me x (updates.preparing me x from e place s text r) (cuts.preparing_course from e place s text r)
+preparing_cut saving c me x from e place s text Taken = same saving me _
+preparing_cut saving c me x from e place s text Already = same saving me _
+preparing_cut saving c me x from e place s text (Gap k) = same saving me (Stays x)
+
+prepare_cut : {K : Type 0} → (saving : K → NodeRecord → Saving K) (c : Cluster) (me : ℕ) (x : UpNode) (from e place : ℕ) (text : List ℕ) (seat : Seat)
+    → Cut saving c me x (updates.on_prepare_as me x from e place text seat) (cuts.prepare_course x from e place text seat)
+prepare_cut saving c me x from e place text (Forming s) = same saving me (Stays x)
+prepare_cut saving c me x from e place text (Member s) =
+    let r : Prepared = answer_for (length (texts_of s.saved.entries)) place in
+    cut_if saving c me x (is_in x e) _ (Stays x) (cuts.preparing_course from e place s text r) Stops (preparing_cut saving c me x from e place s text r) (same saving me (Stays x))
+
+prepared_all_cut : {K : Type 0} → (saving : K → NodeRecord → Saving K) (c : Cluster) (me : ℕ) (x : UpNode) (p : Presidency) → Cut saving c me x (updates.prepared_all c me x p) (cuts.prepared_all_course c me x p)
+prepared_all_cut saving c me x p =
+    cut_if saving c me x (is_prepared p.proposals) (and_then (presidents.acknowledging me x) (presidents.handling c me)) (Stays x)
+    (joined c me x (cuts.acknowledging_course me x) (cuts.handling_course c me)) Stops
+    (cut_then saving c me x (presidents.acknowledging me x) (cuts.acknowledging_course me x) (presidents.handling c me) (cuts.handling_course c me)
+    (acknowledging_cut saving c me x) (λ y. handling_cut saving c me y))
+    (same saving me (Stays x))
+
+prepared_at_cut : {K : Type 0} → (saving : K → NodeRecord → Saving K) (c : Cluster) (me : ℕ) (x : UpNode) (from place : ℕ) (o : Option Presidency)
+    → Cut saving c me x (updates.prepared_at c me x from place o) (cuts.prepared_at_course c me x from place o)
+prepared_at_cut saving c me x from place None = same saving me (Stays x)
+prepared_at_cut saving c me x from place (Some p) =
+    let s : State = prepared_by p.proposals from place in
+    prepared_all_cut saving c me (with_proposals x p s) (record p { proposals = s })
+
+prepared_cut : {K : Type 0} → (saving : K → NodeRecord → Saving K) (c : Cluster) (me : ℕ) (x : UpNode) (from e place : ℕ) → Cut saving c me x (updates.on_prepared c me x from e place) (cuts.prepared_course c me x from e place)
+prepared_cut saving c me x from e place =
+    cut_if saving c me x (is_of_member x from e) _ (Stays x) (cuts.prepared_at_course c me x from place x.presidency) Stops
+    (prepared_at_cut saving c me x from place x.presidency) (same saving me (Stays x))
+
+commit_cut : {K : Type 0} → (saving : K → NodeRecord → Saving K) (c : Cluster) (me : ℕ) (x : UpNode) (e place : ℕ) (seat : Seat) → Cut saving c me x (updates.on_commit_as me x e place seat) (cuts.commit_course x e place seat)
+commit_cut saving c me x e place (Forming s) = same saving me (Stays x)
+commit_cut saving c me x e place (Member s) =
+    cut_if saving c me x (is_in x e && commits_now s place) _ (Stays x) (Keeps (Commits s) Stops) Stops (same saving me _) (same saving me (Stays x))
+
+-- Each message.
+
 answer_cut : {K : Type 0} → (saving : K → NodeRecord → Saving K) (c : Cluster) (me : ℕ) (x : UpNode) (from : ℕ) (m : Message) (o : Option AttemptState)
     → Cut saving c me x (members.on_answer c me x from m o) (cuts.answer_course c me x from m o)
 answer_cut saving c me x from m None = same saving me (Stays x)
@@ -380,19 +674,19 @@ body_cut saving c me x from m (body.Install i) = install_cut saving c me x from 
 body_cut saving c me x from m (body.Ready e joined_devices report) = answer_cut saving c me x from m x.attempt
 body_cut saving c me x from m (body.Start e) = start_cut saving c me x e x.seat
 body_cut saving c me x from m (body.Excluded e newest) = notice_cut saving c me x e newest
-body_cut saving c me x from m (body.Prepare e place text) = same saving me (Stays x)
-body_cut saving c me x from m (body.Prepared e place) = same saving me (Stays x)
-body_cut saving c me x from m (body.Commit e place) = same saving me (Stays x)
+body_cut saving c me x from m (body.Prepare e place text) = prepare_cut saving c me x from e place text x.seat
+body_cut saving c me x from m (body.Prepared e place) = prepared_cut saving c me x from e place
+body_cut saving c me x from m (body.Commit e place) = commit_cut saving c me x e place x.seat
 body_cut saving c me x from m (body.Order o) = same saving me (Stays x)
 body_cut saving c me x from m (body.Done e number outcome) = same saving me (Stays x)
-body_cut saving c me x from m (body.Request e number text) = same saving me (Stays x)
-body_cut saving c me x from m (body.Answer e number text) = same saving me (Stays x)
+body_cut saving c me x from m (body.Request e number text) = asked_cut saving c me x from e number text
+body_cut saving c me x from m (body.Answer e number text) = reply_cut saving c me x e number (answer_in text)
 
 pub packet_cut : {K : Type 0} → (saving : K → NodeRecord → Saving K) (c : Cluster) (me : ℕ) (x : UpNode) (from : ℕ) (m : Message)
     → Cut saving c me x (members.on_packet c me x from m) (cuts.packet_course c me x from m)
 packet_cut saving c me x from m =
     let y : UpNode = hearing x from m.body in
-    cut_if saving c me x (is_foreign c me m.body) (Stays x) _ Stops (Acts (Hears from m.body) (cuts.body_course c me y from m m.body)) (same saving me (Stays x)) (body_cut saving c me y from m m.body)
+    cut_if saving c me x (is_foreign c me x m.body) (Stays x) _ Stops (Acts (Hears from m.body) (cuts.body_course c me y from m m.body)) (same saving me (Stays x)) (body_cut saving c me y from m m.body)
 
 -- Devices.
 
@@ -420,7 +714,7 @@ joined_cut saving c me x None = same saving me (Stays x)
 joined_cut saving c me x (Some coordinator) =
     cut_if saving c me x (coordinator == me) _ _ (own_ready_course c me x) (cuts.readying_course x coordinator) (own_ready_cut saving c me x) (readying_cut saving c me x coordinator)
 
-joining_cut : {K : Type 0} → (saving : K → NodeRecord → Saving K) (c : Cluster) (me : ℕ) (x : UpNode) (at : ℕ) (command : PrCommand) (a : Answer) (d : ℕ) (result : JoinResult)
+joining_cut : {K : Type 0} → (saving : K → NodeRecord → Saving K) (c : Cluster) (me : ℕ) (x : UpNode) (at : ℕ) (command : PrCommand) (a : DeviceAnswer) (d : ℕ) (result : JoinResult)
     → Cut saving c me x (Says (said c me x (Takes at command a)) (devices.joined_here c me (answered_so x a) d result)) (cuts.joining_course c me x at command a d result)
 joining_cut saving c me x at command a d join.Joined =
     let y : UpNode = changed c me x (Admits at command a d) in
@@ -429,20 +723,20 @@ joining_cut saving c me x at command a d join.Joined =
 joining_cut saving c me x at command a d (join.Late w) = same_says saving me (said c me x (Takes at command a)) _ _ (joined_cut saving c me (answered_so x a) (coordinator_of (answered_so x a)))
 joining_cut saving c me x at command a d join.Fault = same_says saving me (said c me x (Takes at command a)) _ _ (joined_cut saving c me (answered_so x a) (coordinator_of (answered_so x a)))
 
-progress_cut : {K : Type 0} → (saving : K → NodeRecord → Saving K) (c : Cluster) (me : ℕ) (x : UpNode) (at : ℕ) (command : PrCommand) (a : Answer) (p : Progress)
+progress_cut : {K : Type 0} → (saving : K → NodeRecord → Saving K) (c : Cluster) (me : ℕ) (x : UpNode) (at : ℕ) (command : PrCommand) (a : DeviceAnswer) (p : Progress)
     → Cut saving c me x (Says (said c me x (Takes at command a)) (devices.on_progress c me (answered_so x a) p)) (cuts.progress_course c me x at command a p)
 progress_cut saving c me x at command a GoesOn = same saving me _
 progress_cut saving c me x at command a (Seized d result) =
     same_says saving me (said c me x (Takes at command a)) _ _ (seized_cut saving c me (answered_so x a) d result (coordinator_of (answered_so x a)))
 progress_cut saving c me x at command a (Joined d result) = joining_cut saving c me x at command a d result
 
-answered_cut : {K : Type 0} → (saving : K → NodeRecord → Saving K) (c : Cluster) (me : ℕ) (x : UpNode) (a : Answer) (o : Option ℕ) (p : Option PrCommand)
+answered_cut : {K : Type 0} → (saving : K → NodeRecord → Saving K) (c : Cluster) (me : ℕ) (x : UpNode) (a : DeviceAnswer) (o : Option ℕ) (p : Option PrCommand)
     → Cut saving c me x (devices.answered_with c me x a o p) (cuts.answered_course c me x a o p)
 answered_cut saving c me x a (Some d) (Some command) = progress_cut saving c me x d command a (progress_after x.tasks a)
 answered_cut saving c me x a None p = same saving me (Stays x)
 answered_cut saving c me x a (Some d) None = same saving me (Stays x)
 
-wrote_cut : {K : Type 0} → (saving : K → NodeRecord → Saving K) (c : Cluster) (me : ℕ) (x : UpNode) (d value : ℕ) (a : Answer)
+wrote_cut : {K : Type 0} → (saving : K → NodeRecord → Saving K) (c : Cluster) (me : ℕ) (x : UpNode) (d value : ℕ) (a : DeviceAnswer)
     → Same saving me (devices.write_ended me x d value a) (saying (write_lines me x d value a) (plan_from c me x (cuts.fenced_course d a)))
 wrote_cut saving c me x d value (Ok given.Good) = same saving me _
 wrote_cut saving c me x d value (Ok given.Conflict) = same saving me _
@@ -464,4 +758,5 @@ step_of_node_is_its_course saving c me x Tick = tick_cut saving c me x
 step_of_node_is_its_course saving c me x (Packet from message) = packet_cut saving c me x from message
 step_of_node_is_its_course saving c me x CommandDue = distrusting_cut saving c me x (begins_plainly x.tasks)
 step_of_node_is_its_course saving c me x (Answered a) = answered_cut saving c me x a (due_device x.tasks) (next_of x.tasks)
+step_of_node_is_its_course saving c me x (Commanded words) = command_cut saving c me x words
 step_of_node_is_its_course saving c me x (Wrote d value a) = same_says saving me (Tells (devices.write_told me d value a) ∷ []) _ _ (wrote_cut saving c me x d value a)

@@ -14,7 +14,7 @@ use Rattle.record_disk.specs.Disks.{DiskState, armed}
 use Rattle.wire.specs.declared.message.Body.{Body}
 use Rattle.node_model.specs.declared.cluster.Cluster.{Cluster}
 use Rattle.node_model.specs.declared.input.Input.{Input}
-use Rattle.node_model.specs.declared.input.Input.TheVariants.{Boot, Crash, Tick, Packet, CommandDue, Answered, Wrote}
+use Rattle.node_model.specs.declared.input.Input.TheVariants.{Boot, Crash, Tick, Packet, CommandDue, Answered, Wrote, Commanded}
 use Rattle.node_model.specs.declared.node.Node.{Node}
 use Rattle.node_model.specs.declared.output.Output.{Output}
 use Rattle.node_model.specs.declared.output.Output.TheVariants.{Tells, Sends}
@@ -27,6 +27,7 @@ use Rattle.refinement.specs.Whole.{IsTrue, Stands, StepGoes}
 use Rattle.refinement.proofs.Acts.{run_append}
 use Rattle.refinement.proofs.Disks.{disks_keep_rules}
 use Rattle.refinement.proofs.Facts.{steps_go}
+use Rattle.refinement.proofs.Logs.{no_updates}
 use Rattle.refinement.proofs.Ties.{message_stays, node_stays}
 
 abbrev AllTrue : Memberships → List Letter → Type 0
@@ -54,6 +55,7 @@ is_true M w Tick h all = tt
 is_true M w CommandDue h all = tt
 is_true M w (Answered a) h all = tt
 is_true M w (Wrote d value a) h all = tt
+is_true M w (Commanded words) h all = tt
 
 stands_stay : (c : Cluster) (M N : Memberships) (n : ℕ) (node : Node) (disk : NodeRecord) → Holds (setting_of c) M → Grows M N → N.node n ≡ M.node n → Stands c M n node disk → Stands c N n node disk
 stands_stay c M N n node disk i g same h = record { tied = node_stays c M N n disk node i g same h.tied; joins = h.joins }
@@ -114,7 +116,7 @@ first_run c = record {
   events = [];
   machine = first_memberships;
   run = refl;
-  stands = λ n. record { tied = record { promised = refl; saved = refl; session = refl; member = refl }; joins = tt };
+  stands = λ n. record { tied = (record { promised = refl; saved = refl; session = refl; member = refl }, no_updates c); joins = tt };
   sent = tt;
 }
 

@@ -1,11 +1,12 @@
 -- The tie gives the facts that a node's steps suppose, and small steps keep those of its tasks.
 use Rattle.std.specs.Prelude.{ℕ, ◌≡◌, ◌<◌, ◌≤◌, true, false, List, [], ◌∷◌, All, Option, None, Some}
 use Rattle.std.proofs.Common.{sym, ap, subst, ◌∙◌}
+use Rattle.ccr_commit.specs.Entries.{all_committed, with_next}
 use Rattle.cl_base.specs.Sets.{has, set_without}
 use Rattle.cmm_attempt.specs.Attempts.{AttemptState}
 use Rattle.cmm_attempt.specs.Calls.{IsDevice, May as MayTake, turn}
 use Rattle.cmm_attempt.proofs.Basics.{false_true, if_either, none_some}
-use Rattle.cmm_member.specs.Nodes.{with_joined, with_valid}
+use Rattle.cmm_member.specs.Nodes.{with_entries, with_joined, with_valid}
 use Rattle.cmm_member.specs.Records.{NodeRecord}
 use Rattle.membership_machine.specs.Invariant.{Holds}
 use Rattle.membership_machine.specs.State.{Memberships}
@@ -13,32 +14,35 @@ use Rattle.attempt_laws.proofs.Goes.{chosen_reached, goes_by_call}
 use Rattle.attempt_laws.proofs.Stays.{plan_stays}
 use Rattle.node_model.specs.declared.cluster.Cluster.{Cluster}
 use Rattle.node_model.specs.declared.input.Input.{Input}
-use Rattle.node_model.specs.declared.input.Input.TheVariants.{Boot, Crash, Tick, Packet, CommandDue, Answered, Wrote}
+use Rattle.node_model.specs.declared.input.Input.TheVariants.{Boot, Crash, Tick, Packet, CommandDue, Answered, Wrote, Commanded}
 use Rattle.node_model.specs.declared.node.Node.{Node}
 use Rattle.node_model.specs.declared.node.Node.TheVariants.{Down, Up}
 use Rattle.node_model.specs.declared.node.UpNode.{UpNode}
+use Rattle.node_model.specs.declared.presidency.Presidency.{Presidency}
 use Rattle.node_model.specs.declared.seat.Seat.{Seat}
 use Rattle.node_model.specs.declared.seat.Seat.TheVariants.{Forming, Member}
 use Rattle.node_model.specs.Members.{rested_by}
 use Rattle.node_model.specs.Seats.{installed_of, promising, record_of, state_of}
 use Rattle.node_model.specs.Steps.{DiskRules, Outcome, stepped}
+use Rattle.proposals.specs.declared.arrived.Proposed.{Proposed}
 use Rattle.refinement.specs.Doings.{Act, Change, Doing, Site, acted, after_all, changed, effect, given_all, gives, site}
-use Rattle.refinement.specs.Doings.Act.{Accepts, Ends, Goes_on, Hears, Makes, Queues, Stores, Takes, Ticks, Waits, Writes}
-use Rattle.refinement.specs.Doings.Change.{Admits, Counts, Distrusts, Installs, Leads, Promises, Sits, Starts}
+use Rattle.refinement.specs.Doings.Act.{Accepts, Ends, Gives, Goes_on, Hears, Makes, Minds, Notes, Queues, Spreads, Stores, Takes, Ticks, Waits, Writes}
+use Rattle.refinement.specs.Doings.Change.{Acks, Admits, Commits, Counts, Distrusts, Installs, Leads, Prepares, Promises, Proposes, Sits, Starts}
 use Rattle.refinement.specs.Doings.Doing.{Comes_up, Does, Forgets, Goes_down, Loses, Saves}
 use Rattle.refinement.specs.Courses.{Reply}
 use Rattle.refinement.specs.Courses.Reply.{Done, Lost_new, Lost_old}
 use Rattle.refinement.specs.Cuts.{boot_doings, course_of, doings}
 use Rattle.refinement.specs.Events.{of_doing, of_doings}
-use Rattle.refinement.specs.Facts.{AttemptFacts, Facts, JoinsFit, JoinsIn, OfMember, OfSeat}
+use Rattle.refinement.specs.Facts.{AttemptFacts, Facts, JoinsFit, JoinsIn, OfMember, OfPresident, OfProposed, OfSeat}
 use Rattle.refinement.specs.Guards.{May, MayAct, MayAll, MayChange}
 use Rattle.refinement.specs.Steps.{IsCut, IsDisk}
-use Rattle.refinement.specs.Ties.{AllTold, Coordinates, CountedIn, Delivered, GoesOn, Known, NodeTied, SeatTied, SiteTied, setting_of}
+use Rattle.refinement.specs.Ties.{AllTold, Coordinates, CountedIn, Delivered, GoesOn, Known, NodeTied, PresidentTied, ProposedTied, SeatTied, SiteTied, setting_of}
 use Rattle.refinement.specs.Whole.{IsTrue, StepsGo}
 use Rattle.refinement.proofs.Acts.{does_one}
 use Rattle.refinement.proofs.Attempts.{install_epoch, may_be_called}
 use Rattle.refinement.proofs.Changes.{Sees, sees}
-use Rattle.refinement.proofs.Handlers.{delivered_by, joins_answered, joins_seize, state_with, step_may_go}
+use Rattle.refinement.proofs.Handlers.{delivered_by, joins_answered, joins_seize, step_may_go}
+use Rattle.refinement.proofs.Texts.{state_with}
 use Rattle.refinement.proofs.Installs.{seeks_before}
 use Rattle.refinement.proofs.Replies.{steps_are_cut}
 use Rattle.refinement.proofs.Runs.{does_all, may_under}
@@ -67,14 +71,24 @@ member_facts c M n disk o (Member s) i h = (
   sym h.0.session ∙ ((i.node n).member_installed h.0.member ∙ ap (λ r. r.installed) h.0.saved),
 )
 
+president_facts : (M : Memberships) (n : ℕ) (o : Option Presidency) (seat : Seat) → PresidentTied M n o seat → OfPresident o seat
+president_facts M n None seat h = tt
+president_facts M n (Some p) (Forming s) h = absurd h
+president_facts M n (Some p) (Member s) h = by_proposed p.proposals.proposed h.proposed
+  where
+    by_proposed : (o : Option Proposed) → ProposedTied M n s o → OfProposed s o
+    by_proposed None e = e
+    by_proposed (Some q) e = e.0
+
 pub facts_of : (c : Cluster) (M : Memberships) (n : ℕ) (disk : NodeRecord) (x : UpNode) → Holds (setting_of c) M → NodeTied c M n disk (Up x) → JoinsFit x → Facts x
 facts_of c M n disk x i h joins =
-    let e : Sees M n disk (state_of x.seat) = sees c M n disk x.attempt x.seat h in
+    let e : Sees M n disk (state_of x.seat) = sees c M n disk x.attempt x.seat h.0 in
     record {
-      attempt = attempt_facts c M n disk x.attempt x.seat i h;
-      member = member_facts c M n disk x.attempt x.seat i h;
+      attempt = attempt_facts c M n disk x.attempt x.seat i h.0;
+      member = member_facts c M n disk x.attempt x.seat i h.0;
       order = subst (λ q. installed_of x ≤ q) e.promised (subst (λ q. q ≤ (M.node n).promised) (ap (λ r. r.installed) e.saved) (i.node n).installed);
       joins = joins;
+      president = president_facts M n x.presidency x.seat h.1;
     }
 
 -- The tasks.
@@ -103,6 +117,13 @@ joins_change c n told x (Distrusts d) f may =
 joins_change c n told x (Admits at command a d) f may =
     λ h. subst (λ z. (0 < z.session) × (z.session ≡ z.saved.installed)) (sym (state_with x.seat (with_joined (state_of x.seat) d))) (f.joins (sym (joins_answered x.tasks a) ∙ h))
 
+joins_change c n told x (Proposes s p text) f may =
+    λ h. subst (λ z. (0 < z.session) × (z.session ≡ z.saved.installed)) (sym (state_with x.seat (with_entries (state_of x.seat) (with_next (record_of x).entries text)))) (f.joins h)
+joins_change c n told x (Acks s p q left text) f may =
+    λ h. subst (λ z. (0 < z.session) × (z.session ≡ z.saved.installed)) (sym (state_with x.seat (with_entries (state_of x.seat) (all_committed (record_of x).entries)))) (f.joins h)
+joins_change c n told x (Prepares s text) f may = λ h. subst (λ z. (0 < (state_of z).session) × ((state_of z).session ≡ (state_of z).saved.installed)) may.0 (f.joins h)
+joins_change c n told x (Commits s) f may = λ h. subst (λ z. (0 < (state_of z).session) × ((state_of z).session ≡ (state_of z).saved.installed)) may.0 (f.joins h)
+
 joins_act : (c : Cluster) (n : ℕ) (told : Delivered) (x : UpNode) (a : Act) → Facts x → MayAct c n told x a → JoinsFit (acted c n x a)
 joins_act c n told x (Hears from b) f may = f.joins
 joins_act c n told x Ticks f may = f.joins
@@ -114,6 +135,10 @@ joins_act c n told x (Accepts kind e members d) f may = λ h. f.joins (sym (join
 joins_act c n told x (Takes at command a) f may = λ h. f.joins (sym (joins_answered x.tasks a) ∙ h)
 joins_act c n told x (Stores d value a) f may = f.joins
 joins_act c n told x (Writes to b) f may = f.joins
+joins_act c n told x (Gives os) f may = f.joins
+joins_act c n told x (Spreads receivers b) f may = f.joins
+joins_act c n told x (Minds q p) f may = f.joins
+joins_act c n told x (Notes from place p) f may = f.joins
 joins_act c n told x (Makes ch) f may = joins_change c n told x ch f may.0
 
 pub joins_one : (c : Cluster) (M : Memberships) (n : ℕ) (told : Delivered) (node : Node) (disk : NodeRecord) (d : Doing) → Holds (setting_of c) M → NodeTied c M n disk node → JoinsIn node
@@ -157,6 +182,7 @@ step_may c M n Down disk (Packet from m) replies low fits holds tied joins = tt
 step_may c M n Down disk CommandDue replies low fits holds tied joins = tt
 step_may c M n Down disk (Answered a) replies low fits holds tied joins = tt
 step_may c M n Down disk (Wrote d value a) replies low fits holds tied joins = tt
+step_may c M n Down disk (Commanded words) replies low fits holds tied joins = tt
 
 pub known_by : (M : Memberships) (i : Input) → IsTrue M i → Known M (delivered_by i)
 known_by M (Packet from m) h = h
@@ -166,6 +192,7 @@ known_by M Tick h = tt
 known_by M CommandDue h = tt
 known_by M (Answered a) h = tt
 known_by M (Wrote d value a) h = tt
+known_by M (Commanded words) h = tt
 
 pub steps_go : {K : Type 0} → (rules : DiskRules K) → IsDisk rules → StepsGo rules
 steps_go {K} rules good c M n node disk i low fits holds is_true stands =

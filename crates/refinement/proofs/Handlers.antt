@@ -3,6 +3,7 @@ use Rattle.std.specs.Prelude.{ℕ, ◌≡◌, ◌≢◌, ◌<◌, ◌≤◌, ◌
 use Rattle.std.proofs.Common.{refl, sym, ap, subst, ◌∙◌, arith}
 use Rattle.std.proofs.lemmas.Nat.{mod-mul-add}
 use Rattle.std.specs.List.{find}
+use Rattle.answer_words.specs.Answers.{answer_in}
 use Rattle.cl_base.specs.Sets.{has}
 use Rattle.cl_base.specs.Seizings.{SeizeResult}
 use Rattle.cl_base.specs.declared.panic.Panic.TheVariants as panic
@@ -38,37 +39,43 @@ use Rattle.attempt_laws.proofs.Walk.{if_with}
 use Rattle.heartbeats.specs.Due.{begins}
 use Rattle.node_model.specs.declared.cluster.Cluster.{Cluster}
 use Rattle.node_model.specs.declared.input.Input.{Input}
-use Rattle.node_model.specs.declared.input.Input.TheVariants.{Boot, Crash, Tick, Packet, CommandDue, Answered, Wrote}
+use Rattle.node_model.specs.declared.input.Input.TheVariants.{Boot, Crash, Tick, Packet, CommandDue, Answered, Wrote, Commanded}
 use Rattle.node_model.specs.declared.node.UpNode.{UpNode}
+use Rattle.node_model.specs.declared.presidency.Presidency.{Presidency}
 use Rattle.node_model.specs.declared.seat.Seat.{Seat}
 use Rattle.node_model.specs.declared.seat.Seat.TheVariants.{Forming, Member}
 use Rattle.node_model.specs.Attempts.{is_choosing, may_count_on, next_epoch, own_promise, promise_of, starts_now, votes_in}
 use Rattle.node_model.specs.Devices.{joining_so}
-use Rattle.node_model.specs.Members.{awaits_start, has_texts, hearing, is_foreign, is_strange, promised_so, ready_of, rested_by}
+use Rattle.node_model.specs.Members.{are_devices, awaits_start, hearing, is_bad_log, is_bad_update, is_foreign, is_foreign_install, is_strange, promised_so, ready_of, rested_by}
 use Rattle.node_model.specs.Seats as seats
 use Rattle.node_model.specs.Seats.{coordinator_of, installed_of, is_in, promised_of, promising, record_of, session_of, state_of}
 use Rattle.node_model.specs.Ticks.{later, members_to_form, membership_of, to_form_in, waiting_less}
+use Rattle.node_model.specs.Updates.{later_presidency}
+use Rattle.proposals.specs.declared.arrived.Proposed.{Proposed}
 use Rattle.refinement.specs.Doings.{answered_so, changed}
 use Rattle.refinement.specs.Doings.Act.{Accepts, Hears, Makes, Waits}
 use Rattle.refinement.specs.Doings.Change.{Distrusts, Installs, Leads, Promises, Sits}
 use Rattle.refinement.specs.Courses.Course.{Acts, Falls as Course_falls, Keeps, Stops}
 use Rattle.refinement.specs.Cuts as cuts
 use Rattle.refinement.specs.Cuts.{begun_course, called, course_of, going_course, kept_if, own_ready_course, readied_course, steps_course, writing}
-use Rattle.refinement.specs.Facts.{AttemptFacts, Facts, OfMember, OfSeat, has_join}
+use Rattle.refinement.specs.Facts.{AttemptFacts, Facts, OfMember, OfPresident, OfProposed, OfSeat, has_join}
 use Rattle.refinement.specs.Guards.{Asks, MayChange, MayGo}
-use Rattle.refinement.specs.Ties.{Delivered}
+use Rattle.refinement.specs.Ties.{Delivered, IsLog, ShowsLog}
 use Rattle.refinement.proofs.Calls.{Any, MayTo, called_to, choosing_is, fit_to, go, going_to, readied_to, started_same}
 use Rattle.refinement.proofs.Changes.{first_not_installing}
 use Rattle.refinement.proofs.Fits.{first_fits}
+use Rattle.refinement.proofs.Requests.{President, any, asked_to, command_to, commit_to, in_session, or_second, prepare_to, prepared_to, reply_to}
+use Rattle.refinement.proofs.Texts.{state_with}
 
 -- The same facts, of a node with another view of the others, or other tasks.
 
-pub facts_same : (x y : UpNode) → y.seat ≡ x.seat → y.attempt ≡ x.attempt → (has_join y.tasks ≡ true → has_join x.tasks ≡ true) → Facts x → Facts y
-facts_same x y seat attempt tasks f = record {
+pub facts_same : (x y : UpNode) → y.seat ≡ x.seat → y.attempt ≡ x.attempt → (has_join y.tasks ≡ true → has_join x.tasks ≡ true) → (President x → President y) → Facts x → Facts y
+facts_same x y seat attempt tasks president f = record {
   attempt = subst (λ s. OfSeat y.attempt s) (sym seat) (subst (λ o. OfSeat o x.seat) (sym attempt) f.attempt);
   member = subst OfMember (sym seat) f.member;
   order = subst (λ s. (state_of s).saved.installed ≤ (state_of s).saved.promised) (sym seat) f.order;
   joins = λ h. subst (λ s. (0 < (state_of s).session) × ((state_of s).session ≡ (state_of s).saved.installed)) (sym seat) (f.joins (tasks h));
+  president = president f.president;
 }
 
 -- The own attempt.
@@ -80,10 +87,10 @@ of_seat x a P (Member s) is h f = absurd h
 pub own_attempt : (x : UpNode) (a : AttemptState) (P : Type 0) → Facts x → x.attempt ≡ Some a → ((s : NodeState) → x.seat ≡ Forming s → AttemptFacts s a → P) → P
 own_attempt x a P f attempt g = of_seat x a P x.seat refl (subst (λ o. OfSeat o x.seat) attempt f.attempt) g
 
-answer_to : (c : Cluster) (me : ℕ) (x : UpNode) (from : ℕ) (m : Message) (o : Option AttemptState) → Facts x → x.attempt ≡ o → MayTo c me (Some (from, m)) Any x (cuts.answer_course c me x from m o)
-answer_to c me x from m None f is = tt
-answer_to c me x from m (Some a) f is =
-    own_attempt x a (MayTo c me (Some (from, m)) Any x (going_course c me x a (Take from m))) f is (λ s seat g. going_to c me (Some (from, m)) x a (Take from m) s is seat g refl)
+answer_to : (c : Cluster) (me : ℕ) (x : UpNode) (from : ℕ) (m : Message) (o : Option AttemptState) → ShowsLog c m.body → Facts x → x.attempt ≡ o → MayTo c me (Some (from, m)) Any x (cuts.answer_course c me x from m o)
+answer_to c me x from m None good f is = tt
+answer_to c me x from m (Some a) good f is =
+    own_attempt x a (MayTo c me (Some (from, m)) Any x (going_course c me x a (Take from m))) f is (λ s seat g. going_to c me (Some (from, m)) x a (Take from m) s is seat g (refl, good))
 
 own_ready_to : (c : Cluster) (me : ℕ) (told : Delivered) (x : UpNode) → Facts x → MayTo c me told Any x (own_ready_course c me x)
 own_ready_to c me told x f = by_attempt x.attempt refl
@@ -137,8 +144,8 @@ leading_to c me told x p members low fits f own member small =
       installed = λ is. absurd (first_not_installing p members m c.attached c.id is);
     } in (
       (up, own, within_32 members me low member, small),
-      if_with (MayTo c me told Any y) (is_choosing t.after.phase) (is_choosing t.after.phase) (called c me y t.after (With_votes (votes_in c))) (steps_course c me y t.steps) refl
-          (λ choosing. called_to c me told y t.after (With_votes (votes_in c)) s refl refl g (refl, choosing_is t.after.phase choosing))
+      if_with (MayTo c me told Any y) (is_choosing t.after.phase) (is_choosing t.after.phase) (called c me y t.after (With_votes (votes_in c t.after))) (steps_course c me y t.steps) refl
+          (λ choosing. called_to c me told y t.after (With_votes (votes_in c t.after)) s refl refl g (refl, choosing_is t.after.phase choosing))
           (λ choosing. fit_to c me told Any y t.after t.steps (first_fits p members m c.attached c.id) refl (λ z. tt)),
     ))
     (λ e. tt)
@@ -182,12 +189,17 @@ ticked_to c me told x (Some a) low fits f is =
 ticked_to c me told x None low fits f is =
     let y : UpNode = waiting_less x in
     if_either (MayTo c me told Any x) (nat_le 1 x.beats.wait) (Acts Waits Stops) (Acts Waits (cuts.forming_course c me y (members_to_form c me y))) (tt, tt)
-    (tt, forming_to c me told y (members_to_form c me y) low fits (facts_same x y refl refl (λ h. h) f) refl)
+    (tt, forming_to c me told y (members_to_form c me y) low fits (facts_same x y refl refl (λ h. h) (λ h. h) f) refl)
+
+later_facts : (o : Option Presidency) (seat : Seat) → OfPresident o seat → OfPresident (later_presidency o) seat
+later_facts None seat h = tt
+later_facts (Some p) (Forming s) h = absurd h
+later_facts (Some p) (Member s) h = h
 
 pub tick_to : (c : Cluster) (me : ℕ) (told : Delivered) (x : UpNode) → me ≤ 32 → All IsDevice c.attached → Facts x → MayTo c me told Any x (cuts.tick_course c me x)
 tick_to c me told x low fits f =
     let y : UpNode = later c x in
-    (tt, ticked_to c me told y y.attempt low fits (facts_same x y refl refl (λ h. h) f) refl)
+    (tt, ticked_to c me told y y.attempt low fits (facts_same x y refl refl (λ h. h) (later_facts x.presidency x.seat) f) refl)
 
 -- Messages.
 
@@ -199,14 +211,6 @@ heartbeat_to c me told x from session member =
     first_of_five : (p q r s t : Bool) → (p && q && r && s && t) ≡ true → p ≡ true
     first_of_five true q r s t h = refl
     first_of_five false q r s t h = h
-
-in_session : (x : UpNode) (p : ℕ) → is_in x p ≡ true → (0 < p) × (p ≡ session_of x)
-in_session x p h =
-    let two : (nat_le 1 p ≡ true) × ((session_of x == p) ≡ true) = and_cases (nat_le 1 p) (session_of x == p) h in
-    (low p two.0, sym (same_number (session_of x) p two.1))
-  where
-    low : (k : ℕ) → nat_le 1 k ≡ true → 0 < k
-    low k e = grind arith
 
 promised_session : (x : UpNode) (p : ℕ) (o : Option AttemptState) → p ≡ session_of (rested_by (promising x p) o)
 promised_session x p None = refl
@@ -250,17 +254,20 @@ not_false : (b : Bool) → not b ≡ false → b ≡ true
 not_false true h = refl
 not_false false h = sym h
 
--- an install that is not foreign has the node among its members
-named_in : (c : Cluster) (me : ℕ) (i : Install) → is_foreign c me (body.Install i) ≡ false → has i.members me ≡ true
+-- an install that is not foreign has the node among its members, and no bad list
+named_in : (c : Cluster) (me : ℕ) (i : Install) → is_foreign_install c me i ≡ false → has i.members me ≡ true
 named_in c me i h =
     not_false (has i.members me)
     (or_false (not (has i.members me)) (is_strange c i.members)
-    (or_false (not (has i.members me) || is_strange c i.members) (has_texts i.committed i.pending) (or_false _ _ h)))
+    (or_false (not (has i.members me) || is_strange c i.members) (is_bad_log c i.committed i.pending) (or_false _ _ h)))
+
+good_in : (c : Cluster) (me : ℕ) (i : Install) → is_foreign_install c me i ≡ false → IsLog c i.committed i.pending
+good_in c me i h = not_false _ (or_second (not (has i.members me) || is_strange c i.members) (is_bad_log c i.committed i.pending) (or_false _ _ h))
 
 not_same : (a b : ℕ) → (a == b) ≡ false → a ≢ b
 not_same a b h e = grind arith
 
-installed_to : (c : Cluster) (me : ℕ) (x : UpNode) (from : ℕ) (m : Message) (i : Install) (seat : Seat) → me ≤ 32 → m.body ≡ body.Install i → is_foreign c me (body.Install i) ≡ false
+installed_to : (c : Cluster) (me : ℕ) (x : UpNode) (from : ℕ) (m : Message) (i : Install) (seat : Seat) → me ≤ 32 → m.body ≡ body.Install i → is_foreign_install c me i ≡ false
     → is_in x i.epoch ≡ true → OfMember seat → x.seat ≡ seat → MayTo c me (Some (from, m)) Any x (cuts.installed_course c me x from i seat)
 unfolding Ready
 installed_to c me x from m i (Member s) low is known here f at =
@@ -275,11 +282,11 @@ installed_to c me x from m i (Forming s) low is known here f at =
     (λ e. readying_to c me (Some (from, m)) x from
     (subst (λ q. 0 < q) session some, sym session ∙ (sym (same_number s.saved.installed i.epoch e) ∙ ap (λ z. (state_of z).saved.installed) (sym at))))
     (λ e. (
-      (at, is, some, own, not_same s.saved.installed i.epoch e, within_32 i.members me low (named_in c me i known)),
+      (at, is, some, own, not_same s.saved.installed i.epoch e, within_32 i.members me low (named_in c me i known), good_in c me i known),
       readying_to c me (Some (from, m)) y from (subst (λ q. 0 < q) (sym own) some, own),
     ))
 
-install_to : (c : Cluster) (me : ℕ) (x : UpNode) (from : ℕ) (m : Message) (i : Install) → me ≤ 32 → m.body ≡ body.Install i → is_foreign c me (body.Install i) ≡ false → Facts x
+install_to : (c : Cluster) (me : ℕ) (x : UpNode) (from : ℕ) (m : Message) (i : Install) → me ≤ 32 → m.body ≡ body.Install i → is_foreign_install c me i ≡ false → Facts x
     → MayTo c me (Some (from, m)) Any x (cuts.install_course c me x from i)
 install_to c me x from m i low is known f =
     if_with (MayTo c me (Some (from, m)) Any x) (is_in x i.epoch) (is_in x i.epoch) (cuts.installed_course c me x from i x.seat) (writing from (body.Nack i.epoch (promised_of x))) refl
@@ -301,32 +308,45 @@ start_to c me x from e m (Forming s) is at =
 notice_to : (c : Cluster) (me : ℕ) (told : Delivered) (x : UpNode) (e newest : ℕ) → MayTo c me told Any x (cuts.notice_course x e newest)
 notice_to c me told x e newest = if_either (MayTo c me told Any x) (is_in x e) (Course_falls (down.Panic (panic.Excluded newest))) Stops tt tt
 
-body_to : (c : Cluster) (me : ℕ) (x : UpNode) (from : ℕ) (m : Message) (b : Body) → me ≤ 32 → m.body ≡ b → is_foreign c me b ≡ false → Facts x
+-- a Promise that is not foreign shows no bad list
+good_promise : (c : Cluster) (members valid : ℕ) (committed : List (List ℕ)) (pending : Option (List ℕ))
+    → (is_strange c members || not (are_devices c valid) || is_bad_log c committed pending) ≡ false → IsLog c committed pending
+good_promise c members valid committed pending h = not_false _ (or_second (is_strange c members || not (are_devices c valid)) (is_bad_log c committed pending) h)
+
+bad_update_same : (c : Cluster) (x z : UpNode) (e place : ℕ) (text : List ℕ) → x.seat ≡ z.seat → is_bad_update c z e place text ≡ false → is_bad_update c x e place text ≡ false
+bad_update_same c x z e place text same h = subst (λ seat. is_bad_update c (record x { seat = seat }) e place text ≡ false) (sym same) h
+
+-- z is the node before the packet was heard
+body_to : (c : Cluster) (me : ℕ) (x z : UpNode) (from : ℕ) (m : Message) (b : Body) → me ≤ 32 → m.body ≡ b → x.seat ≡ z.seat → is_foreign c me z b ≡ false → Facts x
     → MayTo c me (Some (from, m)) Any x (cuts.body_course c me x from m b)
-body_to c me x from m (body.Heartbeat promised session member) low is known f = heartbeat_to c me (Some (from, m)) x from session member
-body_to c me x from m (body.Collect e members) low is known f = collect_to c me x from e members m is
-body_to c me x from m (body.Promise e installed members valid flagged committed pending) low is known f = answer_to c me x from m x.attempt f refl
-body_to c me x from m (body.Nack e promised) low is known f = answer_to c me x from m x.attempt f refl
-body_to c me x from m (body.SeizeQuorum e members d) low is known f = seizing_to c me (Some (from, m)) x from Vote e members d
-body_to c me x from m (body.SeizeData e members d) low is known f = seizing_to c me (Some (from, m)) x from Plain e members d
-body_to c me x from m (body.Seized e d outcome) low is known f = answer_to c me x from m x.attempt f refl
-body_to c me x from m (body.Install i) low is known f = install_to c me x from m i low is known f
-body_to c me x from m (body.Ready e devices report) low is known f = answer_to c me x from m x.attempt f refl
-body_to c me x from m (body.Start e) low is known f = start_to c me x from e m x.seat is refl
-body_to c me x from m (body.Excluded e newest) low is known f = notice_to c me (Some (from, m)) x e newest
-body_to c me x from m (body.Prepare e place text) low is known f = tt
-body_to c me x from m (body.Prepared e place) low is known f = tt
-body_to c me x from m (body.Commit e place) low is known f = tt
-body_to c me x from m (body.Order o) low is known f = tt
-body_to c me x from m (body.Done e number outcome) low is known f = tt
-body_to c me x from m (body.Request e number text) low is known f = tt
-body_to c me x from m (body.Answer e number text) low is known f = tt
+body_to c me x z from m (body.Heartbeat promised session member) low is same known f = heartbeat_to c me (Some (from, m)) x from session member
+body_to c me x z from m (body.Collect e members) low is same known f = collect_to c me x from e members m is
+body_to c me x z from m (body.Promise e installed members valid flagged committed pending) low is same known f =
+    answer_to c me x from m x.attempt (subst (ShowsLog c) (sym is) (good_promise c members valid committed pending known)) f refl
+body_to c me x z from m (body.Nack e promised) low is same known f = answer_to c me x from m x.attempt (subst (ShowsLog c) (sym is) tt) f refl
+body_to c me x z from m (body.SeizeQuorum e members d) low is same known f = seizing_to c me (Some (from, m)) x from Vote e members d
+body_to c me x z from m (body.SeizeData e members d) low is same known f = seizing_to c me (Some (from, m)) x from Plain e members d
+body_to c me x z from m (body.Seized e d outcome) low is same known f = answer_to c me x from m x.attempt (subst (ShowsLog c) (sym is) tt) f refl
+body_to c me x z from m (body.Install i) low is same known f = install_to c me x from m i low is known f
+body_to c me x z from m (body.Ready e devices report) low is same known f = answer_to c me x from m x.attempt (subst (ShowsLog c) (sym is) tt) f refl
+body_to c me x z from m (body.Start e) low is same known f = start_to c me x from e m x.seat is refl
+body_to c me x z from m (body.Excluded e newest) low is same known f = notice_to c me (Some (from, m)) x e newest
+body_to c me x z from m (body.Prepare e place text) low is same known f =
+    prepare_to c me x from e place m text x.seat is refl f.member (bad_update_same c x z e place text same known)
+body_to c me x z from m (body.Prepared e place) low is same known f = any c me (Some (from, m)) President x (cuts.prepared_course c me x from e place) (prepared_to c me x from e place m is f.president)
+body_to c me x z from m (body.Commit e place) low is same known f = commit_to c me x from e place m x.seat is refl
+body_to c me x z from m (body.Order o) low is same known f = tt
+body_to c me x z from m (body.Done e number outcome) low is same known f = tt
+body_to c me x z from m (body.Request e number text) low is same known f =
+    any c me (Some (from, m)) President x (cuts.asked_course c me x from e number text) (asked_to c me (Some (from, m)) x from e number text f.president)
+body_to c me x z from m (body.Answer e number text) low is same known f =
+    any c me (Some (from, m)) President x (cuts.reply_course c me x e number (answer_in text)) (reply_to c me (Some (from, m)) x e number (answer_in text) f.president)
 
 pub packet_to : (c : Cluster) (me : ℕ) (x : UpNode) (from : ℕ) (m : Message) → me ≤ 32 → Facts x → MayTo c me (Some (from, m)) Any x (cuts.packet_course c me x from m)
 packet_to c me x from m low f =
     let y : UpNode = hearing x from m.body in
-    if_with (MayTo c me (Some (from, m)) Any x) (is_foreign c me m.body) (is_foreign c me m.body) Stops (Acts (Hears from m.body) (cuts.body_course c me y from m m.body)) refl
-    (λ e. tt) (λ e. (tt, body_to c me y from m m.body low refl e (facts_same x y refl refl (λ h. h) f)))
+    if_with (MayTo c me (Some (from, m)) Any x) (is_foreign c me x m.body) (is_foreign c me x m.body) Stops (Acts (Hears from m.body) (cuts.body_course c me y from m m.body)) refl
+    (λ e. tt) (λ e. (tt, body_to c me y x from m m.body low refl refl e (facts_same x y refl refl (λ h. h) (λ h. h) f)))
 
 -- Devices.
 
@@ -404,7 +424,7 @@ joined_to c me told x (Some k) f ready =
     if_either (MayTo c me told Any x) (k == me) (own_ready_course c me x) (cuts.readying_course x k) (own_ready_to c me told x f) (readying_to c me told x k ready)
 
 answered_facts : (x : UpNode) (a : Answer) → Facts x → Facts (answered_so x a)
-answered_facts x a f = facts_same x (answered_so x a) refl refl (λ h. sym (joins_answered x.tasks a) ∙ h) f
+answered_facts x a f = facts_same x (answered_so x a) refl refl (λ h. sym (joins_answered x.tasks a) ∙ h) (λ h. h) f
 
 -- a joined device changes neither session nor what is installed
 joined_seat : (d : ℕ) (o : Option AttemptState) (seat : Seat) → OfSeat o seat → OfSeat o (seats.with_state seat (with_joined (state_of seat) d))
@@ -416,9 +436,14 @@ joined_member : (d : ℕ) (seat : Seat) → OfMember seat → OfMember (seats.wi
 joined_member d (Forming s) h = tt
 joined_member d (Member s) h = h
 
-pub state_with : (seat : Seat) (s : NodeState) → state_of (seats.with_state seat s) ≡ s
-state_with (Forming t) s = refl
-state_with (Member t) s = refl
+joined_president : (d : ℕ) (o : Option Presidency) (seat : Seat) → OfPresident o seat → OfPresident o (seats.with_state seat (with_joined (state_of seat) d))
+joined_president d None seat h = tt
+joined_president d (Some p) (Forming s) h = absurd h
+joined_president d (Some p) (Member s) h = by_proposed p.proposals.proposed h
+  where
+    by_proposed : (o : Option Proposed) → OfProposed s o → OfProposed (with_joined s d) o
+    by_proposed None e = e
+    by_proposed (Some q) e = e
 
 joined_facts : (x : UpNode) (d : ℕ) → Facts x → Facts (joining_so x d)
 joined_facts x d f =
@@ -428,6 +453,7 @@ joined_facts x d f =
       member = joined_member d x.seat f.member;
       order = subst (λ z. z.saved.installed ≤ z.saved.promised) (sym (state_with x.seat s)) f.order;
       joins = λ h. subst (λ z. (0 < z.session) × (z.session ≡ z.saved.installed)) (sym (state_with x.seat s)) (f.joins h);
+      president = joined_president d x.presidency x.seat f.president;
     }
 
 progress_to : (c : Cluster) (me : ℕ) (told : Delivered) (x : UpNode) (at : ℕ) (command : PrCommand) (a : Answer) (p : Progress) → Facts x → progress_after x.tasks a ≡ p
@@ -477,6 +503,7 @@ step_to c me x Tick low fits f = tick_to c me None x low fits f
 step_to c me x (Packet from m) low fits f = packet_to c me x from m low f
 step_to c me x CommandDue low fits f = distrusting_to c me None x (begins_plainly x.tasks)
 step_to c me x (Answered a) low fits f = answered_to c me None x a (due_device x.tasks) (next_of x.tasks) f
+step_to c me x (Commanded words) low fits f = any c me None President x (cuts.command_course c me x words) (command_to c me None x words f.president)
 step_to c me x (Wrote d value a) low fits f = (tt, fenced_to c me None x d a)
 
 pub step_may_go : (c : Cluster) (me : ℕ) (x : UpNode) (i : Input) → me ≤ 32 → All IsDevice c.attached → Facts x → MayGo c me (delivered_by i) x (course_of c me x i)

@@ -47,6 +47,10 @@ said_singly saving me (o ∷ os) p = record {
       ap (λ g. carried saving me p g disk) (sym (append_assoc given (o ∷ []) os)) ∙ (said_singly saving me os p).is (given ++ o ∷ []) disk;
 }
 
+-- outputs all at once, and one by one what follows
+pub same_gives : {K : Type 0} → (saving : K → NodeRecord → Saving K) (me : ℕ) (os : List Output) (p q : Plan) → Same saving me p q → Same saving me (Says os p) (saying os q)
+same_gives saving me os p q h = same_trans saving me (Says os p) (saying os p) (saying os q) (said_singly saving me os p) (same_saying saving me os p q h)
+
 pub saying_append : (os more : List Output) (p : Plan) → saying (os ++ more) p ≡ saying os (saying more p)
 saying_append [] more p = refl
 saying_append (o ∷ os) more p = ap (λ q. Says (o ∷ []) q) (saying_append os more p)

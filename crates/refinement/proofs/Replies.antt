@@ -9,7 +9,7 @@ use Rattle.status_report.specs.declared.node_entry.DownCause.{DownCause}
 use Rattle.status_report.specs.declared.node_entry.NodeEntry.TheVariants as note
 use Rattle.node_model.specs.declared.cluster.Cluster.{Cluster}
 use Rattle.node_model.specs.declared.input.Input.{Input}
-use Rattle.node_model.specs.declared.input.Input.TheVariants.{Boot, Crash, Tick, Packet, CommandDue, Answered, Wrote}
+use Rattle.node_model.specs.declared.input.Input.TheVariants.{Boot, Crash, Tick, Packet, CommandDue, Answered, Wrote, Commanded}
 use Rattle.node_model.specs.declared.node.Node.{Node}
 use Rattle.node_model.specs.declared.node.Node.TheVariants.{Down, Up}
 use Rattle.node_model.specs.declared.node.UpNode.{UpNode}
@@ -164,4 +164,5 @@ steps_are_cut rules good c me Down disk Tick = record { replies = []; comes = st
 steps_are_cut rules good c me Down disk (Packet from m) = record { replies = []; comes = stays_down rules c me disk }
 steps_are_cut rules good c me Down disk CommandDue = record { replies = []; comes = stays_down rules c me disk }
 steps_are_cut rules good c me Down disk (Answered a) = record { replies = []; comes = stays_down rules c me disk }
+steps_are_cut rules good c me Down disk (Commanded words) = record { replies = []; comes = stays_down rules c me disk }
 steps_are_cut rules good c me Down disk (Wrote d value a) = record { replies = []; comes = stays_down rules c me disk }

@@ -1,5 +1,5 @@
 -- What is tied stays so while the machine goes on at other nodes.
-use Rattle.std.specs.Prelude.{ℕ, ◌≡◌, ◌⊎◌, ◌++◌, ◌∷◌, true, false, List, [], Option, None, Some}
+use Rattle.std.specs.Prelude.{ℕ, ◌-◌, ◌≤◌, ◌≡◌, ◌⊎◌, ◌++◌, ◌∷◌, true, false, List, [], Option, None, Some}
 use Rattle.std.proofs.Common.{refl, sym, subst, ◌∙◌, inl, inr}
 use Rattle.machine_base.specs.Put.{put}
 use Rattle.machine_base.proofs.Puts.{put_here, put_there}
@@ -9,7 +9,7 @@ use Rattle.wire.specs.declared.message.Install.{Install}
 use Rattle.cmm_attempt.specs.declared.phase.Phase.{Phase}
 use Rattle.cmm_attempt.specs.declared.phase.Phase.TheVariants.{Collecting, Choosing, SeizingVotes, SeizingOthers, Installing, Over}
 use Rattle.cmm_attempt.specs.Attempts.{AttemptState, install_in}
-use Rattle.cmm_member.specs.Machine.{Shows}
+use Rattle.cmm_member.specs.Machine.{Shows, ShowsMember}
 use Rattle.cmm_member.specs.Nodes.{NodeState}
 use Rattle.cmm_member.specs.Records.{NodeRecord}
 use Rattle.membership_machine.specs.Events.{Allowed, Event, after}
@@ -20,17 +20,20 @@ use Rattle.membership_machine.specs.State.{Memberships}
 use Rattle.membership_machine.proofs.Growth.{Goes, grows_same}
 use Rattle.membership_machine.proofs.Preserved.{event_keeps}
 use Rattle.membership_machine.specs.Records.{Saved}
-use Rattle.attempt_laws.specs.Machine.{Tells as TellsOf, record_in}
+use Rattle.attempt_laws.specs.Machine.{Tells as TellsOf, is_member, record_in}
 use Rattle.attempt_laws.proofs.Told.{told_stays}
+use Rattle.proposals.specs.declared.arrived.Proposed.{Proposed}
 use Rattle.node_model.specs.declared.cluster.Cluster.{Cluster}
 use Rattle.node_model.specs.declared.node.Node.{Node}
 use Rattle.node_model.specs.declared.node.Node.TheVariants.{Down, Up}
 use Rattle.node_model.specs.declared.output.Output.{Output}
 use Rattle.node_model.specs.declared.output.Output.TheVariants.{Tells, Sends}
+use Rattle.node_model.specs.declared.presidency.Presidency.{Presidency}
 use Rattle.node_model.specs.declared.seat.Seat.{Seat}
 use Rattle.node_model.specs.declared.seat.Seat.TheVariants.{Forming, Member}
 use Rattle.refinement.specs.Doings.{Site}
-use Rattle.refinement.specs.Ties.{AllTold, AttemptTied, CountedIn, Delivered, GoesOn, InstallTold, Known, MessageTold, NodeTied, SeatTied, Seeks, SiteTied, setting_of}
+use Rattle.refinement.specs.Ties.{AllTold, AttemptTied, CountedIn, Delivered, GoesOn, InstallTold, Known, MessageTold, NodeTied, PresidentTied, Presides, ProposedTied, SeatTied, Seeks, SiteTied, setting_of}
+use Rattle.refinement.proofs.Texts.{over, slice_part}
 
 -- What messages tell.
 
@@ -59,9 +62,10 @@ message_stays c M N from (body.Nack p promised) i g h = tt
 message_stays c M N from (body.SeizeQuorum p members d) i g h = tt
 message_stays c M N from (body.SeizeData p members d) i g h = tt
 message_stays c M N from (body.Seized p d outcome) i g h = tt
-message_stays c M N from (body.Prepare p place text) i g h = tt
-message_stays c M N from (body.Prepared p place) i g h = tt
-message_stays c M N from (body.Commit p place) i g h = tt
+message_stays c M N from (body.Prepare p place text) i g h = slice_part (M.epoch p).log (N.epoch p).log (place - 1) text (g.epoch p).log h
+message_stays c M N from (body.Prepared p place) i g h =
+    ((g.node from).ready p h.0, over place ((M.node from).reached p) ((N.node from).reached p) h.1 ((g.node from).reached p h.0))
+message_stays c M N from (body.Commit p place) i g h = over place (M.epoch p).acked (N.epoch p).acked h (g.epoch p).acked
 message_stays c M N from (body.Order o) i g h = tt
 message_stays c M N from (body.Done p number outcome) i g h = tt
 message_stays c M N from (body.Request p number text) i g h = tt
@@ -104,7 +108,7 @@ told_append M n (o ∷ os) more h k = (h.0, told_append M n os more h.1 k)
 -- An attempt, and its node.
 
 pub counted_stays : (c : Cluster) (M N : Memberships) (s : NodeState) (a : AttemptState) (phase : Phase) → Holds (setting_of c) M → Grows M N → CountedIn M s a phase → CountedIn N s a phase
-counted_stays c M N s a Installing i g h = (h.0, install_stays M N (install_in a) (i.epoch (install_in a).epoch).counted_tried g h.1)
+counted_stays c M N s a Installing i g h = (h.0, install_stays M N (install_in a) (i.epoch (install_in a).epoch).counted_tried g h.1, h.2)
 counted_stays c M N s a Collecting i g h = tt
 counted_stays c M N s a Choosing i g h = tt
 counted_stays c M N s a SeizingVotes i g h = tt
@@ -122,6 +126,7 @@ attempt_stays c M N n s (Some a) i g same h = record {
   seeks = subst (λ x. Seeks x.seeking a.phase) (sym same) h.seeks;
   counted = counted_stays c M N s a a.phase i g h.counted;
   votes = h.votes;
+  logs = h.logs;
 }
 
 pub seat_stays : (c : Cluster) (M N : Memberships) (n : ℕ) (disk : NodeRecord) (o : Option AttemptState) (seat : Seat) → Holds (setting_of c) M → Grows M N → N.node n ≡ M.node n
@@ -129,11 +134,46 @@ pub seat_stays : (c : Cluster) (M N : Memberships) (n : ℕ) (disk : NodeRecord)
 seat_stays c M N n disk o (Forming s) i g same h = (subst (λ x. Shows s.saved s.session false x) (sym same) h.0, h.1, attempt_stays c M N n s o i g same h.2)
 seat_stays c M N n disk o (Member s) i g same h = (subst (λ x. Shows s.saved s.session true x) (sym same) h.0, h.1, h.2)
 
+-- A president.
+
+proposed_stays : (c : Cluster) (M N : Memberships) (n : ℕ) (s : NodeState) (o : Option Proposed) → Holds (setting_of c) M → Grows M N → (M.epoch s.session).started ≡ true
+    → ((k : ℕ) → (M.epoch s.session).members k ≡ is_member s.saved.members k) → ProposedTied M n s o → ProposedTied N n s o
+proposed_stays c M N n s None i g started members h = h
+proposed_stays c M N n s (Some p) i g started members h = (
+  h.0,
+  λ k member other missing.
+      over p.place ((M.node k).reached s.session) ((N.node k).reached s.session) (h.1 k member other missing)
+      ((g.node k).reached s.session ((i.epoch s.session).started_ready started k (members k ∙ member))),
+)
+
+pub sits_started : (c : Cluster) (M : Memberships) (n : ℕ) (s : NodeState) → Holds (setting_of c) M → ShowsMember s (M.node n) → (M.epoch s.session).started ≡ true
+sits_started c M n s i h = subst (λ q. (M.epoch q).started ≡ true) h.session ((i.node n).member_started h.member)
+
+pub members_stay : (c : Cluster) (M N : Memberships) (q : ℕ) → Holds (setting_of c) M → Grows M N → (M.epoch q).started ≡ true → (k : ℕ) → (N.epoch q).members k ≡ (M.epoch q).members k
+members_stay c M N q i g started k = (g.epoch q).members ((i.epoch q).counted_tried ((i.epoch q).started_counted started)) k
+
+pub presides_stays : (c : Cluster) (M N : Memberships) (n : ℕ) (s : NodeState) (p : Presidency) → Holds (setting_of c) M → Grows M N → ShowsMember s (M.node n)
+    → Presides M n s p → Presides N n s p
+presides_stays c M N n s p i g shows h =
+    let started : (M.epoch s.session).started ≡ true = sits_started c M n s i shows in
+    record {
+      own = h.own;
+      members = λ k. members_stay c M N s.session i g started k ∙ h.members k;
+      proposed = proposed_stays c M N n s p.proposals.proposed i g started h.members h.proposed;
+    }
+
+pub president_stays : (c : Cluster) (M N : Memberships) (n : ℕ) (disk : NodeRecord) (a : Option AttemptState) (o : Option Presidency) (seat : Seat) → Holds (setting_of c) M → Grows M N
+    → SeatTied c M n disk a seat → PresidentTied M n o seat → PresidentTied N n o seat
+president_stays c M N n disk a None seat i g tied h = tt
+president_stays c M N n disk a (Some p) (Forming s) i g tied h = absurd h
+president_stays c M N n disk a (Some p) (Member s) i g tied h = presides_stays c M N n s p i g tied.0 h
+
 -- what other nodes do leaves the tie
 pub node_stays : (c : Cluster) (M N : Memberships) (n : ℕ) (disk : NodeRecord) (node : Node) → Holds (setting_of c) M → Grows M N → N.node n ≡ M.node n
     → NodeTied c M n disk node → NodeTied c N n disk node
-node_stays c M N n disk Down i g same h = subst (λ x. Shows disk 0 false x) (sym same) h
-node_stays c M N n disk (Up x) i g same h = seat_stays c M N n disk x.attempt x.seat i g same h
+node_stays c M N n disk Down i g same h = (subst (λ x. Shows disk 0 false x) (sym same) h.0, h.1)
+node_stays c M N n disk (Up x) i g same h =
+    (seat_stays c M N n disk x.attempt x.seat i g same h.0, president_stays c M N n disk x.attempt x.presidency x.seat i g h.0 h.1, h.2)
 
 -- Small steps of no event, and of one.
 

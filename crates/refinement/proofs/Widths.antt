@@ -29,7 +29,7 @@ use Rattle.wire.specs.declared.message.Body.{Body}
 use Rattle.wire.specs.Spelling.{IsNode}
 use Rattle.node_model.specs.declared.cluster.Cluster.{Cluster}
 use Rattle.node_model.specs.declared.input.Input.{Input}
-use Rattle.node_model.specs.declared.input.Input.TheVariants.{Boot, Crash, Tick, Packet, CommandDue, Answered, Wrote}
+use Rattle.node_model.specs.declared.input.Input.TheVariants.{Boot, Crash, Tick, Packet, CommandDue, Answered, Wrote, Commanded}
 use Rattle.node_model.specs.declared.node.Node.{Node}
 use Rattle.node_model.specs.declared.node.Node.TheVariants.{Down, Up}
 use Rattle.node_model.specs.declared.node.UpNode.{UpNode}
@@ -43,6 +43,7 @@ use Rattle.node_widths.specs.Plans.{PlanFits}
 use Rattle.node_widths.specs.Widths as widths
 use Rattle.node_widths.specs.Widths.{InputFits, NodeFits, RecordFits, TaskFits, UpFits, WorkFits}
 use Rattle.node_widths.proofs.Handlers.{steps_keep_widths}
+use Rattle.node_widths.proofs.Lengths.{sent_messages_fit}
 use Rattle.world_model.specs.Devices.{due_at}
 use Rattle.world_model.specs.Worlds.{node_at}
 use Rattle.refinement.specs.Runs.{AnswersFit, IsAmong, Letter, MayMove, Move, Moves, Nodes, WasSent, first_nodes, letters_of, moved}
@@ -98,7 +99,7 @@ step_fits : (c : Cluster) (n : ℕ) (node : Node) (disk : DiskState) (i : Input)
 step_fits c n (Up x) disk i fits is arrives h r = carried_fits c n (plan_of c n x i) [] disk (steps_keep_widths c n x i fits.devices is h arrives) tt r
 step_fits c n Down disk Boot fits is arrives h r =
     let x : UpNode = up_with n c.first_valid disk.kept in
-    let up : UpFits c n x = record { state = record { session = none_fits; record_fits = r; joined = omega arith }; all_tasks = tt; own = tt; seen = tt } in
+    let up : UpFits c n x = record { state = record { session = none_fits; record_fits = r; joined = omega arith }; all_tasks = tt; own = tt; seen = tt; asked = (omega arith, tt); presides = tt } in
     let next : Outcome DiskState = record { after = Up x; given = Tells (entry.Node n note.Up) ∷ []; disk = (mounting disk).after } in
     let next_fits : StepFits c n next = record { node = up; disk = kept; given = tt } in
     unless_fits c n (Tells (entry.Node n note.Up) ∷ []) (mounting disk).after (mounting disk).lost next tt (λ loss e. kept) (λ e. next_fits)
@@ -111,6 +112,7 @@ step_fits c n Down disk (Packet from m) fits is arrives h r = record { node = tt
 step_fits c n Down disk CommandDue fits is arrives h r = record { node = tt; disk = r; given = tt }
 step_fits c n Down disk (Answered a) fits is arrives h r = record { node = tt; disk = r; given = tt }
 step_fits c n Down disk (Wrote d value a) fits is arrives h r = record { node = tt; disk = r; given = tt }
+step_fits c n Down disk (Commanded words) fits is arrives h r = record { node = tt; disk = r; given = tt }
 
 -- A run.
 
@@ -127,6 +129,7 @@ arrives_fit v Tick h f all = tt
 arrives_fit v CommandDue h f all = tt
 arrives_fit v (Answered a) h f all = f
 arrives_fit v (Wrote d value a) h f all = tt
+arrives_fit v (Commanded words) h f all = tt
 
 letters_fit : (n : ℕ) (os : List Output) (old : List Letter) → IsNode n → widths.AllFit os → AllByRecursion LetterFits old → AllByRecursion LetterFits (letters_of n os ++ old)
 letters_fit n [] old is h k = k
@@ -169,14 +172,14 @@ fits_moves c fits v (m ∷ moves) w run h = fits_moves c fits (moved c v m) move
 run_fits : (c : Cluster) → ClusterFits c → (moves : List Move) (w : Nodes) → Moves c (first_nodes c) moves w → RunFits c w
 run_fits c fits moves w run = fits_moves c fits (first_nodes c) moves w run (record {
   nodes = λ n. tt;
-  disks = λ n. record { promised = none_fits; installed = none_fits; members = omega arith; valid = fits.first_valid; committed = refl; pending = refl };
+  disks = λ n. record { promised = none_fits; installed = none_fits; members = omega arith; valid = fits.first_valid; places = none_fits };
   sent = tt;
 })
 
 all_spelled : (n : ℕ) (os : List Output) → IsNode n → widths.AllFit os → AllFit n os
 all_spelled n [] is h = tt
 all_spelled n (Tells e ∷ os) is h = all_spelled n os is h
-all_spelled n (Sends to b ∷ os) is h = (h.0, (is, h.1.0), all_spelled n os is h.2)
+all_spelled n (Sends to b ∷ os) is h = (h.0, λ short. sent_messages_fit (record { sender = n; body = b }) is h.1 short, all_spelled n os is h.2)
 
 pub gives_fit : (c : Cluster) → ClusterFits c → GivesFit c
 gives_fit c fits moves v n i run may = all_spelled n (stepped disk_rules c n (v.node n) (v.disk n) i).given (may.0, may.1) (move_fits c fits v n i may (run_fits c fits moves v run)).given

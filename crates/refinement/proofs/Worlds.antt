@@ -1,5 +1,5 @@
 -- Parts of a line in the world are moves of the run of all nodes.
-use Rattle.std.specs.Prelude.{ℕ, ◌-◌, ◌≡◌, ◌≢◌, ◌≤◌, ◌<◌, ◌⊎◌, ◌++◌, ◌==◌, nat_lt, not, Bool, true, false, List, [], ◌∷◌, Option, None, Some, length, filter, find, slice_get, slice_set, if◌then◌else◌}
+use Rattle.std.specs.Prelude.{ℕ, ◌-◌, ◌≡◌, ◌≢◌, ◌≤◌, ◌<◌, ◌⊎◌, ◌++◌, ◌==◌, nat_le, nat_lt, not, Bool, true, false, List, [], ◌∷◌, Option, None, Some, length, filter, find, slice_get, slice_set, if◌then◌else◌}
 use Rattle.std.proofs.Common.{refl, sym, ap, subst, ◌∙◌, inl, inr, arith}
 use Rattle.std.specs.List.{AllByRecursion}
 use Rattle.std.proofs.lemmas.List.{get_or-set_same, get_or-set_other, length-set}
@@ -9,7 +9,8 @@ use Rattle.interconnect.specs.Links as links
 use Rattle.interconnect.specs.Links.{Links, Packet, appending, crowding, dropping, oldest_on, refusing, removing, sending, free_cells_of, count_on}
 use Rattle.machine_base.specs.Put.{put}
 use Rattle.machine_base.proofs.Puts.{put_here, put_there, same_or_not}
-use Rattle.cmm_attempt.proofs.Basics.{if_either, none_some, same_some}
+use Rattle.cmm_attempt.proofs.Basics.{and_cases, if_either, none_some, same_some}
+use Rattle.attempt_laws.proofs.Walk.{if_with}
 use Rattle.record_disk.specs.Disks.{DiskState}
 use Rattle.wire.specs.declared.message.Body.{Body}
 use Rattle.wire.specs.declared.message.Message.{Message}
@@ -27,7 +28,7 @@ use Rattle.world_model.specs.Sends.{come_to, dropped_so, giving, is_sent, passin
 use Rattle.refinement.specs.Runs.{AnswersFit, IsAmong, Letter, MayMove, Move, Moves, Nodes, WasSent, first_nodes, letters_of, moved, stepped_at}
 use Rattle.refinement.specs.Runs.Move.{Takes}
 use Rattle.refinement.specs.Steps.{disk_rules}
-use Rattle.refinement.specs.Worlds.{AllFit, GivesFit, PacketSent, Played, Shows}
+use Rattle.refinement.specs.Worlds.{AllFit, GivesFit, PacketSent, Played, Shows, SpelledIfShort}
 
 -- Lists.
 
@@ -136,11 +137,12 @@ pub dropped_world : (d : Option (ℕ × DropCause)) (q : Play) → (dropped_so d
 dropped_world None q = refl
 dropped_world (Some d) q = refl
 
-posted_show : (c : Cluster) (v : Nodes) (n to : ℕ) (b : Body) (p : Play) → Shows c p.world v → (1 ≤ to) × Fits (record { sender = n; body = b }) → IsAmong n b v.sent
+posted_show : (c : Cluster) (v : Nodes) (n to : ℕ) (b : Body) (p : Play) → Shows c p.world v → (1 ≤ to) × SpelledIfShort (record { sender = n; body = b }) → IsAmong n b v.sent
     → Shows c (posting n to (record { sender = n; body = b }) p).world v
 posted_show c v n to b p h fits among =
-    if_either (λ (q : Play). Shows c q.world v) (is_sent p.world.links m) (sent_as n to m o p) p
-    (subst (λ w. Shows c w v) (sym (dropped_world o.sent.dropped _)) (links_show c p.world v o.after h sent)) h
+    if_with (λ (q : Play). Shows c q.world v) (is_sent p.world.links m) (is_sent p.world.links m) (sent_as n to m o p) p refl
+    (λ e. subst (λ w. Shows c w v) (sym (dropped_world o.sent.dropped _)) (links_show c p.world v o.after h (sent (fits.1 (size (length (spelling m)) (and_cases _ _ e).0)))))
+    (λ e. h)
   where
     m : Message
     m = record { sender = n; body = b }
@@ -148,11 +150,14 @@ posted_show c v n to b p h fits among =
     o : links.Outcome
     o = sending p.world.links n to (spelling m)
 
-    read : (other : Message) → whole_of (spelling m) ≡ Some other → IsAmong n other.body v.sent
-    read other e = subst (λ (z : Message). IsAmong n z.body v.sent) (same_some m other (sym (whole_again m fits.1) ∙ e)) among
+    read : Fits m → (other : Message) → whole_of (spelling m) ≡ Some other → IsAmong n other.body v.sent
+    read spelled other e = subst (λ (z : Message). IsAmong n z.body v.sent) (same_some m other (sym (whole_again m spelled) ∙ e)) among
 
-    sent : Sent v.sent o.after
-    sent = sending_sent v.sent p.world.links n to (spelling m) h.packets (fits.0, read)
+    sent : Fits m → Sent v.sent o.after
+    sent spelled = sending_sent v.sent p.world.links n to (spelling m) h.packets (fits.0, read spelled)
+
+    size : (k : ℕ) → nat_le k 131072 ≡ true → k ≤ 131072
+    size k e = grind arith
 
 passed_show : (c : Cluster) (v : Nodes) (n : ℕ) (os : List Output) (p : Play) → Shows c p.world v → AllFit n os → Among n os v.sent → Shows c (passing n os p).world v
 passed_show c v n [] p h fits among = h

@@ -1,7 +1,23 @@
 -- The course of each step of a node.
-use Rattle.std.specs.Prelude.{ℕ, ◌==◌, nat_le, nat_lt, Bool, List, [], ◌∷◌, Option, None, Some, Ok, is_some, if◌then◌else◌}
+use Rattle.std.specs.Prelude.{ℕ, zero, suc, ◌==◌, ◌&&◌, nat_le, nat_lt, Bool, true, List, [], ◌∷◌, length, Option, None, Some, Result, Ok, Err, is_some, if◌then◌else◌}
 use Rattle.std.specs.Option.{unwrap_or}
+use Rattle.admin_commands.specs.declared.accepted.Accepted.{Accepted}
+use Rattle.admin_commands.specs.declared.accepted.Accepted.TheVariants as accepted
+use Rattle.admin_commands.specs.declared.error.CheckError.{CheckError}
+use Rattle.admin_commands.specs.declared.error.CheckError.TheVariants as because
+use Rattle.admin_words.specs.Commands.{command_of, request_of}
+use Rattle.admin_words.specs.declared.error.WordError.{WordError}
+use Rattle.admin_words.specs.declared.request.Request.TheVariants as asked
+use Rattle.admin_words.specs.declared.request.Request as wanted
+use Rattle.answer_words.specs.Answers.{answer_in}
+use Rattle.ccr_commit.specs.Entries.{answer_for, texts_of}
+use Rattle.ccr_commit.specs.declared.entries.Prepared.{Prepared}
+use Rattle.ccr_commit.specs.declared.entries.Prepared.TheVariants.{Taken, Already, Gap}
+use Rattle.ccr_tables.specs.State.{ConfigState}
+use Rattle.ccr_tables.specs.declared.command.AdminCommand.{AdminCommand}
+use Rattle.ccr_tables.specs.declared.command.AdminCommand.TheVariants as wish
 use Rattle.cl_base.specs.Sets.{has}
+use Rattle.cl_base.specs.declared.command.Query.TheVariants as query
 use Rattle.cl_base.specs.Seizings.{SeizeResult}
 use Rattle.cl_base.specs.declared.panic.Panic.TheVariants as panic
 use Rattle.cl_base.specs.declared.seizing.SeizeEnd.TheVariants as seized
@@ -10,38 +26,66 @@ use Rattle.cmm_attempt.specs.declared.step.Step.{Step}
 use Rattle.cmm_attempt.specs.declared.step.Step.TheVariants as step
 use Rattle.cmm_attempt.specs.Attempts.{AttemptState, Turn, beginning, newest_installed}
 use Rattle.cmm_attempt.specs.Calls.{Call, Own_ready, Own_seized, Take, Tick as Call_tick, With_votes, turn}
+use Rattle.cmm_member.specs.Nodes.{NodeState}
 use Rattle.device_queue.specs.declared.progress.Progress.{Progress}
 use Rattle.device_queue.specs.declared.progress.Progress.TheVariants.{GoesOn, Seized, Joined}
 use Rattle.device_queue.specs.Queue.{begins_plainly, due_device, joins, kept_of, next_of, progress_after}
 use Rattle.pgr_device.specs.declared.command.PrAnswer.TheVariants as given
 use Rattle.pgr_device.specs.declared.command.PrCommand.{PrCommand}
-use Rattle.seize.specs.Answers.{Answer}
+use Rattle.proposals.specs.Arrivals as arrivals
+use Rattle.proposals.specs.Arrivals.{arrival_of, with_arrival}
+use Rattle.proposals.specs.Proposing.{is_prepared, prepared_by}
+use Rattle.proposals.specs.State.{State, first_in, kept_at}
+use Rattle.proposals.specs.declared.arrived.Arrival.{Arrival}
+use Rattle.proposals.specs.declared.arrived.Arrival.TheVariants.{New, Waits as Waits_already, Answered as Answered_last, Past}
+use Rattle.proposals.specs.declared.arrived.Arrived.{Arrived}
+use Rattle.proposals.specs.declared.arrived.Kept.{Kept}
+use Rattle.proposals.specs.declared.arrived.Proposed.{Proposed}
+use Rattle.query_lines.specs.Lines.{quorum_lines, table_lines}
+use Rattle.request_queue.specs.Queue as queue
+use Rattle.request_queue.specs.Queue.{Queue, found, is_full, next_number, oldest, with_number, with_request}
+use Rattle.request_queue.specs.declared.request.Request.{Request}
+use Rattle.seize.specs.Answers.{Answer as DeviceAnswer}
 use Rattle.seize.specs.declared.kind.JoinResult.{JoinResult}
 use Rattle.seize.specs.declared.kind.JoinResult.TheVariants as join
 use Rattle.seize.specs.declared.kind.SeizeKind.{SeizeKind}
 use Rattle.seize.specs.declared.kind.SeizeKind.TheVariants.{Vote, Plain}
+use Rattle.status_report.specs.CommandLines.{reply_text}
+use Rattle.status_report.specs.declared.command_entry.Answer.{Answer}
+use Rattle.status_report.specs.declared.command_entry.Answer.TheVariants as answer
+use Rattle.status_report.specs.declared.command_entry.CommandEntry.TheVariants as command
+use Rattle.status_report.specs.declared.entry.Entry.TheVariants as entry
 use Rattle.status_report.specs.declared.node_entry.DownCause.TheVariants as down
+use Rattle.status_report.specs.declared.status_entry.StatusEntry.{StatusEntry}
+use Rattle.update_words.specs.Words.{ask_words_of, words_of}
 use Rattle.wire.specs.declared.message.Body.{Body}
 use Rattle.wire.specs.declared.message.Body.TheVariants as body
 use Rattle.wire.specs.declared.message.Install.{Install}
 use Rattle.wire.specs.declared.message.Message.{Message}
 use Rattle.node_model.specs.declared.cluster.Cluster.{Cluster}
 use Rattle.node_model.specs.declared.input.Input.{Input}
-use Rattle.node_model.specs.declared.input.Input.TheVariants.{Boot, Crash, Tick, Packet, CommandDue, Answered, Wrote}
+use Rattle.node_model.specs.declared.input.Input.TheVariants.{Boot, Crash, Tick, Packet, CommandDue, Answered, Wrote, Commanded}
 use Rattle.node_model.specs.declared.node.Node.{Node}
 use Rattle.node_model.specs.declared.node.Node.TheVariants.{Down, Up}
 use Rattle.node_model.specs.declared.node.UpNode.{UpNode}
+use Rattle.node_model.specs.declared.output.Output.{Output}
+use Rattle.node_model.specs.declared.output.Output.TheVariants.{Tells}
+use Rattle.node_model.specs.declared.presidency.Presidency.{Presidency}
 use Rattle.node_model.specs.declared.seat.Seat.{Seat}
 use Rattle.node_model.specs.declared.seat.Seat.TheVariants.{Forming, Member}
 use Rattle.node_model.specs.Attempts.{begins_install, installs_now, is_choosing, left_out_by, next_epoch, promise_of, starts_now, votes_in}
 use Rattle.node_model.specs.Devices.{joining_so}
 use Rattle.node_model.specs.Members.{awaits_start, hearing, is_foreign, promised_so, ready_of}
-use Rattle.node_model.specs.Seats.{coordinator_of, installed_of, is_in, promised_of, promising, record_of, session_of}
+use Rattle.node_model.specs.Entries.{answered_line}
+use Rattle.node_model.specs.Presidents.{answer_given, checked, in_force, last_place, next_place, others_of, own_arrival, own_line, proposed_by, requests_of, told_lines, with_own, with_proposals, word_answer}
+use Rattle.node_model.specs.Requests.{is_idle, numbered, waiting_with}
+use Rattle.node_model.specs.Seats.{coordinator_of, installed_of, is_in, is_member, promised_of, promising, record_of, session_of, state_of, version_of}
 use Rattle.node_model.specs.Ticks.{later, members_to_form, waiting_less}
+use Rattle.node_model.specs.Updates.{commits_now, is_of_member}
 use Rattle.refinement.specs.Doings.{Change, Doing, answered_so, changed, going}
 use Rattle.refinement.specs.Doings.Doing.{Comes_up, Goes_down}
-use Rattle.refinement.specs.Doings.Act.{Accepts, Ends, Goes_on, Hears, Makes, Queues, Stores, Takes, Ticks, Waits, Writes}
-use Rattle.refinement.specs.Doings.Change.{Admits, Counts, Distrusts, Installs, Leads, Promises, Sits, Starts}
+use Rattle.refinement.specs.Doings.Act.{Accepts, Ends, Gives, Goes_on, Hears, Makes, Minds, Notes, Queues, Spreads, Stores, Takes, Ticks, Waits, Writes}
+use Rattle.refinement.specs.Doings.Change.{Acks, Admits, Commits, Counts, Distrusts, Installs, Leads, Prepares, Promises, Proposes, Sits, Starts}
 use Rattle.refinement.specs.Courses.{Course, Reply, joined, under}
 use Rattle.refinement.specs.Courses.Reply.{Done, Lost_new, Lost_old}
 use Rattle.refinement.specs.Courses.Course.{Acts, Falls, Keeps, Stops}
@@ -124,7 +168,7 @@ called c me x a k = joined c me x (turned c me x a k) (if_installed c me (turn a
 abbrev pub going_course : Cluster → ℕ → UpNode → AttemptState → Call → Course
 going_course c me x a k =
     if is_choosing (turn a k).after.phase
-    then Acts (Goes_on a k) (called c me (going x a k) (turn a k).after (With_votes (votes_in c)))
+    then Acts (Goes_on a k) (called c me (going x a k) (turn a k).after (With_votes (votes_in c (turn a k).after)))
     else called c me x a k
 
 -- An attempt begins.
@@ -132,7 +176,7 @@ going_course c me x a k =
 abbrev pub begun_course : Cluster → ℕ → UpNode → Turn → Course
 begun_course c me x t =
     if is_choosing t.after.phase
-    then called c me x t.after (With_votes (votes_in c))
+    then called c me x t.after (With_votes (votes_in c t.after))
     else steps_course c me x t.steps
 
 abbrev pub first_turn : Cluster → ℕ → UpNode → ℕ → ℕ → Turn
@@ -198,6 +242,220 @@ start_course e (Forming s) = if starts_now s e then kept_if (is_some s.saved.ent
 abbrev pub notice_course : UpNode → ℕ → ℕ → Course
 notice_course x e newest = if is_in x e then Falls (down.Panic (panic.Excluded newest)) else Stops
 
+-- Requests at their president.
+
+-- what is said, and nothing else
+abbrev pub giving : List Output → Course
+giving os = Acts (Gives os) Stops
+
+-- the first request is answered: what waits at the president itself, and what it has in hand
+abbrev pub queue_by : ℕ → UpNode → Arrived → Queue
+queue_by me x a = if a.from == me then queue.answered x.requests a.number else x.requests
+
+abbrev pub in_hand : ℕ → UpNode → State → Arrived → State
+in_hand me x s a = if a.from == me then with_own me s (oldest (queue.answered x.requests a.number)) else s
+
+abbrev pub left_by_answer : ℕ → UpNode → Presidency → Arrived → Answer → Presidency
+left_by_answer me x p a told = record p { proposals = in_hand me x (arrivals.answered p.proposals (reply_text told)) a }
+
+abbrev pub answering_course : ℕ → UpNode → Presidency → Arrived → Answer → Course
+answering_course me x p a told = Acts (Gives (answer_given me x a told)) (Acts (Minds (queue_by me x a) (Some (left_by_answer me x p a told))) Stops)
+
+-- An update is acknowledged once each member has prepared it.
+
+abbrev pub acknowledged_course : ℕ → UpNode → Presidency → Arrived → List ℕ → Course
+acknowledged_course me x p a text =
+    Keeps (Acks (state_of x.seat) p (queue_by me x a) (left_by_answer me x p a answer.Ok) text)
+    (Acts (Spreads (others_of me x) (body.Commit (session_of x) (last_place x))) (giving (answer_given me x a answer.Ok)))
+
+abbrev pub acknowledging_text_course : ℕ → UpNode → Presidency → Option Arrived → Option (List ℕ) → Course
+acknowledging_text_course me x p (Some a) (Some text) = acknowledged_course me x p a text
+acknowledging_text_course me x p None text = Stops
+acknowledging_text_course me x p (Some a) None = Stops
+
+abbrev pub acknowledging_by_course : ℕ → UpNode → Option Presidency → Course
+acknowledging_by_course me x None = Stops
+acknowledging_by_course me x (Some p) = acknowledging_text_course me x p (first_in p.proposals.arrived) (record_of x).entries.pending
+
+abbrev pub acknowledging_course : ℕ → UpNode → Course
+acknowledging_course me x = acknowledging_by_course me x x.presidency
+
+-- A request is taken up, and one with an update makes a proposal.
+
+abbrev pub proposing_course : ℕ → UpNode → Presidency → List ℕ → Course
+proposing_course me x p text =
+    Keeps (Proposes (state_of x.seat) p text)
+    (Acts (Spreads (others_of me x) (body.Prepare (session_of x) (next_place x) text))
+    (if others_of me x == 0 then acknowledging_course me (proposed_by me x p text) else Stops))
+
+abbrev pub taken_as_course : ℕ → UpNode → Presidency → Arrived → Result Accepted CheckError → Course
+taken_as_course me x p a (Ok (accepted.Change u)) = proposing_course me x p (words_of u)
+taken_as_course me x p a (Ok (accepted.Act ask)) = answering_course me x p a answer.Ok
+taken_as_course me x p a (Ok (accepted.Query q)) = answering_course me x p a answer.Ok
+taken_as_course me x p a (Err (because.Refused r)) = answering_course me x p a (answer.Refused r)
+taken_as_course me x p a (Err because.NoMemory) = Stops
+
+abbrev pub taken_course : Cluster → ℕ → UpNode → Presidency → Arrived → Result wanted.Request WordError → Course
+taken_course c me x p a (Ok (asked.Change u)) = taken_as_course me x p a (checked c x p (wish.Change u))
+taken_course c me x p a (Ok (asked.Act ask)) = taken_as_course me x p a (checked c x p (wish.Act ask))
+taken_course c me x p a (Err e) = answering_course me x p a (word_answer e)
+
+abbrev pub turn_of_course : Cluster → ℕ → UpNode → Presidency → Option Proposed → Option Arrived → Course
+turn_of_course c me x p None (Some a) = taken_course c me x p a (request_of (version_of c) a.text)
+turn_of_course c me x p None None = Stops
+turn_of_course c me x p (Some proposed) first = Stops
+
+abbrev pub turn_by_course : Cluster → ℕ → UpNode → Option Presidency → Course
+turn_by_course c me x None = Stops
+turn_by_course c me x (Some p) = turn_of_course c me x p p.proposals.proposed (first_in p.proposals.arrived)
+
+abbrev pub one_turn_course : Cluster → ℕ → UpNode → Course
+one_turn_course c me x = turn_by_course c me x x.presidency
+
+abbrev pub turns_course : Cluster → ℕ → UpNode → ℕ → Course
+turns_course c me x zero = Stops
+turns_course c me x (suc k) = joined c me x (turns_course c me x k) (one_turn_course c me)
+
+abbrev pub handling_course : Cluster → ℕ → UpNode → Course
+handling_course c me x = turns_course c me x (requests_of x x.presidency)
+
+-- A request comes.
+
+abbrev pub kept_again_course : UpNode → ℕ → Option Kept → Course
+kept_again_course x from None = Stops
+kept_again_course x from (Some k) = writing from (body.Answer (session_of x) k.number k.text)
+
+abbrev pub arrived_course : Cluster → ℕ → UpNode → Presidency → Arrived → Arrival → Course
+arrived_course c me x p a New =
+    let s : State = with_arrival p.proposals a New in
+    Acts (Minds x.requests (Some (record p { proposals = s }))) (handling_course c me (with_proposals x p s))
+arrived_course c me x p a Waits_already = Stops
+arrived_course c me x p a Answered_last = kept_again_course x a.from (kept_at p.proposals.answers a.from)
+arrived_course c me x p a Past = Stops
+
+abbrev pub arriving_course : Cluster → ℕ → UpNode → Presidency → Arrived → Course
+arriving_course c me x p a = arrived_course c me x p a (arrival_of p.proposals a.from a.number)
+
+abbrev pub requested_course : Cluster → ℕ → UpNode → ℕ → ℕ → List ℕ → Option Presidency → Course
+requested_course c me x from number text None = Stops
+requested_course c me x from number text (Some p) = arriving_course c me x p (record { from = from; number = number; text = text })
+
+abbrev pub asked_course : Cluster → ℕ → UpNode → ℕ → ℕ → ℕ → List ℕ → Course
+asked_course c me x from e number text = if is_of_member x from e then requested_course c me x from number text x.presidency else Stops
+
+-- Requests at the node that asks.
+
+abbrev pub request_to_course : UpNode → Request → Option ℕ → Course
+request_to_course x r None = Stops
+request_to_course x r (Some president) = writing president (body.Request (session_of x) r.number r.text)
+
+abbrev pub asking_of_course : Cluster → ℕ → UpNode → Request → Option Presidency → Course
+asking_of_course c me x r None = request_to_course x r (coordinator_of x)
+asking_of_course c me x r (Some p) = arriving_course c me x p (own_arrival me r)
+
+abbrev pub asking_for_course : Cluster → ℕ → UpNode → Option Request → Course
+asking_for_course c me x None = Stops
+asking_for_course c me x (Some r) = asking_of_course c me x r x.presidency
+
+abbrev pub asking_course : Cluster → ℕ → UpNode → Course
+asking_course c me x = asking_for_course c me x (oldest x.requests)
+
+-- A command.
+
+abbrev pub replying_course : ℕ → ℕ → Answer → Course
+replying_course me number told = giving (Tells (answered_line me number told) ∷ [])
+
+abbrev pub asking_if_course : Bool → Cluster → ℕ → UpNode → Course
+asking_if_course alone c me x = if alone then asking_course c me x else Stops
+
+abbrev pub waiting_course : Cluster → ℕ → UpNode → ℕ → List ℕ → Course
+waiting_course c me x number text =
+    if is_full x.requests then replying_course me number answer.QueueFull
+    else Acts (Minds (with_request x.requests (record { number = number; text = text; told = true })) x.presidency)
+    (asking_if_course (is_idle x.requests.waiting) c me (waiting_with x number text))
+
+abbrev pub elsewhere_course : ℕ → ℕ → Option ℕ → Course
+elsewhere_course me number None = Stops
+elsewhere_course me number (Some president) = replying_course me number (answer.Ask president)
+
+abbrev pub telling_course : ℕ → ℕ → List StatusEntry → Course
+telling_course me number lines = Acts (Gives (told_lines lines)) (replying_course me number answer.Ok)
+
+abbrev pub query_course : ℕ → UpNode → ℕ → ConfigState → ℕ → Result Accepted CheckError → Course
+query_course me x number s held (Ok (accepted.Query query.QuorumStatus)) = telling_course me number (quorum_lines s.votes (record_of x).members held)
+query_course me x number s held (Ok (accepted.Query (query.Rows t))) = telling_course me number (table_lines s t)
+query_course me x number s held (Ok (accepted.Query query.GroupStatus)) = Stops
+query_course me x number s held (Ok (accepted.Query query.ResourceStatus)) = Stops
+query_course me x number s held (Ok (accepted.Change u)) = Stops
+query_course me x number s held (Ok (accepted.Act ask)) = Stops
+query_course me x number s held (Err (because.Refused r)) = replying_course me number (answer.Refused r)
+query_course me x number s held (Err because.NoMemory) = Stops
+
+abbrev pub queried_course : Cluster → ℕ → UpNode → ℕ → AdminCommand → Option Presidency → Course
+queried_course c me x number question None = elsewhere_course me number (coordinator_of x)
+queried_course c me x number question (Some p) =
+    if is_full x.requests then replying_course me number answer.QueueFull else query_course me x number (in_force c x) p.held (checked c x p question)
+
+abbrev pub commanded_course : Cluster → ℕ → UpNode → ℕ → AdminCommand → Course
+commanded_course c me x number (wish.Change u) = waiting_course c me x number (words_of u)
+commanded_course c me x number (wish.Act a) = waiting_course c me x number (ask_words_of a)
+commanded_course c me x number (wish.Status q) = queried_course c me x number (wish.Status q) x.presidency
+commanded_course c me x number (wish.Rows table) = queried_course c me x number (wish.Rows table) x.presidency
+
+abbrev pub worded_course : Cluster → ℕ → UpNode → ℕ → Result AdminCommand WordError → Course
+worded_course c me x number (Err e) = replying_course me number (word_answer e)
+worded_course c me x number (Ok command) = if is_member x.seat then commanded_course c me x number command else replying_course me number answer.NotMember
+
+abbrev pub command_course : Cluster → ℕ → UpNode → List ℕ → Course
+command_course c me x words =
+    Acts (Gives (Tells (entry.Command (command.Asked me (next_number x.requests))) ∷ []))
+    (Acts (Minds (with_number x.requests) x.presidency) (worded_course c me (numbered x) (next_number x.requests) (command_of (version_of c) words)))
+
+-- The president's answer.
+
+abbrev pub replied_to_course : Cluster → ℕ → UpNode → ℕ → Answer → Option Request → Course
+replied_to_course c me x number told None = Stops
+replied_to_course c me x number told (Some r) =
+    Acts (Gives (own_line me told (Some r)))
+    (Acts (Minds (queue.answered x.requests number) x.presidency) (asking_course c me (record x { requests = queue.answered x.requests number })))
+
+abbrev pub replied_course : Cluster → ℕ → UpNode → ℕ → Option Answer → Course
+replied_course c me x number None = Stops
+replied_course c me x number (Some told) = replied_to_course c me x number told (found x.requests.waiting number)
+
+abbrev pub reply_course : Cluster → ℕ → UpNode → ℕ → ℕ → Option Answer → Course
+reply_course c me x e number told = if is_member x.seat && is_in x e then replied_course c me x number told else Stops
+
+-- Updates at members and at their president.
+
+abbrev pub preparing_course : ℕ → ℕ → ℕ → NodeState → List ℕ → Prepared → Course
+preparing_course from e place s text Taken = Keeps (Prepares s text) (writing from (body.Prepared e place))
+preparing_course from e place s text Already = writing from (body.Prepared e place)
+preparing_course from e place s text (Gap k) = Stops
+
+abbrev pub prepare_course : UpNode → ℕ → ℕ → ℕ → List ℕ → Seat → Course
+prepare_course x from e place text (Forming s) = Stops
+prepare_course x from e place text (Member s) =
+    if is_in x e then preparing_course from e place s text (answer_for (length (texts_of s.saved.entries)) place) else Stops
+
+abbrev pub prepared_all_course : Cluster → ℕ → UpNode → Presidency → Course
+prepared_all_course c me x p = if is_prepared p.proposals then joined c me x (acknowledging_course me x) (handling_course c me) else Stops
+
+abbrev pub prepared_at_course : Cluster → ℕ → UpNode → ℕ → ℕ → Option Presidency → Course
+prepared_at_course c me x from place None = Stops
+prepared_at_course c me x from place (Some p) =
+    let s : State = prepared_by p.proposals from place in
+    Acts (Notes from place p) (prepared_all_course c me (with_proposals x p s) (record p { proposals = s }))
+
+abbrev pub prepared_course : Cluster → ℕ → UpNode → ℕ → ℕ → ℕ → Course
+prepared_course c me x from e place = if is_of_member x from e then prepared_at_course c me x from place x.presidency else Stops
+
+abbrev pub commit_course : UpNode → ℕ → ℕ → Seat → Course
+commit_course x e place (Forming s) = Stops
+commit_course x e place (Member s) = if is_in x e && commits_now s place then Keeps (Commits s) Stops else Stops
+
+-- The answers to its own attempt, and each message.
+
 abbrev pub answer_course : Cluster → ℕ → UpNode → ℕ → Message → Option AttemptState → Course
 answer_course c me x from m None = Stops
 answer_course c me x from m (Some a) = going_course c me x a (Take from m)
@@ -214,11 +472,17 @@ body_course c me x from m (body.Install i) = install_course c me x from i
 body_course c me x from m (body.Ready e joined_devices report) = answer_course c me x from m x.attempt
 body_course c me x from m (body.Start e) = start_course e x.seat
 body_course c me x from m (body.Excluded e newest) = notice_course x e newest
-body_course c me x from m _ = Stops
+body_course c me x from m (body.Prepare e place text) = prepare_course x from e place text x.seat
+body_course c me x from m (body.Prepared e place) = prepared_course c me x from e place
+body_course c me x from m (body.Commit e place) = commit_course x e place x.seat
+body_course c me x from m (body.Request e number text) = asked_course c me x from e number text
+body_course c me x from m (body.Answer e number text) = reply_course c me x e number (answer_in text)
+body_course c me x from m (body.Order o) = Stops
+body_course c me x from m (body.Done e number outcome) = Stops
 
 abbrev pub packet_course : Cluster → ℕ → UpNode → ℕ → Message → Course
 packet_course c me x from m =
-    if is_foreign c me m.body then Stops else Acts (Hears from m.body) (body_course c me (hearing x from m.body) from m m.body)
+    if is_foreign c me x m.body then Stops else Acts (Hears from m.body) (body_course c me (hearing x from m.body) from m m.body)
 
 -- Devices.
 
@@ -239,24 +503,24 @@ abbrev pub joined_course : Cluster → ℕ → UpNode → Option ℕ → Course
 joined_course c me x None = Stops
 joined_course c me x (Some coordinator) = if coordinator == me then own_ready_course c me x else readying_course x coordinator
 
-abbrev pub joining_course : Cluster → ℕ → UpNode → ℕ → PrCommand → Answer → ℕ → JoinResult → Course
+abbrev pub joining_course : Cluster → ℕ → UpNode → ℕ → PrCommand → DeviceAnswer → ℕ → JoinResult → Course
 joining_course c me x at command a d join.Joined =
     Keeps (Admits at command a d) (joined_course c me (joining_so (answered_so x a) d) (coordinator_of (joining_so (answered_so x a) d)))
 joining_course c me x at command a d (join.Late w) = Acts (Takes at command a) (joined_course c me (answered_so x a) (coordinator_of (answered_so x a)))
 joining_course c me x at command a d join.Fault = Acts (Takes at command a) (joined_course c me (answered_so x a) (coordinator_of (answered_so x a)))
 
-abbrev pub progress_course : Cluster → ℕ → UpNode → ℕ → PrCommand → Answer → Progress → Course
+abbrev pub progress_course : Cluster → ℕ → UpNode → ℕ → PrCommand → DeviceAnswer → Progress → Course
 progress_course c me x at command a GoesOn = Acts (Takes at command a) Stops
 progress_course c me x at command a (Seized d result) =
     Acts (Takes at command a) (seized_course c me (answered_so x a) d result (coordinator_of (answered_so x a)))
 progress_course c me x at command a (Joined d result) = joining_course c me x at command a d result
 
-abbrev pub answered_course : Cluster → ℕ → UpNode → Answer → Option ℕ → Option PrCommand → Course
+abbrev pub answered_course : Cluster → ℕ → UpNode → DeviceAnswer → Option ℕ → Option PrCommand → Course
 answered_course c me x a (Some d) (Some command) = progress_course c me x d command a (progress_after x.tasks a)
 answered_course c me x a None command = Stops
 answered_course c me x a (Some d) None = Stops
 
-abbrev pub fenced_course : ℕ → Answer → Course
+abbrev pub fenced_course : ℕ → DeviceAnswer → Course
 fenced_course d (Ok given.Good) = Stops
 fenced_course d (Ok given.Conflict) = Falls (down.Panic (panic.Fenced d))
 fenced_course d _ = Stops
@@ -270,6 +534,7 @@ course_of c me x (Packet from message) = packet_course c me x from message
 course_of c me x CommandDue = distrusting_course x (begins_plainly x.tasks)
 course_of c me x (Answered a) = answered_course c me x a (due_device x.tasks) (next_of x.tasks)
 course_of c me x (Wrote d value a) = Acts (Stores d value a) (fenced_course d a)
+course_of c me x (Commanded words) = command_course c me x words
 
 -- A boot: the node comes up, unless its record cannot be read.
 abbrev pub boot_doings : List Reply → List Doing

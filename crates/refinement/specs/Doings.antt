@@ -1,14 +1,16 @@
 -- The small steps of a node: what each makes of a node with its disk, and what it gives.
-use Rattle.std.specs.Prelude.{ℕ, List, [], ◌∷◌, ◌++◌, Option, None, Some, length}
-use Rattle.ccr_commit.specs.Entries.{all_committed}
+use Rattle.std.specs.Prelude.{ℕ, ◌+◌, List, [], ◌∷◌, ◌++◌, Option, None, Some, length}
+use Rattle.ccr_commit.specs.Entries.{all_committed, texts_of, with_next}
 use Rattle.cmm_attempt.specs.declared.step.AttemptEnd.{AttemptEnd}
 use Rattle.cmm_attempt.specs.Attempts.{AttemptState, beginning}
 use Rattle.cmm_attempt.specs.Calls.{Call, turn}
-use Rattle.cmm_member.specs.Nodes.{NodeState}
+use Rattle.cmm_member.specs.Nodes.{NodeState, with_entries}
 use Rattle.cmm_member.specs.Records.{NodeRecord}
 use Rattle.device_queue.specs.Queue.{after_answer, after_seize}
 use Rattle.pgr_device.specs.declared.command.PrAnswer.TheVariants as given
 use Rattle.pgr_device.specs.declared.command.PrCommand.{PrCommand}
+use Rattle.proposals.specs.Proposing.{prepared_by}
+use Rattle.request_queue.specs.Queue.{Queue}
 use Rattle.seize.specs.Answers.{Answer}
 use Rattle.seize.specs.Seizing as seizing
 use Rattle.seize.specs.declared.kind.SeizeKind.{SeizeKind}
@@ -21,6 +23,7 @@ use Rattle.status_report.specs.declared.entry.Entry.TheVariants as entry
 use Rattle.status_report.specs.declared.node_entry.DownCause.{DownCause}
 use Rattle.status_report.specs.declared.node_entry.NodeEntry.{NodeEntry}
 use Rattle.status_report.specs.declared.node_entry.NodeEntry.TheVariants as note
+use Rattle.status_report.specs.declared.update_entry.UpdateEntry.TheVariants as update
 use Rattle.wire.specs.declared.message.Body.{Body}
 use Rattle.wire.specs.declared.message.Install.{Install}
 use Rattle.node_model.specs.declared.cluster.Cluster.{Cluster}
@@ -29,12 +32,16 @@ use Rattle.node_model.specs.declared.node.Node.TheVariants.{Down, Up}
 use Rattle.node_model.specs.declared.node.UpNode.{UpNode}
 use Rattle.node_model.specs.declared.output.Output.{Output}
 use Rattle.node_model.specs.declared.output.Output.TheVariants.{Tells, Sends}
+use Rattle.node_model.specs.declared.presidency.Presidency.{Presidency}
+use Rattle.node_model.specs.declared.seat.Seat.TheVariants.{Member}
 use Rattle.node_model.specs.Attempts.{base_lines, ended_entry, installing, own_promise, resting, seizing_here, started_entry, starting_as, under_way}
 use Rattle.node_model.specs.Devices.{answer_told, distrusting, joining_so, word_in, write_told}
+use Rattle.node_model.specs.Entries.{unknown_lines}
 use Rattle.node_model.specs.Members.{hearing, promised_so, sitting}
+use Rattle.node_model.specs.Presidents.{committing, proposed_by, sent_to, with_proposals}
 use Rattle.node_model.specs.Seats.{promising, record_of, seen, session_of, up_with}
-use Rattle.node_model.specs.Ticks.{heartbeats_to, later, waiting_less}
-use Rattle.heartbeats.specs.Views.{receivers_of}
+use Rattle.node_model.specs.Ticks.{later, ticked_output, waiting_less}
+use Rattle.node_model.specs.Updates.{committed_so}
 
 -- a node, with the record that its boot would read
 pub record Site : Type 0 where
@@ -54,6 +61,10 @@ pub data Change : Type 0 where
   Sits : (s : NodeState) (e : ℕ) → Change  -- another node's attempt has started
   Distrusts : (d : ℕ) → Change  -- its key on the device is not validated, before it registers there
   Admits : (at : ℕ) (command : PrCommand) (a : Answer) (d : ℕ) → Change  -- by this answer it has joined the device
+  Proposes : (s : NodeState) (p : Presidency) (text : List ℕ) → Change  -- as president it proposes an update
+  Acks : (s : NodeState) (p : Presidency) (q : Queue) (left : Presidency) (text : List ℕ) → Change  -- .. and acknowledges it; its request is answered
+  Prepares : (s : NodeState) (text : List ℕ) → Change  -- as a member it has the next update as pending
+  Commits : (s : NodeState) → Change  -- .. and what was pending is committed
 
 -- What is done in memory alone, or sent.
 pub data Act : Type 0 where
@@ -68,6 +79,10 @@ pub data Act : Type 0 where
   Stores : (d value : ℕ) (a : Answer) → Act  -- it writes to a device, and is answered so
   Writes : (to : ℕ) (b : Body) → Act  -- it sends a message
   Makes : (c : Change) → Act  -- a change that leaves the record as it is, so that there is nothing to save
+  Gives : (os : List Output) → Act  -- lines, and messages that tell nothing of memberships
+  Spreads : (receivers : ℕ) (b : Body) → Act  -- a message to each of these nodes
+  Minds : (q : Queue) (p : Option Presidency) → Act  -- its requests change, or those that it has in hand as president
+  Notes : (from place : ℕ) (p : Presidency) → Act  -- as president it hears that a member has prepared
 
 pub data Doing : Type 0 where
   Comes_up : Doing
@@ -88,15 +103,23 @@ answered_so x a = seen (record x { tasks = after_answer x.tasks a }) (word_in a)
 abbrev pub going : UpNode → AttemptState → Call → UpNode
 going x a k = under_way x (turn a k).after
 
+-- with other requests, and something else in hand as president
+abbrev pub minded : UpNode → Queue → Option Presidency → UpNode
+minded x q p = record x { requests = q; presidency = p }
+
 abbrev pub changed : Cluster → ℕ → UpNode → Change → UpNode
 changed c me x (Promises p) = promised_so x p
 changed c me x (Leads p members) = begun_by c me (record (promising x p) { greatest = p }) p members
 changed c me x (Counts a k s i) = installing c me (going x a k) s [] i
 changed c me x (Installs s i) = installing c me x s x.tasks i
-changed c me x (Starts a k s) = starting_as x s
+changed c me x (Starts a k s) = starting_as x (turn a k).after s
 changed c me x (Sits s e) = sitting x s
 changed c me x (Distrusts d) = distrusting x d
 changed c me x (Admits at command a d) = joining_so (answered_so x a) d
+changed c me x (Proposes s p text) = proposed_by me x p text
+changed c me x (Acks s p q left text) = minded (committing x) q (Some left)
+changed c me x (Prepares s text) = record x { seat = Member (with_entries s (with_next s.saved.entries text)) }
+changed c me x (Commits s) = committed_so x s
 
 abbrev pub accepting : Cluster → ℕ → UpNode → SeizeKind → ℕ → ℕ → ℕ → UpNode
 accepting c me x kind e members d = record x { tasks = after_seize x.tasks d (seizing.begun kind e members me c.id (has (record_of x).valid d)) }
@@ -113,6 +136,10 @@ acted c me x (Takes at command a) = answered_so x a
 acted c me x (Stores d value a) = x
 acted c me x (Writes to b) = x
 acted c me x (Makes change) = changed c me x change
+acted c me x (Gives os) = x
+acted c me x (Spreads receivers b) = x
+acted c me x (Minds q p) = minded x q p
+acted c me x (Notes from place p) = with_proposals x p (prepared_by p.proposals from place)
 
 -- What each gives, in order.
 
@@ -125,6 +152,7 @@ command_line me at command a = Tells (entry.Device (device.Command me at command
 -- the lines before the save
 abbrev pub first_lines : ℕ → Change → List Output
 first_lines me (Admits at command a d) = command_line me at command a
+first_lines me (Proposes s p text) = Tells (entry.Update (update.Proposed s.session (length (texts_of s.saved.entries) + 1) text)) ∷ []
 first_lines me _ = []
 
 abbrev pub superseded_lines : ℕ → Option AttemptState → List Output
@@ -137,14 +165,18 @@ start_lines a s =
 
 -- those after it, but for the line that says that it was saved
 abbrev pub last_lines : ℕ → UpNode → Change → List Output
-last_lines me x (Promises p) = superseded_lines p x.attempt
-last_lines me x (Leads p members) = Tells (entry.Attempt (attempt.Begun p members)) ∷ []
+last_lines me x (Promises p) = superseded_lines p x.attempt ++ unknown_lines me x.requests.waiting
+last_lines me x (Leads p members) = Tells (entry.Attempt (attempt.Begun p members)) ∷ unknown_lines me x.requests.waiting
 last_lines me x (Counts a k s i) = of_node me (note.Installed i.epoch) ∷ []
 last_lines me x (Installs s i) = of_node me (note.Installed i.epoch) ∷ []
 last_lines me x (Starts a k s) = start_lines (turn a k).after s ++ of_node me (note.Member (turn a k).after.plan.epoch) ∷ []
 last_lines me x (Sits s e) = of_node me (note.Member e) ∷ []
 last_lines me x (Distrusts d) = []
 last_lines me x (Admits at command a d) = []
+last_lines me x (Proposes s p text) = []
+last_lines me x (Acks s p q left text) = Tells (entry.Update (update.Acknowledged s.session (length (texts_of s.saved.entries)) text)) ∷ []
+last_lines me x (Prepares s text) = []
+last_lines me x (Commits s) = []
 
 abbrev pub saved_lines : ℕ → UpNode → Change → List Output
 saved_lines me x c = of_node me note.Saved ∷ last_lines me x c
@@ -157,7 +189,7 @@ write_lines me x d value _ = Tells (entry.Device (device.Refused me d value Faul
 
 abbrev pub said : Cluster → ℕ → UpNode → Act → List Output
 said c me x (Hears from b) = []
-said c me x Ticks = of_node me note.Ticked ∷ heartbeats_to (later c x) (receivers_of (later c x).beats c.configured)
+said c me x Ticks = of_node me note.Ticked ∷ ticked_output c x (later c x)
 said c me x Waits = []
 said c me x (Goes_on a k) = []
 said c me x (Ends a e) = Tells (entry.Attempt (ended_entry a.plan.epoch e)) ∷ []
@@ -167,6 +199,10 @@ said c me x (Takes at command a) = command_line me at command a
 said c me x (Stores d value a) = Tells (write_told me d value a) ∷ write_lines me x d value a
 said c me x (Writes to b) = Sends to b ∷ []
 said c me x (Makes change) = first_lines me change ++ last_lines me x change
+said c me x (Gives os) = os
+said c me x (Spreads receivers b) = sent_to receivers b
+said c me x (Minds q p) = []
+said c me x (Notes from place p) = []
 
 -- What they make of a node with its disk. One that does not fit, as a change of a node that is down, is nothing.
 

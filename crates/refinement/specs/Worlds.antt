@@ -5,7 +5,7 @@ use Rattle.interconnect.specs.Links.{Packet}
 use Rattle.record_disk.specs.Disks.{DiskState}
 use Rattle.wire.specs.declared.message.Message.{Message}
 use Rattle.wire.specs.Reads.{whole_of}
-use Rattle.wire.specs.Spelling.{Fits}
+use Rattle.wire.specs.Spelling.{Fits, spelling}
 use Rattle.node_model.specs.declared.cluster.Cluster.{Cluster}
 use Rattle.node_model.specs.declared.input.Input.{Input}
 use Rattle.node_model.specs.declared.node.Node.{Node}
@@ -28,11 +28,14 @@ use Rattle.refinement.specs.Runs.{IsAmong, IsRun, Letter, MayMove, Move, Moves, 
 use Rattle.refinement.specs.Runs.Move.{Takes}
 use Rattle.refinement.specs.Steps.{disk_rules}
 
--- What a node gives can be spelled, and goes to nodes from number 1 on.
+-- What a node gives goes to nodes from number 1 on, and can be spelled where it has a packet's size. A longer message is not sent.
+abbrev pub SpelledIfShort : Message → Type 0
+SpelledIfShort m = length (spelling m) ≤ 131072 → Fits m
+
 abbrev pub AllFit : ℕ → List Output → Type 0
 AllFit n [] = Unit {0}
 AllFit n (Tells e ∷ os) = AllFit n os
-AllFit n (Sends to b ∷ os) = (1 ≤ to) × Fits (record { sender = n; body = b }) × AllFit n os
+AllFit n (Sends to b ∷ os) = (1 ≤ to) × SpelledIfShort (record { sender = n; body = b }) × AllFit n os
 
 -- so it is in every run
 abbrev pub GivesFit : Cluster → Type 0
@@ -81,6 +84,7 @@ IsNamed (event.CrashAt n calls choice) = 1 ≤ n
 IsNamed (event.Tick n) = 1 ≤ n
 IsNamed (event.Disk n) = 1 ≤ n
 IsNamed (event.Write n d value) = 1 ≤ n
+IsNamed (event.Command n words) = 1 ≤ n
 IsNamed _ = Unit {0}
 
 abbrev pub lines_on : List Event → Play → Play
