@@ -43,7 +43,7 @@ use Rattle.pgr_device.specs.declared.command.PrAnswer.TheVariants as given
 use Rattle.pgr_device.specs.declared.command.PrCommand.{PrCommand}
 use Rattle.pgr_device.specs.declared.command.PrCommand.TheVariants as command
 use Rattle.pgr_device.specs.Spc as spc
-use Rattle.refinement.specs.Doings.{Act, accepting, acted, answered_so, begun_by, going}
+use Rattle.refinement.specs.Doings.{Act, accepting, acted, answered_so, begun_by, going, minded}
 use Rattle.refinement.specs.Doings.Act.{Ends, Gives, Hears, Minds, Notes, Spreads, Ticks, Waits, Writes}
 use Rattle.request_queue.specs.Queue.{Queue}
 use Rattle.cl_base.specs.declared.header.DeviceKind.{DeviceKind}
@@ -229,18 +229,16 @@ ProposalsAreLost = (S : Setting) (c : Cluster) (W : Whole) (n q : ℕ) (text : L
     → IsKept disk node → coordinator q ≡ n → membership.Allowed S W.memberships (membership.Propose_lost q text)
     → MembershipGoes S c W n (membership.Propose_lost q text) devices disk Down
 
-abbrev pub acknowledged_so : UpNode → Queue → Option Presidency → UpNode
-acknowledged_so x requests office = record (committing x) { requests = requests; presidency = office }
-
 abbrev pub AcknowledgesGo : Type 0
 AcknowledgesGo = (S : Setting) (c : Cluster) (W : Whole) (n q : ℕ) (x : UpNode) (requests : Queue) (office : Option Presidency) (devices : Devices) → DevicesTied c devices W → UpAt c W n x
     → coordinator q ≡ n → membership.Allowed S W.memberships (membership.Acknowledge q)
-    → MembershipGoes S c W n (membership.Acknowledge q) devices (record_of (acknowledged_so x requests office)) (Up (acknowledged_so x requests office))
+    → MembershipGoes S c W n (membership.Acknowledge q) devices (record_of (minded (committing x) requests office)) (Up (minded (committing x) requests office))
 
--- A member has an update as pending, and what is pending is committed.
+-- a member with this update as pending
 abbrev pub prepared_so : UpNode → NodeState → List ℕ → UpNode
 prepared_so x s text = record x { seat = Member (with_entries s (with_next s.saved.entries text)) }
 
+-- A member has one more update, and commits what is pending.
 abbrev pub PreparesGo : Type 0
 PreparesGo = (S : Setting) (c : Cluster) (W : Whole) (n q : ℕ) (x : UpNode) (s : NodeState) (text : List ℕ) (devices : Devices) → DevicesTied c devices W → UpAt c W n x → x.seat ≡ Member s
     → membership.Allowed S W.memberships (membership.Prepare n q text)
