@@ -1,10 +1,12 @@
 -- An attempt is counted, and its coordinator installs it.
-use Rattle.std.specs.Prelude.{ℕ, ◌≡◌, ◌≢◌, ◌<◌, ◌==◌, ◌&&◌, ◌||◌, All, Bool, true, false, List, [], ◌∷◌, Option, None, Some, Contains, IfSome, find, if◌then◌else◌}
+use Rattle.std.specs.Prelude.{ℕ, zero, suc, ◌≡◌, ◌≢◌, ◌<◌, ◌==◌, ◌&&◌, ◌||◌, All, Bool, true, false, List, [], ◌∷◌, Option, None, Some, Contains, IfSome, find, take, if◌then◌else◌}
+use Rattle.std.specs.Option.{unwrap_or}
 use Rattle.std.proofs.Common.{refl, sym, ap, subst, ◌∙◌, inl, inr, arith}
 use Rattle.std.specs.List.{cons_option, filter_map, list_any}
 use Rattle.std.proofs.lemmas.List.Elements.{All-head, All-tail}
 use Rattle.attempt_laws.specs.Asking.{AreApart, AskedBy, CountsAt, DeviceHas, EndedAs, HasEntry, IsAsked, IsOthers, IsUnasked, entry_numbers, entry_of, is_vote, numbers_of}
 use Rattle.attempt_laws.specs.Laws.{is_held_in}
+use Rattle.attempt_laws.specs.Machine.{AreVotes, AreVotesOf}
 use Rattle.attempt_laws.proofs.Goes.{chosen_reached, goes_by_call}
 use Rattle.attempt_laws.proofs.Left.{others_leave}
 use Rattle.attempt_laws.proofs.Plain.{plain_has_no_votes}
@@ -22,7 +24,8 @@ use Rattle.cmm_attempt.specs.declared.seizing.Seizing.{Seizing}
 use Rattle.cmm_attempt.specs.Attempts.{AttemptState}
 use Rattle.cmm_attempt.specs.Calls as calls
 use Rattle.cmm_attempt.specs.Calls.{IsReached as IsReachedAttempt, turn}
-use Rattle.cmm_attempt.specs.Counts.{is_enabled, is_enabled_state, is_quorum}
+use Rattle.cmm_attempt.specs.Counts.{is_enabled, is_enabled_pending, is_enabled_state, is_quorum}
+use Rattle.cmm_attempt.specs.declared.counting.BothVotes.{BothVotes}
 use Rattle.cmm_attempt.specs.Installs.{install_by}
 use Rattle.cmm_attempt.specs.Promises.{is_from}
 use Rattle.cmm_attempt.specs.declared.promised.Promised.{Promised}
@@ -39,18 +42,15 @@ use Rattle.machine_base.proofs.Puts.{put_here, put_there}
 use Rattle.membership_machine.specs.Events as membership
 use Rattle.membership_machine.specs.Records.{Saved}
 use Rattle.membership_machine.specs.State.{Memberships}
-use Rattle.membership_machine.specs.Votes.{Setting}
-use Rattle.node_model.specs.declared.cluster.Cluster.{Cluster}
-use Rattle.node_model.specs.Attempts.{votes_in}
+use Rattle.membership_machine.specs.Votes.{Setting, Votes}
 use Rattle.node_model.specs.Seats.{state_of}
 use Rattle.quorum_votes.specs.declared.state.DevState.{DevState}
 use Rattle.quorum_votes.specs.declared.state.DevState.TheVariants.{Enabled, Disabled, Absent}
 use Rattle.quorum_votes.specs.declared.state.VoteDevice.{VoteDevice}
 use Rattle.quorum_votes.specs.Tables.{VoteTable}
 use Rattle.quorum_votes.specs.Votes as quorum_table
-use Rattle.quorum_votes.specs.Votes.{device_at, device_votes_in, device_votes_of, votes_of_device}
+use Rattle.quorum_votes.specs.Votes.{device_at, device_votes_in, votes_of_device}
 use Rattle.refinement.specs.Doings.{going}
-use Rattle.refinement.specs.Ties.{setting_of, votes_of}
 use Rattle.refinement.proofs.Attempts.{install_epoch, reached_more}
 use Rattle.seize.specs.declared.kind.SeizeKind.{SeizeKind}
 use Rattle.seize.specs.declared.kind.SeizeKind.TheVariants.{Vote, Plain}
@@ -250,26 +250,32 @@ votes_enabled v (Some device) h = by_state device.state h
     by_state Disabled k = absurd (nothing k)
     by_state Absent k = absurd (nothing k)
 
-has_votes : (c : Cluster) (r : Saved) (d : ℕ) → whole.VotesUnder (setting_of c) r d → is_quorum (votes_in c) d ≡ true
-has_votes c r d h = go (either h) refl
+-- a device that has votes by the machine's count is an enabled quorum device of the table
+counts_one : (v : Votes) (table : VoteTable) (d : ℕ) → AreVotes v table → 0 < v.of_device d → is_enabled table d ≡ true
+counts_one v table zero are h = absurd (nothing (subst (λ k. 0 < k) are.no_device h))
   where
-    either : whole.VotesUnder (setting_of c) r d → 0 < (votes_of c.votes).of_device d
-    either (inl k) = k
-    either (inr k) = k
-
     nothing : 0 < 0 → ⊥
     nothing k = omega (arith, k)
+counts_one v table (suc d) are h = votes_enabled table (device_at table (suc d)) (subst (λ k. 0 < k) (are.device (suc d) (omega arith)) h)
 
-    or_left : (a b : Bool) → a ≡ true → (a || b) ≡ true
-    or_left true b k = refl
-    or_left false b k = absurd (false_true k)
+or_left : (a b : Bool) → a ≡ true → (a || b) ≡ true
+or_left true b k = refl
+or_left false b k = absurd (false_true k)
 
-    go : 0 < (if d == 0 then 0 else device_votes_of c.votes d) → (d == 0) ≡ (d == 0) → is_quorum (votes_in c) d ≡ true
-    go k same = by_test (d == 0) k
-      where
-        by_test : (b : Bool) → 0 < (if b then 0 else device_votes_of c.votes d) → is_quorum (votes_in c) d ≡ true
-        by_test true l = absurd (nothing l)
-        by_test false l = or_left (is_enabled c.votes d) _ (votes_enabled c.votes (device_at c.votes d) l)
+or_right : (a b : Bool) → b ≡ true → (a || b) ≡ true
+or_right true b k = refl
+or_right false b k = k
+
+-- so it is with the pending update, or with none
+pending_counts : (v : Votes) (committed : VoteTable) (o : Option VoteTable) (d : ℕ) → AreVotes v (unwrap_or o committed) → 0 < v.of_device d
+    → (is_enabled committed d || is_enabled_pending o d) ≡ true
+pending_counts v committed None d are h = or_left (is_enabled committed d) false (counts_one v committed d are h)
+pending_counts v committed (Some table) d are h = or_right (is_enabled committed d) (is_enabled table d) (counts_one v table d are h)
+
+has_votes : (S : Setting) (r : Saved) (both : BothVotes) (d : ℕ) → AreVotesOf S r both → whole.VotesUnder S r d → is_quorum both d ≡ true
+has_votes S r both d are (inl h) =
+    or_left (is_enabled both.committed d) (is_enabled_pending both.pending d) (counts_one (S.config (take r.committed r.entries)) both.committed d are.committed h)
+has_votes S r both d are (inr h) = pending_counts (S.config r.entries) both.committed both.pending d are.pending h
 
 true_false : (b : Bool) → b ≡ true → b ≡ false → ⊥
 true_false b h k = cc
@@ -277,10 +283,10 @@ true_false b h k = cc
 entry_listed : (es : List Seizing) (d : ℕ) (e : Seizing) → entry_of es d ≡ Some e → Contains es e
 entry_listed es d e is = (found_entry (λ x. x.attached.device == d) es e is).1
 
-quorum_so : (c : Cluster) (s : Sharing) (q d : ℕ) (t : AttemptState) (o : Option Seizing) → IsReachedAttempt t → t.votes ≡ Some (votes_in c) → AreApart (entry_numbers t.devices) → entry_of t.devices d ≡ o
-    → HasEntry s q o → is_held_in t.devices d ≡ true → is_quorum (votes_in c) d ≡ true → (s.attempt q).quorum ≡ true
-quorum_so c s q d t None reached votes apart is has held counts = absurd (true_false _ held (held_none t.devices d is))
-quorum_so c s q d t (Some e) reached votes apart is has held counts = by_seizer e.seizer refl has
+quorum_so : (s : Sharing) (q d : ℕ) (t : AttemptState) (both : BothVotes) (o : Option Seizing) → IsReachedAttempt t → t.votes ≡ Some both → AreApart (entry_numbers t.devices) → entry_of t.devices d ≡ o
+    → HasEntry s q o → is_held_in t.devices d ≡ true → is_quorum both d ≡ true → (s.attempt q).quorum ≡ true
+quorum_so s q d t both None reached votes apart is has held counts = absurd (true_false _ held (held_none t.devices d is))
+quorum_so s q d t both (Some e) reached votes apart is has held counts = by_seizer e.seizer refl has
   where
     own : is_held_by e.result ≡ true
     own = held_entry t.devices d (Some e) apart is held
@@ -288,7 +294,7 @@ quorum_so c s q d t (Some e) reached votes apart is has held counts = by_seizer 
     by_kind : (kind : SeizeKind) → e.kind ≡ kind → (s.attempt q).quorum ≡ is_vote e.kind → (s.attempt q).quorum ≡ true
     by_kind Vote k h = h ∙ ap is_vote k
     by_kind Plain k h =
-        absurd (true_false _ (subst (λ z. is_quorum (votes_in c) z ≡ true) (sym (entry_device t.devices d e is)) counts) (plain_has_no_votes t (votes_in c) e reached votes (entry_listed t.devices d e is) k))
+        absurd (true_false _ (subst (λ z. is_quorum both z ≡ true) (sym (entry_device t.devices d e is)) counts) (plain_has_no_votes t both e reached votes (entry_listed t.devices d e is) k))
 
     by_seizer : (n : Option ℕ) → e.seizer ≡ n → AskedBy s q e n → (s.attempt q).quorum ≡ true
     by_seizer None k h = absurd (true_false _ own (ap is_held_by h.1))
@@ -324,7 +330,7 @@ read_same W V q (r ∷ rs) same h = (
 )
 
 pub counts_go : CountsGo
-counts_go c W n x st a k i devices reached tied at seat under me small is_reached may own known has_after told given votes fits count = record {
+counts_go S c W n x st a k i both devices reached tied at seat under me small is_reached may own known has_after told given votes are fits count = record {
   goes = record {
     machine = V;
     moves = and_on S W with_count V n g.moves (record {
@@ -345,9 +351,6 @@ counts_go c W n x st a k i devices reached tied at seat under me small is_reache
   read = subst (λ z. AreRead V z i.readings) epoch (read_same UW V q i.readings attempts_same read);
 }
   where
-    S : Setting
-    S = setting_of c
-
     t : AttemptState
     t = (turn a k).after
 
@@ -452,9 +455,13 @@ counts_go c W n x st a k i devices reached tied at seat under me small is_reache
     is_so : (d : ℕ) → V.device d ≡ sharing.after (U d) (install_at (joined d) n)
     is_so d = ap (λ z. sharing.after (U d) (install_at (joined d) z)) at_node
 
+    newest_votes : AreVotesOf S ((with_count.memberships.node t.newest).showed q) both
+    newest_votes = subst (λ (M : Memberships). AreVotesOf S ((M.node t.newest).showed q) both) (sym g.memberships) are
+
     quorum : whole.CountsQuorum S with_count (count_of t)
     quorum d held under_votes =
-        quorum_so c (with_count.device d) q d t (entry_of t.devices d) (reached_more a k may is_reached) votes (counts d).1.apart refl (counts d).2 held (has_votes c ((with_count.memberships.node t.newest).showed q) d under_votes)
+        quorum_so (with_count.device d) q d t both (entry_of t.devices d) (reached_more a k may is_reached) votes (counts d).1.apart refl (counts d).2 held
+        (has_votes S ((with_count.memberships.node t.newest).showed q) both d newest_votes under_votes)
 
     counted_at : AttemptAt V (Some t)
     counted_at d = subst (λ z. DeviceHas z t d) (sym (is_so d)) (has_at c UW n q st i inv may_at in_session valid_here me small read t d (counts d).1)

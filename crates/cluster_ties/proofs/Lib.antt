@@ -15,5 +15,6 @@ pub mod Safe
 pub mod Distrusts
 pub mod Begins
 pub mod Others
+pub mod Updates
 pub mod Told
 pub mod GoesOn

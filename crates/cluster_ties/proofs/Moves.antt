@@ -3,7 +3,7 @@ use Rattle.std.specs.Prelude.{ℕ, ◌≡◌, ◌≢◌, ◌⊎◌, ◌++◌, Li
 use Rattle.std.proofs.Common.{refl, sym, ap, subst, ◌∙◌, inl, inr}
 use Rattle.attempt_laws.specs.Asking.{DeviceHas, IsOthers}
 use Rattle.attempt_laws.proofs.Left.{others_leave}
-use Rattle.cluster_machine.specs.Cluster.{Cluster as Whole, Event, MayCome, all_after}
+use Rattle.cluster_machine.specs.Cluster.{Cluster as Whole, MayCome, all_after}
 use Rattle.cluster_machine.proofs.SampleRun.{run_on}
 use Rattle.cmm_attempt.specs.Attempts.{AttemptState}
 use Rattle.device_machine.specs.Sharing as sharing

@@ -21,7 +21,7 @@ use Rattle.node_model.specs.declared.node.Node.TheVariants.{Down, Up}
 use Rattle.node_model.specs.declared.node.UpNode.{UpNode}
 use Rattle.node_model.specs.declared.seat.Seat.TheVariants.{Forming}
 use Rattle.node_model.specs.Seats.{state_of}
-use Rattle.refinement.specs.Doings.Act.{Accepts, Ends, Goes_on, Hears, Makes, Queues, Stores, Takes, Ticks, Waits, Writes}
+use Rattle.refinement.specs.Doings.Act.{Accepts, Ends, Gives, Goes_on, Hears, Makes, Minds, Notes, Queues, Spreads, Stores, Takes, Ticks, Waits, Writes}
 use Rattle.cluster_ties.specs.Ties.{AttemptAt, MarksTied, UpAt}
 use Rattle.cluster_ties.specs.Moves.{first_whole}
 use Rattle.cluster_ties.specs.Laws.{BootsGo, IsOf, OthersStay, ReachedStays, RestsGo, SitsGo, StartsGo}
@@ -47,6 +47,10 @@ rests_go c W n x Ticks apart at = record { marks = at.marks; tasks = at.tasks; o
 rests_go c W n x Waits apart at = record { marks = at.marks; tasks = at.tasks; once = at.once; idle = at.idle; attempt = at.attempt }
 rests_go c W n x (Ends a e) apart at = record { marks = at.marks; tasks = at.tasks; once = at.once; idle = at.idle; attempt = tt }
 rests_go c W n x (Writes to b) apart at = at
+rests_go c W n x (Gives os) apart at = at
+rests_go c W n x (Spreads receivers b) apart at = at
+rests_go c W n x (Minds requests office) apart at = record { marks = at.marks; tasks = at.tasks; once = at.once; idle = at.idle; attempt = at.attempt }
+rests_go c W n x (Notes from place office) apart at = record { marks = at.marks; tasks = at.tasks; once = at.once; idle = at.idle; attempt = at.attempt }
 rests_go c W n x (Goes_on a k) apart at = absurd apart
 rests_go c W n x (Queues a d kind) apart at = absurd apart
 rests_go c W n x (Accepts kind e members d) apart at = absurd apart
@@ -61,14 +65,14 @@ seated c W n x s at seat d =
     record { valid = (at.marks d).valid ∙ ap (λ z. has (state_of z).saved.valid d) seat; joined = (at.marks d).joined ∙ ap (λ z. has (state_of z).joined d) seat }
 
 pub starts_go : StartsGo
-starts_go S c W n q x s devices tied at seat own may = record {
+starts_go S c W n q x a s devices tied at seat own may = record {
   machine = whole.after W (Membership (membership.Start q) nowhere_joined);
   moves = record {
     events = Membership (membership.Start q) nowhere_joined ∷ [];
     run = ((may, (λ d. tt), tt), refl);
     others = λ k ne. put_there W.memberships.node (coordinator q) _ k (λ is. ne (is ∙ own));
     others_at = λ d k ne. refl;
-    attempts = λ a ne h d. h d;
+    attempts = λ b ne h d. h d;
   };
   memberships = refl;
   devices_so = tied;

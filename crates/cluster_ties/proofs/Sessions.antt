@@ -87,7 +87,7 @@ promises_go S c W n q x devices reached tied at may = record {
   at = promised_marks c W n q x x.attempt at;
 }
 
-valid_of : (c : Cluster) (W : Whole) (n : ℕ) (disk : NodeRecord) (node : Node) → NodeAt c W n disk node → IsKept disk node → (d : ℕ) → ((W.device d).node n).valid ≡ has disk.valid d
+pub valid_of : (c : Cluster) (W : Whole) (n : ℕ) (disk : NodeRecord) (node : Node) → NodeAt c W n disk node → IsKept disk node → (d : ℕ) → ((W.device d).node n).valid ≡ has disk.valid d
 valid_of c W n disk Down at kept d = (at d).valid
 valid_of c W n disk (Up x) at kept d = (at.marks d).valid ∙ ap (λ (r : NodeRecord). has r.valid d) (sym kept)
 

@@ -14,13 +14,15 @@ use Rattle.device_machine.specs.Sharing.{Sharing}
 use Rattle.device_ties.specs.Tasks.{is_member}
 use Rattle.machine_base.specs.Put.{put}
 use Rattle.attempt_laws.specs.Asking.{AreApart, IsToldAt, numbers_of}
-use Rattle.attempt_laws.specs.Machine.{MachineHas}
+use Rattle.attempt_laws.specs.Machine.{AreVotesOf, MachineHas}
+use Rattle.ccr_commit.specs.Entries.{with_next}
+use Rattle.cmm_attempt.specs.declared.counting.BothVotes.{BothVotes}
 use Rattle.cmm_attempt.specs.Attempts.{AttemptState, beginning}
 use Rattle.attempt_laws.specs.Laws.{is_held_in}
 use Rattle.cmm_attempt.specs.Calls as calls
 use Rattle.cmm_attempt.specs.Calls.{Call, IsReached as IsReachedAttempt, May as MayCall, installs_in, turn}
 use Rattle.machine_base.specs.Epochs.{coordinator}
-use Rattle.cmm_member.specs.Nodes.{NodeState}
+use Rattle.cmm_member.specs.Nodes.{NodeState, with_entries}
 use Rattle.cmm_member.specs.Records.{NodeRecord}
 use Rattle.membership_machine.specs.Events as membership
 use Rattle.membership_machine.specs.Starts.{Alike, DevicesMeet, Follows, last_start}
@@ -30,17 +32,20 @@ use Rattle.node_model.specs.declared.node.Node.{Node}
 use Rattle.node_model.specs.declared.node.Node.TheVariants.{Down, Up}
 use Rattle.node_model.specs.declared.node.UpNode.{UpNode}
 use Rattle.node_model.specs.Devices.{distrusting, joining_so}
-use Rattle.node_model.specs.declared.seat.Seat.TheVariants.{Forming}
-use Rattle.node_model.specs.Attempts.{installing, own_promise, seizing_here, starting_as, votes_in}
+use Rattle.node_model.specs.declared.presidency.Presidency.{Presidency}
+use Rattle.node_model.specs.declared.seat.Seat.TheVariants.{Forming, Member}
+use Rattle.node_model.specs.Attempts.{installing, own_promise, seizing_here, starting_as}
 use Rattle.node_model.specs.Members.{promised_so, sitting}
+use Rattle.node_model.specs.Presidents.{committing, proposed_by}
 use Rattle.node_model.specs.Seats.{promising, record_of, state_of, up_with}
+use Rattle.node_model.specs.Updates.{committed_so}
 use Rattle.pgr_device.specs.declared.command.PrAnswer.TheVariants as given
 use Rattle.pgr_device.specs.declared.command.PrCommand.{PrCommand}
 use Rattle.pgr_device.specs.declared.command.PrCommand.TheVariants as command
 use Rattle.pgr_device.specs.Spc as spc
-use Rattle.refinement.specs.Doings.{Act, accepting, acted, answered_so, begun_by, going}
-use Rattle.refinement.specs.Doings.Act.{Ends, Hears, Ticks, Waits, Writes}
-use Rattle.refinement.specs.Ties.{setting_of}
+use Rattle.refinement.specs.Doings.{Act, accepting, acted, answered_so, begun_by, going, minded}
+use Rattle.refinement.specs.Doings.Act.{Ends, Gives, Hears, Minds, Notes, Spreads, Ticks, Waits, Writes}
+use Rattle.request_queue.specs.Queue.{Queue}
 use Rattle.cl_base.specs.declared.header.DeviceKind.{DeviceKind}
 use Rattle.cl_base.specs.declared.header.DeviceKind.TheVariants.{Quorum}
 use Rattle.seize.specs.Answers.{Answer}
@@ -155,13 +160,16 @@ pub record CountGoes (S : Setting) (c : Cluster) (W : Whole) (n : ℕ) (e : memb
   pub read : AreRead goes.machine i.epoch i.readings
 
 -- The coordinator's attempt takes a call, by which it has its majority: nodes may be asked, the votes are counted at each device, and it installs itself.
+-- The votes that it was given are those of the record that it has as the newest.
 abbrev pub CountsGo : Type 0
-CountsGo = (c : Cluster) (W : Whole) (n : ℕ) (x : UpNode) (s : NodeState) (a : AttemptState) (k : Call) (i : Install) (devices : Devices) → IsReached (setting_of c) W → DevicesTied c devices W → UpAt c W n x
+CountsGo = (S : Setting) (c : Cluster) (W : Whole) (n : ℕ) (x : UpNode) (s : NodeState) (a : AttemptState) (k : Call) (i : Install) (both : BothVotes) (devices : Devices)
+    → IsReached S W → DevicesTied c devices W → UpAt c W n x
     → x.seat ≡ Forming s → x.attempt ≡ Some a → s.me ≡ n → IsDevices s.saved.valid → IsReachedAttempt a → MayCall a k → coordinator a.plan.epoch ≡ n
     → MachineHas W.memberships a → MachineHas W.memberships (turn a k).after → ((d : ℕ) → IsToldAt (W.device d) a d k)
-    → installs_in (turn a k).steps ≡ Some i → (turn a k).after.votes ≡ Some (votes_in c) → All calls.IsDevice a.plan.attached
-    → membership.Allowed (setting_of c) W.memberships (count_of (turn a k).after)
-    → CountGoes (setting_of c) c W n (count_of (turn a k).after) devices (record_of (installing c n (going x a k) s [] i)) (Up (installing c n (going x a k) s [] i)) i
+    → installs_in (turn a k).steps ≡ Some i → (turn a k).after.votes ≡ Some both
+    → AreVotesOf S ((W.memberships.node (turn a k).after.newest).showed (turn a k).after.plan.epoch) both
+    → All calls.IsDevice a.plan.attached → membership.Allowed S W.memberships (count_of (turn a k).after)
+    → CountGoes S c W n (count_of (turn a k).after) devices (record_of (installing c n (going x a k) s [] i)) (Up (installing c n (going x a k) s [] i)) i
 
 -- A node begins an attempt of its own: it promises its number, and where it is alone all have promised.
 abbrev pub BeginsGo : Type 0
@@ -189,6 +197,10 @@ IsApart Ticks = Unit {0}
 IsApart Waits = Unit {0}
 IsApart (Ends a e) = Unit {0}
 IsApart (Writes to b) = Unit {0}
+IsApart (Gives os) = Unit {0}
+IsApart (Spreads receivers b) = Unit {0}
+IsApart (Minds requests office) = Unit {0}
+IsApart (Notes from place office) = Unit {0}
 IsApart _ = ⊥
 
 abbrev pub RestsGo : Type 0
@@ -196,12 +208,46 @@ RestsGo = (c : Cluster) (W : Whole) (n : ℕ) (x : UpNode) (act : Act) → IsApa
 
 -- A membership starts, and a node sits in it, which no device takes part in.
 abbrev pub StartsGo : Type 0
-StartsGo = (S : Setting) (c : Cluster) (W : Whole) (n q : ℕ) (x : UpNode) (s : NodeState) (devices : Devices) → DevicesTied c devices W → UpAt c W n x → x.seat ≡ Forming s → coordinator q ≡ n
-    → membership.Allowed S W.memberships (membership.Start q) → MembershipGoes S c W n (membership.Start q) devices (record_of (starting_as x s)) (Up (starting_as x s))
+StartsGo = (S : Setting) (c : Cluster) (W : Whole) (n q : ℕ) (x : UpNode) (a : AttemptState) (s : NodeState) (devices : Devices) → DevicesTied c devices W → UpAt c W n x
+    → x.seat ≡ Forming s → coordinator q ≡ n → membership.Allowed S W.memberships (membership.Start q)
+    → MembershipGoes S c W n (membership.Start q) devices (record_of (starting_as x a s)) (Up (starting_as x a s))
 
 abbrev pub SitsGo : Type 0
 SitsGo = (S : Setting) (c : Cluster) (W : Whole) (n q : ℕ) (x : UpNode) (s : NodeState) (devices : Devices) → DevicesTied c devices W → UpAt c W n x → x.seat ≡ Forming s
     → membership.Allowed S W.memberships (membership.Join n q) → MembershipGoes S c W n (membership.Join n q) devices (record_of (sitting x s)) (Up (sitting x s))
+
+-- Updates, which no device takes part in.
+
+-- A president proposes an update, or goes down in the save of it; and acknowledges it, whatever requests it has then, and whatever is in its hand.
+abbrev pub ProposesGo : Type 0
+ProposesGo = (S : Setting) (c : Cluster) (W : Whole) (n q : ℕ) (x : UpNode) (p : Presidency) (text : List ℕ) (devices : Devices) → DevicesTied c devices W → UpAt c W n x → coordinator q ≡ n
+    → membership.Allowed S W.memberships (membership.Propose q text)
+    → MembershipGoes S c W n (membership.Propose q text) devices (record_of (proposed_by n x p text)) (Up (proposed_by n x p text))
+
+abbrev pub ProposalsAreLost : Type 0
+ProposalsAreLost = (S : Setting) (c : Cluster) (W : Whole) (n q : ℕ) (text : List ℕ) (disk : NodeRecord) (node : Node) (devices : Devices) → DevicesTied c devices W → NodeAt c W n disk node
+    → IsKept disk node → coordinator q ≡ n → membership.Allowed S W.memberships (membership.Propose_lost q text)
+    → MembershipGoes S c W n (membership.Propose_lost q text) devices disk Down
+
+abbrev pub AcknowledgesGo : Type 0
+AcknowledgesGo = (S : Setting) (c : Cluster) (W : Whole) (n q : ℕ) (x : UpNode) (requests : Queue) (office : Option Presidency) (devices : Devices) → DevicesTied c devices W → UpAt c W n x
+    → coordinator q ≡ n → membership.Allowed S W.memberships (membership.Acknowledge q)
+    → MembershipGoes S c W n (membership.Acknowledge q) devices (record_of (minded (committing x) requests office)) (Up (minded (committing x) requests office))
+
+-- a member with this update as pending
+abbrev pub prepared_so : UpNode → NodeState → List ℕ → UpNode
+prepared_so x s text = record x { seat = Member (with_entries s (with_next s.saved.entries text)) }
+
+-- A member has one more update, and commits what is pending.
+abbrev pub PreparesGo : Type 0
+PreparesGo = (S : Setting) (c : Cluster) (W : Whole) (n q : ℕ) (x : UpNode) (s : NodeState) (text : List ℕ) (devices : Devices) → DevicesTied c devices W → UpAt c W n x → x.seat ≡ Member s
+    → membership.Allowed S W.memberships (membership.Prepare n q text)
+    → MembershipGoes S c W n (membership.Prepare n q text) devices (record_of (prepared_so x s text)) (Up (prepared_so x s text))
+
+abbrev pub CommitsGo : Type 0
+CommitsGo = (S : Setting) (c : Cluster) (W : Whole) (n q : ℕ) (x : UpNode) (s : NodeState) (devices : Devices) → DevicesTied c devices W → UpAt c W n x → x.seat ≡ Member s
+    → membership.Allowed S W.memberships (membership.Commit n q)
+    → MembershipGoes S c W n (membership.Commit n q) devices (record_of (committed_so x s)) (Up (committed_so x s))
 
 -- The others.
 

@@ -7,7 +7,7 @@
 //! Each function here is a law. It has no body, and its contract is proved of every node, every device and every state of the machine.
 #![tactic(auto)]
 
-ghost use Rattle.cluster_ties.specs.Laws.{BeginsGo, BootsGo, CallsGo, CallsGoOn, CommandsGo, CountsGo, CrashesGo, DistrustsGo, FirstDevicesAreTied, FirstIsTied, InstallsGo, OthersStay, PromisesGo, QueuesGo, ReachedIsSafe, ReachedStays, RestsGo, SeizesGo, SitsGo, StartsGo, WritesAreSafe, WritesGo};
+ghost use Rattle.cluster_ties.specs.Laws.{AcknowledgesGo, BeginsGo, BootsGo, CallsGo, CallsGoOn, CommandsGo, CommitsGo, CountsGo, CrashesGo, DistrustsGo, FirstDevicesAreTied, FirstIsTied, InstallsGo, OthersStay, PreparesGo, PromisesGo, ProposalsAreLost, ProposesGo, QueuesGo, ReachedIsSafe, ReachedStays, RestsGo, SeizesGo, SitsGo, StartsGo, WritesAreSafe, WritesGo};
 ghost use Rattle.cluster_ties.specs.Told.{OwnRequestsAreTold, PromisesAreTold, RequestsAreTold, ResultsAreTold, TakesAreTold, ToldOfStays};
 
 /// At first each device is the machine's, as the schedule's header has it, and each node is, which is down.
@@ -77,6 +77,16 @@ pub fn rests_go()
 pub fn starts_go()
     ensures starts { StartsGo }
     ensures sits { SitsGo }
+{}
+
+/// An update is proposed, the proposal lost or acknowledged, and it is prepared and committed by members: no device takes part in that, but
+/// in the crash by which a proposal is lost.
+pub fn updates_go()
+    ensures proposes { ProposesGo }
+    ensures lost { ProposalsAreLost }
+    ensures acknowledges { AcknowledgesGo }
+    ensures prepares { PreparesGo }
+    ensures commits { CommitsGo }
 {}
 
 /// What one node does leaves each other node as it is, at each device, and the whole is reached again.

@@ -1,6 +1,6 @@
 -- What an attempt keeps has its widths after each call.
 use Rattle.std.specs.Prelude.{ℕ, suc, ◌≡◌, ◌≤◌, ◌<◌, ◌^◌, ◌==◌, ◌&&◌, ◌++◌, All, Bool, true, false, List, [], ◌∷◌, Option, None, Some, IfSome, is_none, find, length, map, if◌then◌else◌}
-use Rattle.std.proofs.Common.{refl, sym, subst, arith}
+use Rattle.std.proofs.Common.{subst, arith}
 use Rattle.std.specs.List.{AllByRecursion, cons_option, filter_map}
 use Rattle.std.proofs.lemmas.List.Elements.{All-head, All-tail}
 use Rattle.cl_base.specs.Seizings.{SeizeResult}
@@ -12,7 +12,7 @@ use Rattle.wire.specs.declared.lists.Reading.{Reading}
 use Rattle.wire.specs.declared.message.Body.{Body}
 use Rattle.wire.specs.declared.message.Body.TheVariants as body
 use Rattle.wire.specs.declared.message.Message.{Message}
-use Rattle.wire.specs.Spelling.{FitsReading, FitsResult, IsDevice, IsNode, IsShortList, IsShortText, IsWord}
+use Rattle.wire.specs.Spelling.{FitsReading, FitsResult, IsDevice, IsNode, IsShortList, IsWord}
 use Rattle.cmm_attempt.specs.declared.attached.AttachedDevice.{AttachedDevice}
 use Rattle.cmm_attempt.specs.declared.counting.BothVotes.{BothVotes}
 use Rattle.cmm_attempt.specs.declared.plan.Plan.{Plan}
@@ -29,7 +29,7 @@ use Rattle.cmm_attempt.specs.Seizings.{first_seizer, is_seized, next_by, plain_e
 use Rattle.cmm_attempt.proofs.Basics.{if_either, none_some, same_some}
 use Rattle.attempt_laws.proofs.Steady.{Steady}
 use Rattle.attempt_laws.proofs.Walk.{TellsResult}
-use Rattle.node_widths.specs.Widths.{AttemptFits, BodyFits, PartsFit, PromisedFits, SeizingFits}
+use Rattle.node_widths.specs.Widths.{AttemptFits, BodyFits, PartsFit, PlacesFit, PromisedFits, SeizingFits}
 use Rattle.node_widths.proofs.Tasks.{all_and_one, found_fits}
 
 -- what a call tells has its widths
@@ -43,7 +43,7 @@ CallFits Tick = Unit {0}
 -- Promises.
 
 shown_fits : (m : Message) (n : ℕ) (b : Body) (p : Promised) → promised_by m (shown_by n b) ≡ Some p → BodyFits m.body → BodyFits b → PromisedFits p
-shown_fits m n (body.Promise epoch installed members valid flagged committed pending) p h whole f = subst PromisedFits (same_some _ p h) (whole, f.0.1)
+shown_fits m n (body.Promise epoch installed members valid flagged committed pending) p h whole f = subst PromisedFits (same_some _ p h) (whole, f.1)
 shown_fits m n _ p h whole f = absurd (none_some p h)
 
 pub promise_fits : (m : Message) (n : ℕ) (p : Promised) → promised_by m (shown_by n m.body) ≡ Some p → BodyFits m.body → PromisedFits p
@@ -52,7 +52,7 @@ promise_fits m n p h f = shown_fits m n m.body p h f f
 -- Results.
 
 told_fits : (c : Call) (s : AttemptState) (d from : ℕ) (r : SeizeResult) → CallFits c → TellsResult c s d from r → FitsResult r
-told_fits (Take n m) s d from r f tells = (subst BodyFits tells.1 f).0.2
+told_fits (Take n m) s d from r f tells = (subst BodyFits tells.1 f).2
 told_fits (Own_seized device told) s d from r f tells = subst FitsResult tells.1 f
 told_fits (With_votes both) s d from r f tells = absurd tells
 told_fits Own_ready s d from r f tells = absurd tells
@@ -200,27 +200,18 @@ readings_fit devices h (a ∷ attached) =
     more_readings (reading_of devices a) (filter_map (reading_of devices) attached) (length attached)
     (reading_fits_in (find (λ e. e.attached.device == a.device) devices) (found_fits SeizingFits _ devices h)) (readings_fit devices h attached)
 
-pub no_texts : (xs : List (List ℕ)) → xs ≡ [] → IsShortList IsShortText xs
-no_texts xs e = subst (λ (ys : List (List ℕ)). IsShortList IsShortText ys) (sym e) (omega arith, tt)
+-- the updates of a message, and none
+pub none_placed : PlacesFit [] None
+none_placed = omega arith
 
-pub no_pending : (o : Option (List ℕ)) → o ≡ None → IfSome o IsShortText
-no_pending o e = subst (λ (p : Option (List ℕ)). IfSome p IsShortText) (sym e) tt
-
-no_committed : (b : Body) → BodyFits b → committed_in b ≡ []
-no_committed (body.Promise epoch installed members valid flagged committed pending) h = h.1.0
-no_committed _ h = refl
-
-none_pending : (b : Body) → BodyFits b → pending_in b ≡ None
-none_pending (body.Promise epoch installed members valid flagged committed pending) h = h.1.1
-none_pending _ h = refl
+placed_in : (b : Body) → BodyFits b → PlacesFit (committed_in b) (pending_in b)
+placed_in (body.Promise epoch installed members valid flagged committed pending) h = h.4
+placed_in _ h = none_placed
 
 install_fits_by : (plan : Plan) (rs : List Reading) (o : Option Promised) → IfSome o PromisedFits → IsWord plan.epoch → (plan.members < 2 ^ 32) → IsShortList FitsReading rs
     → BodyFits (body.Install (install_by plan rs o))
-install_fits_by plan rs None h epoch members f = ((epoch, members, no_texts [] refl, tt, f), (refl, refl))
-install_fits_by plan rs (Some p) h epoch members f =
-    let texts : committed_in p.message.body ≡ [] = no_committed p.message.body h.0 in
-    let one : pending_in p.message.body ≡ None = none_pending p.message.body h.0 in
-    ((epoch, members, no_texts (committed_in p.message.body) texts, no_pending (pending_in p.message.body) one, f), (texts, one))
+install_fits_by plan rs None h epoch members f = (epoch, members, none_placed, f)
+install_fits_by plan rs (Some p) h epoch members f = (epoch, members, placed_in p.message.body h.0, f)
 
 few_devices : (a b : ℕ) → a ≤ b → b ≤ 16 → a < 2 ^ 16
 few_devices a b h k = omega (arith, h, k)

@@ -1,7 +1,8 @@
 -- Whatever happens to a node, what it does has its widths.
-use Rattle.std.specs.Prelude.{ℕ, ◌≡◌, ◌≤◌, ◌<◌, ◌^◌, ◌+◌, ◌*◌, ◌/◌, ◌%◌, ◌==◌, ◌&&◌, nat_le, nat_lt, Bool, true, false, List, [], ◌∷◌, Option, None, Some, IfSome, Ok, find, is_some, if◌then◌else◌}
+use Rattle.std.specs.Prelude.{ℕ, ◌≡◌, ◌≤◌, ◌<◌, ◌^◌, ◌+◌, ◌*◌, ◌/◌, ◌==◌, ◌&&◌, nat_le, nat_lt, Bool, true, false, List, [], ◌∷◌, ◌++◌, Option, None, Some, IfSome, Ok, find, is_some, if◌then◌else◌}
 use Rattle.std.proofs.Common.{refl, subst, arith}
 use Rattle.std.specs.Option.{option_map, unwrap_or}
+use Rattle.answer_words.specs.Answers.{answer_in}
 use Rattle.cl_base.specs.Seizings.{SeizeResult}
 use Rattle.cl_base.specs.Sets.{has, set_without}
 use Rattle.ccr_commit.specs.Entries.{all_committed}
@@ -15,7 +16,7 @@ use Rattle.cmm_attempt.specs.declared.step.Step.TheVariants as step
 use Rattle.cmm_attempt.specs.Attempts.{AttemptState, Turn, beginning, newest_installed, own_readying}
 use Rattle.cmm_attempt.specs.Calls.{Own_ready, Own_seized, Take, Tick as Call_tick, With_votes, turn}
 use Rattle.cmm_attempt.specs.Promises.{is_from}
-use Rattle.cmm_attempt.proofs.Basics.{and_cases, false_true, less, none_some, same_some}
+use Rattle.cmm_attempt.proofs.Basics.{false_true, less, none_some, same_some}
 use Rattle.attempt_laws.proofs.Walk.{if_with}
 use Rattle.device_queue.specs.declared.progress.Progress.{Progress}
 use Rattle.device_queue.specs.declared.progress.Progress.TheVariants as progress
@@ -24,6 +25,7 @@ use Rattle.heartbeats.specs.Due.{begins}
 use Rattle.heartbeats.specs.Views.{receivers_of}
 use Rattle.pgr_device.specs.declared.command.PrAnswer.TheVariants as given
 use Rattle.pgr_device.specs.declared.command.PrCommand.{PrCommand}
+use Rattle.request_queue.specs.declared.request.Request.{Request}
 use Rattle.seize.specs.Answers.{Answer}
 use Rattle.seize.specs.declared.kind.JoinResult.{JoinResult}
 use Rattle.seize.specs.declared.kind.JoinResult.TheVariants as join
@@ -44,30 +46,27 @@ use Rattle.node_model.specs.declared.node.UpNode.{UpNode}
 use Rattle.node_model.specs.declared.seat.Seat.{Seat}
 use Rattle.node_model.specs.declared.seat.Seat.TheVariants.{Forming, Member}
 use Rattle.node_model.specs.Attempts as attempts
-use Rattle.node_model.specs.Attempts.{begins_install, installing, is_choosing, left_out_by, may_count_on, next_epoch, own_promise, promise_of, resting, start_lines, starting_as, under_way, votes_in}
+use Rattle.node_model.specs.Attempts.{begins_install, installing, is_choosing, left_out_by, may_count_on, next_epoch, own_promise, presiding, promise_of, resting, start_lines, starting_as, under_way, votes_in}
 use Rattle.node_model.specs.Devices as devices
 use Rattle.node_model.specs.Devices.{distrusting, joining_so}
 use Rattle.node_model.specs.Members as members
 use Rattle.node_model.specs.Members.{hearing, is_foreign, promised_so, ready_of, rested_by, sitting}
-use Rattle.node_model.specs.Entries.{answering, keeping, telling, telling_of}
+use Rattle.node_model.specs.Entries.{answering, telling, telling_of, unknown_lines}
 use Rattle.node_model.specs.Plans.{Plan}
-use Rattle.node_model.specs.Plans.Plan.{Stays, Falls}
-use Rattle.node_model.specs.Seats.{coordinator_of, installed_of, is_in, node_numbered, promised_of, promising, record_of, seen, session_of, state_of}
+use Rattle.node_model.specs.Plans.Plan.{Stays, Falls, Says}
+use Rattle.node_model.specs.Seats.{coordinator_of, installed_of, is_in, promised_of, promising, record_of, session_of, state_of}
 use Rattle.node_model.specs.Ticks as ticks
-use Rattle.node_model.specs.Ticks.{later, membership_of, members_to_form, to_form_in, waiting_less}
-use Rattle.node_widths.specs.Widths.{AreDevices, AttemptFits, BodyFits, AnswerFits, PromisedFits, StateFits, UpFits}
+use Rattle.node_model.specs.Ticks.{heartbeats_to, later, membership_of, members_to_form, to_form_in, waiting_less}
+use Rattle.node_model.specs.Updates.{prepares_again, request_again}
+use Rattle.node_widths.specs.Widths.{AllFit, AreDevices, AttemptFits, BodyFits, AnswerFits, PresidencyFits, PromisedFits, StateFits, UpFits}
 use Rattle.node_widths.specs.Plans.{PlanFits, StepsKeepWidths}
-use Rattle.node_widths.proofs.Nodes.{base_fits, either_fits, first_read_fits, heartbeats_fit, installing_fits, joined_fits, later_fits, promised_fits, seizing_here_fits, shown_fits, started_fits, then_fits, valid_fits, with_attempt_fits, with_state_fits, with_tasks_fits}
-use Rattle.node_widths.proofs.Sets.{device_without}
+use Rattle.node_widths.proofs.Nodes.{answers, base_fits, both_fit, committed_fits, coordinator_is_node, either_fits, first_read_fits, heartbeats_fit, installing_fits, joined_fits, keeps, later_fits, promised_fits, seizing_here_fits, shown_fits, then_fits, unknown_fit, valid_fits, with_attempt_fits, with_state_fits, with_tasks_fits}
+use Rattle.node_widths.proofs.Queues.{nothing_fits}
+use Rattle.node_widths.proofs.Requests.{command_so, reply_so}
+use Rattle.node_widths.proofs.Sets.{device_without, held_fits}
 use Rattle.node_widths.proofs.Tasks.{ProgressFits, answered_fit, found_fits, kept_fits, progress_fits, put_fits}
 use Rattle.node_widths.proofs.Turns.{AllSteps, EndFits, StepFits, first_fits, turn_fits}
-
--- One message.
-answers : (c : Cluster) (n : ℕ) (to : ℕ) (b : Body) (x : UpNode) → 1 ≤ to → BodyFits b → UpFits c n x → PlanFits c n (answering to b x)
-answers c n to b x low f h = ((low, f, tt), h)
-
-keeps : (c : Cluster) (n : ℕ) (y : UpNode) (rest : Plan) → UpFits c n y → PlanFits c n rest → PlanFits c n (keeping n y rest)
-keeps c n y rest h k = (h.state.record_fits, (tt, k))
+use Rattle.node_widths.proofs.Updates.{asked_so, commit_so, prepare_so, prepared_so, prepares_again_fits, request_again_fits}
 
 -- The steps of an attempt.
 
@@ -78,7 +77,7 @@ newest_fits (Some p) h = h.1
 excludes : (c : Cluster) (n : ℕ) (x : UpNode) (e newest : ℕ) (o : Option ℕ) → IsWord e → IsWord newest → IfSome o IsNode → UpFits c n x → PlanFits c n (attempts.excluding n x e newest o)
 excludes c n x e newest None small new is h = h
 excludes c n x e newest (Some m) small new is h =
-    either_fits c n (m == n) (Falls _) (answering m (body.Excluded e newest) x) tt (answers c n m (body.Excluded e newest) x is.0 ((small, new), tt) h)
+    either_fits c n (m == n) (Falls _) (answering m (body.Excluded e newest) x) tt (answers c n m (body.Excluded e newest) x is.0 (small, new) h)
 
 left_out_fits : (e : AttemptEnd) → EndFits e → IfSome (left_out_by e) IsNode
 left_out_fits (ended.Votes have need lacking) h = tt
@@ -88,7 +87,7 @@ left_out_fits (ended.Foreign m) h = tt
 left_out_fits (ended.Excluded m) h = h
 
 rests : (c : Cluster) (n : ℕ) (x : UpNode) → UpFits c n x → UpFits c n (resting x)
-rests c n x h = record { state = h.state; all_tasks = h.all_tasks; own = tt; seen = h.seen }
+rests c n x h = record { state = h.state; all_tasks = h.all_tasks; own = tt; seen = h.seen; asked = h.asked; presides = h.presides }
 
 ends : (c : Cluster) (n : ℕ) (x : UpNode) (e : AttemptEnd) (o : Option AttemptState) → EndFits e → IfSome o AttemptFits → UpFits c n x → PlanFits c n (attempts.ending n x e o)
 ends c n x e None is f h = h
@@ -105,25 +104,28 @@ installs_here c n x i (Forming s) f state h =
     let k : UpFits c n y = installing_fits c n x s [] i f state tt h in
     either_fits c n (attempts.installs_now s i) (attempts.installed_so n y i.epoch (Stays y)) (Stays x) (keeps c n y (telling_of n (note.Installed i.epoch) (Stays y)) k (tt, k)) h
 
-started_with : (c : Cluster) (n : ℕ) (x : UpNode) (a : AttemptState) (seat : Seat) → StateFits (state_of seat) → UpFits c n x → PlanFits c n (attempts.starting_with n x a seat)
-started_with c n x a (Member s) state h = h
-started_with c n x a (Forming s) state h =
-    let y : UpNode = starting_as x s in
-    let k : UpFits c n y = record { state = started_fits s state; all_tasks = h.all_tasks; own = tt; seen = h.seen } in
+presides : (a : AttemptState) → AttemptFits a → PresidencyFits (presiding a)
+presides a f = (nothing_fits, held_fits a.devices f.seizings)
+
+started_with : (c : Cluster) (n : ℕ) (x : UpNode) (a : AttemptState) (seat : Seat) → AttemptFits a → StateFits (state_of seat) → UpFits c n x → PlanFits c n (attempts.starting_with n x a seat)
+started_with c n x a (Member s) f state h = h
+started_with c n x a (Forming s) f state h =
+    let y : UpNode = starting_as x a s in
+    let k : UpFits c n y = record { state = committed_fits s state; all_tasks = h.all_tasks; own = tt; seen = h.seen; asked = h.asked; presides = presides a f } in
     let lines : PlanFits c n (start_lines a s (telling_of n (note.Member a.plan.epoch) (Stays y))) = (tt, (base_fits a.plan.epoch 0 (all_committed s.saved.entries).committed, (tt, k))) in
     either_fits c n (attempts.starts_now s a.plan.epoch) (attempts.keeping_if (is_some s.saved.entries.pending) n y (start_lines a s (telling_of n (note.Member a.plan.epoch) (Stays y)))) (Stays x)
     (either_fits c n (is_some s.saved.entries.pending) _ _ (keeps c n y (start_lines a s (telling_of n (note.Member a.plan.epoch) (Stays y))) k lines) lines) h
 
-starts_here : (c : Cluster) (n : ℕ) (x : UpNode) (o : Option AttemptState) → UpFits c n x → PlanFits c n (attempts.starting_here n x o)
-starts_here c n x None h = h
-starts_here c n x (Some a) h = started_with c n x a x.seat h.state h
+starts_here : (c : Cluster) (n : ℕ) (x : UpNode) (o : Option AttemptState) → IfSome o AttemptFits → UpFits c n x → PlanFits c n (attempts.starting_here n x o)
+starts_here c n x None f h = h
+starts_here c n x (Some a) f h = started_with c n x a x.seat f h.state h
 
 does_step : (c : Cluster) (n : ℕ) (x : UpNode) (s : Step) → StepFits s → UpFits c n x → PlanFits c n (attempts.step_plan c n x s)
 does_step c n x (step.Send to m) f h = answers c n to m.body x f.0.0 f.1 h
 does_step c n x (step.SeizeHere d kind) f h = seizing_here_fits c n x d kind x.attempt f h.own h
 does_step c n x (step.NeedVotes m) f h = h
 does_step c n x (step.InstallHere i) f h = installs_here c n x i x.seat f h.state h
-does_step c n x step.StartHere f h = starts_here c n x x.attempt h
+does_step c n x step.StartHere f h = starts_here c n x x.attempt h.own h
 does_step c n x (step.Ended e) f h = ends c n x e x.attempt f h.own h
 
 does_steps : (c : Cluster) (n : ℕ) (x : UpNode) (steps : List Step) → AllSteps steps → UpFits c n x → PlanFits c n (attempts.performing c n x steps)
@@ -158,27 +160,34 @@ Good t = AttemptFits t.after × AllSteps t.steps
 
 goes_on : (c : Cluster) (n : ℕ) (x : UpNode) (t : Turn) → Good t → UpFits c n x → PlanFits c n (attempts.going_on c n x t)
 goes_on c n x t good h =
-    let u : Turn = turn t.after (With_votes (votes_in c)) in
+    let u : Turn = turn t.after (With_votes (votes_in c t.after)) in
     if_with (PlanFits c n) (is_choosing t.after.phase) (is_choosing t.after.phase) (attempts.performed c n (under_way x u.after) u.steps) (attempts.performed c n (under_way x t.after) t.steps) refl
     (λ e.
-    let next : Good u = turn_fits t.after (With_votes (votes_in c)) (choosing_is t.after.phase e) tt good.0 in
+    let next : Good u = turn_fits t.after (With_votes (votes_in c t.after)) (choosing_is t.after.phase e) tt good.0 in
     performed_fits c n (under_way x u.after) u.steps next.1 (with_attempt_fits c n x (Some u.after) next.0 h))
     (λ e. performed_fits c n (under_way x t.after) t.steps good.1 (with_attempt_fits c n x (Some t.after) good.0 h))
 
 -- An attempt begins.
 
-led_fits : (c : Cluster) (n : ℕ) (y : UpNode) (p members : ℕ) → AreDevices c → IsWord p → IsNodes members → UpFits c n y → PlanFits c n (attempts.led c n y p members)
-led_fits c n y p members are small set h =
-    keeps c n y (telling (entry.Attempt (attempt.Begun p members)) (attempts.going_on c n y (beginning p members (own_promise n y p) c.attached c.id))) h
-    (tt, goes_on c n y (beginning p members (own_promise n y p) c.attached c.id) (first_fits p members (own_promise n y p) c.attached c.id small set (shown_fits (record_of y) p h.state.record_fits small) are.few are.attached) h)
+led_fits : (c : Cluster) (n : ℕ) (y : UpNode) (waiting : List Request) (p members : ℕ) → AreDevices c → IsWord p → IsNodes members → UpFits c n y
+    → PlanFits c n (attempts.led c n y waiting p members)
+led_fits c n y waiting p members are small set h =
+    keeps c n y (telling (entry.Attempt (attempt.Begun p members)) (Says (unknown_lines n waiting) (attempts.going_on c n y (beginning p members (own_promise n y p) c.attached c.id)))) h (
+      tt,
+      (
+        unknown_fit n waiting,
+        goes_on c n y (beginning p members (own_promise n y p) c.attached c.id)
+            (first_fits p members (own_promise n y p) c.attached c.id small set (shown_fits (record_of y) p h.state.record_fits small) are.few are.attached) h,
+      ),
+    )
 
 promises_so : (c : Cluster) (n : ℕ) (x : UpNode) (p : ℕ) → IsWord p → UpFits c n x → UpFits c n (promising x p)
-promises_so c n x p small h = record { state = promised_fits (state_of x.seat) p small h.state; all_tasks = tt; own = tt; seen = h.seen }
+promises_so c n x p small h = record { state = promised_fits (state_of x.seat) p small h.state; all_tasks = tt; own = tt; seen = h.seen; asked = (h.asked.0, tt); presides = tt }
 
 leads : (c : Cluster) (n : ℕ) (x : UpNode) (p members : ℕ) → AreDevices c → IsWord p → IsNodes members → UpFits c n x → PlanFits c n (attempts.leading_to c n x p members)
 leads c n x p members are small set h =
-    either_fits c n (nat_lt (promised_of x) p) (attempts.led c n (record (promising x p) { greatest = p }) p members) (Stays x)
-    (led_fits c n (record (promising x p) { greatest = p }) p members are small set (promises_so c n x p small h)) h
+    either_fits c n (nat_lt (promised_of x) p) (attempts.led c n (record (promising x p) { greatest = p }) x.requests.waiting p members) (Stays x)
+    (led_fits c n (record (promising x p) { greatest = p }) x.requests.waiting p members are small set (promises_so c n x p small h)) h
 
 -- the members are the view, and there is an epoch above
 formed : (c : Cluster) (n : ℕ) (x : UpNode) (o : Option ℕ) (members : ℕ) → IfSome o IsNodes → to_form_in c n x o ≡ Some members → (may_count_on x.greatest ≡ true) × IsNodes members
@@ -209,17 +218,23 @@ ticks_by c n x None are is f h =
     either_fits c n (nat_le 1 x.beats.wait) (Stays (waiting_less x)) (ticks.forming c n (waiting_less x) (members_to_form c n (waiting_less x))) h
     (forms c n (waiting_less x) (members_to_form c n (waiting_less x)) are is refl h)
 
+ticked_fits : (c : Cluster) (n : ℕ) (before x : UpNode) → UpFits c n before → StateFits (state_of x.seat) → AllFit (ticks.ticked_output c before x)
+ticked_fits c n before x h state =
+    both_fit (heartbeats_to x (receivers_of x.beats c.configured) ++ request_again before) (prepares_again before)
+    (both_fit (heartbeats_to x (receivers_of x.beats c.configured)) (request_again before) (heartbeats_fit x (receivers_of x.beats c.configured) state) (request_again_fits c n before h))
+    (prepares_again_fits c n before h)
+
 ticks_so : (c : Cluster) (n : ℕ) (x : UpNode) → AreDevices c → IsNode n → UpFits c n x → PlanFits c n (ticks.on_tick c n x)
 ticks_so c n x are is h =
     let y : UpNode = later c x in
     let k : UpFits c n y = later_fits c n x h in
-    (tt, (heartbeats_fit y (receivers_of y.beats c.configured) k.state, ticks_by c n y y.attempt are is k.own k))
+    (tt, (ticked_fits c n x y h k.state, ticks_by c n y y.attempt are is k.own k))
 
 -- Messages.
 
 beats_so : (c : Cluster) (n : ℕ) (x : UpNode) (from session : ℕ) (member : Bool) → IsNode from → UpFits c n x → PlanFits c n (members.on_heartbeat n x from session member)
 beats_so c n x from session member is h =
-    either_fits c n (members.awaits_start n x from session member) _ (Stays x) (answers c n from (body.Start (session_of x)) x is.0 (h.state.session, tt) h) h
+    either_fits c n (members.awaits_start n x from session member) _ (Stays x) (answers c n from (body.Start (session_of x)) x is.0 h.state.session h) h
 
 promised_so_fits : (c : Cluster) (n : ℕ) (x : UpNode) (p : ℕ) (o : Option AttemptState) → IsWord p → UpFits c n x → UpFits c n (rested_by (promising x p) o)
 promised_so_fits c n x p None small h = promises_so c n x p small h
@@ -236,14 +251,14 @@ collects_so : (c : Cluster) (n : ℕ) (x : UpNode) (from p : ℕ) → IsNode fro
 collects_so c n x from p is small h =
     let y : UpNode = promised_so x p in
     let k : UpFits c n y = promised_so_fits c n x p x.attempt small h in
-    either_fits c n (nat_lt (promised_of x) p) _ _ (keeps c n y _ k (superseded_fits c n x p x.attempt _ (promise_answers c n y from p is small k)))
-    (either_fits c n (is_in x p) _ _ (promise_answers c n x from p is small h) (answers c n from (body.Nack p (promised_of x)) x is.0 ((small, h.state.record_fits.promised), tt) h))
+    either_fits c n (nat_lt (promised_of x) p) _ _ (keeps c n y _ k (superseded_fits c n x p x.attempt _ (unknown_fit n x.requests.waiting, promise_answers c n y from p is small k)))
+    (either_fits c n (is_in x p) _ _ (promise_answers c n x from p is small h) (answers c n from (body.Nack p (promised_of x)) x is.0 (small, h.state.record_fits.promised) h))
 
 requests_so : (c : Cluster) (n : ℕ) (x : UpNode) (from : ℕ) (kind : SeizeKind) (e ms d : ℕ) (o : Option SeizeResult) → IsNode from → IsWord e → IsDevice d → IfSome o FitsResult → UpFits c n x
     → PlanFits c n (members.on_request c n x from kind e ms d o)
-requests_so c n x from kind e ms d (Some result) is small device f h = answers c n from (body.Seized e d result) x is.0 ((small, device, f), tt) h
+requests_so c n x from kind e ms d (Some result) is small device f h = answers c n from (body.Seized e d result) x is.0 (small, device, f) h
 requests_so c n x from kind e ms d None is small device f h =
-    either_fits c n (installed_of x == e) _ (Stays _) (answers c n from (body.Seized e d seized.Fault) x is.0 ((small, device, tt), tt) h)
+    either_fits c n (installed_of x == e) _ (Stays _) (answers c n from (body.Seized e d seized.Fault) x is.0 (small, device, tt) h)
     (with_tasks_fits c n x _ (put_fits c n (seizure_of x.tasks d) _ x.tasks (device, (small, refl, refl, first_read_fits kind)) h.all_tasks) h)
 
 seizes_so : (c : Cluster) (n : ℕ) (x : UpNode) (from : ℕ) (kind : SeizeKind) (e ms d : ℕ) → IsNode from → IsWord e → IsDevice d → UpFits c n x
@@ -254,7 +269,7 @@ seizes_so c n x from kind e ms d is small device h =
 readies : (c : Cluster) (n : ℕ) (x : UpNode) (to : ℕ) → IsNode to → UpFits c n x → PlanFits c n (members.readying x to)
 readies c n x to is h =
     either_fits c n (joins x.tasks) (Stays x) (answering to (ready_of x) x) h
-    (answers c n to (ready_of x) x is.0 ((h.state.session, h.state.joined, ((omega arith, tt), (omega arith, tt))), tt) h)
+    (answers c n to (ready_of x) x is.0 (h.state.session, h.state.joined, ((omega arith, tt), (omega arith, tt))) h)
 
 installs_as : (c : Cluster) (n : ℕ) (x : UpNode) (from : ℕ) (i : Install) (seat : Seat) → IsNode from → BodyFits (body.Install i) → StateFits (state_of seat) → UpFits c n x
     → PlanFits c n (members.on_install_as c n x from i seat)
@@ -267,42 +282,44 @@ installs_as c n x from i (Forming s) is f state h =
 installs_so : (c : Cluster) (n : ℕ) (x : UpNode) (from : ℕ) (i : Install) → IsNode from → BodyFits (body.Install i) → UpFits c n x → PlanFits c n (members.on_install c n x from i)
 installs_so c n x from i is f h =
     either_fits c n (is_in x i.epoch) (members.on_install_as c n x from i x.seat) _ (installs_as c n x from i x.seat is f h.state h)
-    (answers c n from (body.Nack i.epoch (promised_of x)) x is.0 ((f.0.0, h.state.record_fits.promised), tt) h)
+    (answers c n from (body.Nack i.epoch (promised_of x)) x is.0 (f.0, h.state.record_fits.promised) h)
 
 sits_as : (c : Cluster) (n : ℕ) (x : UpNode) (e : ℕ) (seat : Seat) → StateFits (state_of seat) → UpFits c n x → PlanFits c n (members.on_start_as n x e seat)
 sits_as c n x e (Member s) state h = h
 sits_as c n x e (Forming s) state h =
     let y : UpNode = sitting x s in
-    let k : UpFits c n y = record { state = started_fits s state; all_tasks = h.all_tasks; own = h.own; seen = h.seen } in
+    let k : UpFits c n y = record { state = committed_fits s state; all_tasks = h.all_tasks; own = h.own; seen = h.seen; asked = h.asked; presides = h.presides } in
     either_fits c n (attempts.starts_now s e) _ (Stays x) (either_fits c n (is_some s.saved.entries.pending) _ _ (keeps c n y (telling_of n (note.Member e) (Stays y)) k (tt, k)) (tt, k)) h
 
 takes_so : (c : Cluster) (n : ℕ) (x : UpNode) (from : ℕ) (m : Message) (o : Option AttemptState) → BodyFits m.body → IfSome o AttemptFits → UpFits c n x → PlanFits c n (members.on_answer c n x from m o)
 takes_so c n x from m None f g h = h
 takes_so c n x from m (Some a) f g h = goes_on c n x (turn a (Take from m)) (turn_fits a (Take from m) tt f g) h
 
-body_so : (c : Cluster) (n : ℕ) (x : UpNode) (from : ℕ) (m : Message) (b : Body) → m.body ≡ b → IsNode from → BodyFits m.body → BodyFits b → UpFits c n x → PlanFits c n (members.on_body c n x from m b)
-body_so c n x from m (body.Heartbeat promised session member) e is whole f h = beats_so c n x from session member is h
-body_so c n x from m (body.Collect p members) e is whole f h = collects_so c n x from p is f.0.0 h
-body_so c n x from m (body.Promise p installed members valid flagged committed pending) e is whole f h = takes_so c n x from m x.attempt whole h.own h
-body_so c n x from m (body.Nack p promised) e is whole f h = takes_so c n x from m x.attempt whole h.own h
-body_so c n x from m (body.SeizeQuorum p members d) e is whole f h = seizes_so c n x from Vote p members d is f.0.0 f.0.2 h
-body_so c n x from m (body.SeizeData p members d) e is whole f h = seizes_so c n x from Plain p members d is f.0.0 f.0.2 h
-body_so c n x from m (body.Seized p d outcome) e is whole f h = takes_so c n x from m x.attempt whole h.own h
-body_so c n x from m (body.Install i) e is whole f h = installs_so c n x from i is f h
-body_so c n x from m (body.Ready p joined report) e is whole f h = takes_so c n x from m x.attempt whole h.own h
-body_so c n x from m (body.Start p) e is whole f h = sits_as c n x p x.seat h.state h
-body_so c n x from m (body.Prepare p place text) e is whole f h = h
-body_so c n x from m (body.Prepared p place) e is whole f h = h
-body_so c n x from m (body.Commit p place) e is whole f h = h
-body_so c n x from m (body.Order o) e is whole f h = h
-body_so c n x from m (body.Done p number outcome) e is whole f h = h
-body_so c n x from m (body.Request p number text) e is whole f h = h
-body_so c n x from m (body.Answer p number text) e is whole f h = h
-body_so c n x from m (body.Excluded p newest) e is whole f h = either_fits c n (is_in x p) (Falls _) (Stays x) tt h
+body_so : (c : Cluster) (n : ℕ) (x : UpNode) (from : ℕ) (m : Message) (b : Body) → m.body ≡ b → IsNode n → IsNode from → BodyFits m.body → BodyFits b → UpFits c n x
+    → PlanFits c n (members.on_body c n x from m b)
+body_so c n x from m (body.Heartbeat promised session member) e own is whole f h = beats_so c n x from session member is h
+body_so c n x from m (body.Collect p members) e own is whole f h = collects_so c n x from p is f.0 h
+body_so c n x from m (body.Promise p installed members valid flagged committed pending) e own is whole f h = takes_so c n x from m x.attempt whole h.own h
+body_so c n x from m (body.Nack p promised) e own is whole f h = takes_so c n x from m x.attempt whole h.own h
+body_so c n x from m (body.SeizeQuorum p members d) e own is whole f h = seizes_so c n x from Vote p members d is f.0 f.2 h
+body_so c n x from m (body.SeizeData p members d) e own is whole f h = seizes_so c n x from Plain p members d is f.0 f.2 h
+body_so c n x from m (body.Seized p d outcome) e own is whole f h = takes_so c n x from m x.attempt whole h.own h
+body_so c n x from m (body.Install i) e own is whole f h = installs_so c n x from i is f h
+body_so c n x from m (body.Ready p joined report) e own is whole f h = takes_so c n x from m x.attempt whole h.own h
+body_so c n x from m (body.Start p) e own is whole f h = sits_as c n x p x.seat h.state h
+body_so c n x from m (body.Prepare p place text) e own is whole f h = prepare_so c n x from p place text x.seat is f.0 f.1 h.state h
+body_so c n x from m (body.Prepared p place) e own is whole f h = prepared_so c n x from p place own h
+body_so c n x from m (body.Commit p place) e own is whole f h = commit_so c n x p place x.seat h.state h
+body_so c n x from m (body.Order o) e own is whole f h = h
+body_so c n x from m (body.Done p number outcome) e own is whole f h = h
+body_so c n x from m (body.Request p number text) e own is whole f h = asked_so c n x from p number text own is f.1 h
+body_so c n x from m (body.Answer p number text) e own is whole f h = reply_so c n x p number (answer_in text) own h
+body_so c n x from m (body.Excluded p newest) e own is whole f h = either_fits c n (is_in x p) (Falls _) (Stays x) tt h
 
-packet_so : (c : Cluster) (n : ℕ) (x : UpNode) (from : ℕ) (m : Message) → IsNode from → BodyFits m.body → UpFits c n x → PlanFits c n (members.on_packet c n x from m)
-packet_so c n x from m is f h =
-    either_fits c n (is_foreign c n m.body) (Stays x) (members.on_body c n (hearing x from m.body) from m m.body) h (body_so c n (hearing x from m.body) from m m.body refl is f f h)
+packet_so : (c : Cluster) (n : ℕ) (x : UpNode) (from : ℕ) (m : Message) → IsNode n → IsNode from → BodyFits m.body → UpFits c n x → PlanFits c n (members.on_packet c n x from m)
+packet_so c n x from m own is f h =
+    either_fits c n (is_foreign c n x m.body) (Stays x) (members.on_body c n (hearing x from m.body) from m m.body) h
+    (body_so c n (hearing x from m.body) from m m.body refl own is f f h)
 
 -- Devices.
 
@@ -318,21 +335,12 @@ own_seized_so : (c : Cluster) (n : ℕ) (x : UpNode) (d : ℕ) (result : SeizeRe
 own_seized_so c n x d result None f g h = h
 own_seized_so c n x d result (Some a) f g h = goes_on c n x (turn a (Own_seized d result)) (turn_fits a (Own_seized d result) tt f g) h
 
--- the coordinator of a session is a node
-numbered_is_node : (n : ℕ) → IfSome (node_numbered n) IsNode
-numbered_is_node n =
-    if_with (λ o. IfSome o IsNode) (nat_le 1 n && nat_le n 32) (nat_le 1 n && nat_le n 32) (Some n) None refl
-    (λ e. let two : (nat_le 1 n ≡ true) × (nat_le n 32 ≡ true) = and_cases (nat_le 1 n) (nat_le n 32) e in (at_most 1 n two.0, at_most n 32 two.1)) (λ e. tt)
-  where
-    at_most : (a b : ℕ) → nat_le a b ≡ true → a ≤ b
-    at_most a b h = grind arith
-
 seized_so : (c : Cluster) (n : ℕ) (x : UpNode) (d : ℕ) (result : SeizeResult) (o : Option ℕ) → IsDevice d → FitsResult result → IfSome o IsNode → UpFits c n x
     → PlanFits c n (devices.seized_for c n x d result o)
 seized_so c n x d result None device f is h = h
 seized_so c n x d result (Some coordinator) device f is h =
     either_fits c n (coordinator == n) _ _ (own_seized_so c n x d result x.attempt f h.own h)
-    (answers c n coordinator (body.Seized (session_of x) d result) x is.0 ((h.state.session, device, f), tt) h)
+    (answers c n coordinator (body.Seized (session_of x) d result) x is.0 (h.state.session, device, f) h)
 
 joined_so : (c : Cluster) (n : ℕ) (x : UpNode) (o : Option ℕ) → IfSome o IsNode → UpFits c n x → PlanFits c n (devices.joined_for c n x o)
 joined_so c n x None is h = h
@@ -342,13 +350,13 @@ joins_so : (c : Cluster) (n : ℕ) (x : UpNode) (d : ℕ) (result : JoinResult) 
 joins_so c n x d join.Joined device h =
     let y : UpNode = joining_so x d in
     let k : UpFits c n y = with_state_fits c n x _ (joined_fits (state_of x.seat) d device h.state) h in
-    keeps c n y _ k (joined_so c n y (coordinator_of y) (numbered_is_node (session_of y % 64)) k)
-joins_so c n x d (join.Late w) device h = joined_so c n x (coordinator_of x) (numbered_is_node (session_of x % 64)) h
-joins_so c n x d join.Fault device h = joined_so c n x (coordinator_of x) (numbered_is_node (session_of x % 64)) h
+    keeps c n y _ k (joined_so c n y (coordinator_of y) (coordinator_is_node y) k)
+joins_so c n x d (join.Late w) device h = joined_so c n x (coordinator_of x) (coordinator_is_node x) h
+joins_so c n x d join.Fault device h = joined_so c n x (coordinator_of x) (coordinator_is_node x) h
 
 progress_so : (c : Cluster) (n : ℕ) (x : UpNode) (p : Progress) → ProgressFits p → UpFits c n x → PlanFits c n (devices.on_progress c n x p)
 progress_so c n x progress.GoesOn f h = h
-progress_so c n x (progress.Seized d result) f h = seized_so c n x d result (coordinator_of x) f.0 f.1 (numbered_is_node (session_of x % 64)) h
+progress_so c n x (progress.Seized d result) f h = seized_so c n x d result (coordinator_of x) f.0 f.1 (coordinator_is_node x) h
 progress_so c n x (progress.Joined d result) f h = joins_so c n x d result f h
 
 answered_so : (c : Cluster) (n : ℕ) (x : UpNode) (a : Answer) (o : Option ℕ) (p : Option PrCommand) → AnswerFits a → UpFits c n x → PlanFits c n (devices.answered_with c n x a o p)
@@ -368,7 +376,8 @@ pub steps_keep_widths : StepsKeepWidths
 steps_keep_widths c n x input.Boot are is h f = h
 steps_keep_widths c n x input.Crash are is h f = tt
 steps_keep_widths c n x input.Tick are is h f = ticks_so c n x are is h
-steps_keep_widths c n x (input.Packet from m) are is h f = packet_so c n x from m f.0 f.1 h
+steps_keep_widths c n x (input.Packet from m) are is h f = packet_so c n x from m is f.0 f.1 h
 steps_keep_widths c n x input.CommandDue are is h f = distrusts c n x (begins_plainly x.tasks) h
 steps_keep_widths c n x (input.Answered a) are is h f = answered_so c n x a (due_device x.tasks) (next_of x.tasks) f h
 steps_keep_widths c n x (input.Wrote d value a) are is h f = (tt, written c n x d value a h)
+steps_keep_widths c n x (input.Commanded words) are is h f = command_so c n x words is h

@@ -3,4 +3,10 @@ pub mod Tasks
 pub mod Attempts
 pub mod Turns
 pub mod Nodes
+pub mod Queues
+pub mod Rooms
+pub mod Presidents
+pub mod Requests
+pub mod Updates
 pub mod Handlers
+pub mod Lengths

@@ -1,13 +1,17 @@
 -- Sets keep their widths.
-use Rattle.std.specs.Prelude.{ℕ, zero, suc, ◌-◌, ◌^◌, ◌≤◌, ◌<◌, Bool}
+use Rattle.std.specs.Prelude.{ℕ, zero, suc, ◌-◌, ◌^◌, ◌≤◌, ◌<◌, Bool, List, [], ◌∷◌, fold, if◌then◌else◌}
+use Rattle.std.specs.List.{AllByRecursion}
 use Rattle.std.specs.Int.Bits.{and_le_l}
 use Rattle.std.proofs.Common.{arith}
 use Rattle.std.proofs.Math.Pow.{pow-lt}
 use Rattle.std.proofs.lemmas.Nat.{or_lt}
 use Rattle.cl_base.specs.Sets.{set_with, set_without}
+use Rattle.cmm_attempt.specs.declared.seizing.Seizing.{Seizing}
+use Rattle.cmm_attempt.specs.Seizings.{held_set, is_held_by}
 use Rattle.cmm_attempt.proofs.Basics.{if_either}
 use Rattle.heartbeats.specs.Views.{set_where}
 use Rattle.wire.specs.Spelling.{IsDevice, IsDevices, IsNodes}
+use Rattle.node_widths.specs.Widths.{SeizingFits}
 
 node_with : (s n : ℕ) → IsNodes s → n ≤ 32 → IsNodes (set_with s n)
 unfolding set_with
@@ -23,6 +27,21 @@ lower x y z le lt = omega (arith, le, lt)
 pub device_without : (s d : ℕ) → IsDevices s → IsDevices (set_without s d)
 unfolding set_without
 device_without s d h = lower (set_without s d) s (2 ^ 16) (and_le_l s (2 ^ 32 - 1 - 2 ^ (d - 1))) h
+
+pub nodes_without : (s n : ℕ) → IsNodes s → IsNodes (set_without s n)
+unfolding set_without
+nodes_without s n h = lower (set_without s n) s (2 ^ 32) (and_le_l s (2 ^ 32 - 1 - 2 ^ (n - 1))) h
+
+held_from : (start : ℕ) (es : List Seizing) → IsDevices start → AllByRecursion SeizingFits es
+    → IsDevices (fold (λ set (e : Seizing). if is_held_by e.result then set_with set e.attached.device else set) start es)
+held_from start [] h all = h
+held_from start (e ∷ es) h all =
+    held_from (if is_held_by e.result then set_with start e.attached.device else start) es
+    (if_either IsDevices (is_held_by e.result) (set_with start e.attached.device) start (device_with start e.attached.device h all.0.0) h) all.1
+
+-- the devices that are held
+pub held_fits : (es : List Seizing) → AllByRecursion SeizingFits es → IsDevices (held_set es)
+held_fits es all = held_from 0 es (omega arith) all
 
 pub nodes_where : (test : ℕ → Bool) (k : ℕ) → k ≤ 32 → IsNodes (set_where test k)
 nodes_where test zero h = omega arith

@@ -70,8 +70,8 @@ sent_fit sender b [] f h = tt
 sent_fit sender b (n ∷ ns) f h = ((h.0, f), sent_fit sender b ns f h.1)
 
 request_body_fits : (plan : Plan) (kind : SeizeKind) (d : ℕ) → IsWord plan.epoch → IsNodes plan.members → IsDevice d → BodyFits (request_body plan kind d)
-request_body_fits plan Vote d epoch members is = ((epoch, members, is), tt)
-request_body_fits plan Plain d epoch members is = ((epoch, members, is), tt)
+request_body_fits plan Vote d epoch members is = (epoch, members, is)
+request_body_fits plan Plain d epoch members is = (epoch, members, is)
 
 request_fits : (plan : Plan) (kind : SeizeKind) (d n : ℕ) → IsWord plan.epoch → IsNodes plan.members → IsDevice d → IsNode n → StepFits (request plan kind d n)
 request_fits plan kind d n epoch members is node =
@@ -109,7 +109,7 @@ silent_nodes : (s : AttemptState) → AttemptFits s → AllByRecursion IsNode (s
 silent_nodes s h = some_nodes _ s.plan.nodes h.nodes
 
 collects_fit : (s : AttemptState) → AttemptFits s → AllSteps (collects s)
-collects_fit s h = sent_fit s.plan.coordinator (body.Collect s.plan.epoch s.plan.members) (silent_others s) ((h.epoch, h.members), tt) (silent_nodes s h)
+collects_fit s h = sent_fit s.plan.coordinator (body.Collect s.plan.epoch s.plan.members) (silent_others s) (h.epoch, h.members) (silent_nodes s h)
 
 installs_fit : (s : AttemptState) → AttemptFits s → AllSteps (installs s)
 installs_fit s h = sent_fit s.plan.coordinator (body.Install (install_in s)) (silent_others s) (install_fits s h) (silent_nodes s h)
@@ -209,7 +209,7 @@ good_walk c fits =
       installing = λ s at e k. (W.installing s at e k, tt);
       starts = λ s at e k. (
         W.starts s at e k,
-        (tt, sent_fit s.plan.coordinator (body.Start s.plan.epoch) (others_of s.plan) (k.epoch, tt) (some_nodes _ s.plan.nodes k.nodes)),
+        (tt, sent_fit s.plan.coordinator (body.Start s.plan.epoch) (others_of s.plan) k.epoch (some_nodes _ s.plan.nodes k.nodes)),
       );
     }
 

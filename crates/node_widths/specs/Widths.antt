@@ -1,6 +1,8 @@
--- Numbers and sets keep their widths in all that a node keeps, is given, and sends. No update is made yet: no text stands in a record or a message.
-use Rattle.std.specs.Prelude.{ℕ, ◌≡◌, ◌≤◌, All, IfSome, List, [], ◌∷◌, Option, None, Ok, length}
+-- Numbers and sets keep their widths in all that a node keeps, is given, and sends. Texts have none: how long they are tells alone
+-- whether a message is sent.
+use Rattle.std.specs.Prelude.{ℕ, ◌≡◌, ◌≤◌, ◌++◌, All, IfSome, List, [], ◌∷◌, Option, Ok, length}
 use Rattle.std.specs.List.{AllByRecursion}
+use Rattle.ccr_commit.specs.Entries.{listed, texts_of}
 use Rattle.cmm_attempt.specs.declared.plan.Plan.{Plan}
 use Rattle.cmm_attempt.specs.declared.promised.Promised.{Promised}
 use Rattle.cmm_attempt.specs.declared.seizing.Seizing.{Seizing}
@@ -12,12 +14,19 @@ use Rattle.device_queue.specs.declared.task.Task.{Task}
 use Rattle.device_queue.specs.declared.task.Work.{Work}
 use Rattle.device_queue.specs.declared.task.Work.TheVariants as work
 use Rattle.pgr_device.specs.declared.command.PrAnswer.TheVariants as given
+use Rattle.proposals.specs.State.{State}
+use Rattle.proposals.specs.declared.arrived.Arrived.{Arrived}
+use Rattle.proposals.specs.declared.arrived.Kept.{Kept}
+use Rattle.proposals.specs.declared.arrived.Proposed.{Proposed}
+use Rattle.request_queue.specs.Queue.{Queue}
+use Rattle.request_queue.specs.declared.request.Request.{Request}
 use Rattle.seize.specs.Answers.{Answer}
 use Rattle.seize.specs.declared.step.SeizeStep.{SeizeStep}
 use Rattle.seize.specs.declared.step.SeizeStep.TheVariants as seize
 use Rattle.wire.specs.declared.message.Body.{Body}
 use Rattle.wire.specs.declared.message.Body.TheVariants as body
-use Rattle.wire.specs.Spelling.{FitsBody, FitsResult, IsDevice, IsDevices, IsNode, IsNodes, IsShortList, IsWord}
+use Rattle.wire.specs.declared.message.Message.{Message}
+use Rattle.wire.specs.Spelling.{Fits, FitsBody, FitsReading, FitsResult, IsDevice, IsDevices, IsNode, IsNodes, IsShortList, IsWord, spelling}
 use Rattle.node_model.specs.declared.cluster.Cluster.{Cluster}
 use Rattle.node_model.specs.declared.input.Input.{Input}
 use Rattle.node_model.specs.declared.input.Input.TheVariants.{Answered, Packet}
@@ -26,18 +35,28 @@ use Rattle.node_model.specs.declared.node.Node.TheVariants.{Down, Up}
 use Rattle.node_model.specs.declared.node.UpNode.{UpNode}
 use Rattle.node_model.specs.declared.output.Output.{Output}
 use Rattle.node_model.specs.declared.output.Output.TheVariants.{Tells, Sends}
+use Rattle.node_model.specs.declared.presidency.Presidency.{Presidency}
 use Rattle.node_model.specs.Seats.{state_of}
 
 -- Messages.
 
-abbrev pub HasNoText : Body → Type 0
-HasNoText (body.Promise epoch installed members valid flagged committed pending) = (committed ≡ []) × (pending ≡ None)
-HasNoText (body.Install i) = (i.committed ≡ []) × (i.pending ≡ None)
-HasNoText _ = Unit {0}
+-- updates have places of 64 bits, which count from 1
+abbrev pub PlacesFit : List (List ℕ) → Option (List ℕ) → Type 0
+PlacesFit committed pending = IsWord (length (committed ++ listed pending))
 
--- it can be spelled, and has no text
+-- its numbers and sets have their widths, and so has all else but texts
 abbrev pub BodyFits : Body → Type 0
-BodyFits b = FitsBody b × HasNoText b
+BodyFits (body.Promise epoch installed members valid flagged committed pending) =
+    IsWord epoch × IsWord installed × IsNodes members × IsDevices valid × PlacesFit committed pending
+BodyFits (body.Install i) = IsWord i.epoch × IsNodes i.members × PlacesFit i.committed i.pending × IsShortList FitsReading i.readings
+BodyFits (body.Prepare epoch place text) = IsWord epoch × IsWord place
+BodyFits (body.Request epoch number text) = IsWord epoch × IsWord number
+BodyFits (body.Answer epoch number text) = IsWord epoch × IsWord number
+BodyFits b = FitsBody b
+
+-- so it can be spelled, if it is no longer than a packet; a longer one is not sent
+abbrev pub SentMessagesFit : Type 0
+SentMessagesFit = (m : Message) → IsNode m.sender → BodyFits m.body → length (spelling m) ≤ 131072 → Fits m
 
 -- What happens to a node.
 
@@ -59,8 +78,7 @@ pub record RecordFits (r : NodeRecord) : Type 0 where
   pub installed : IsWord r.installed
   pub members : IsNodes r.members
   pub valid : IsDevices r.valid
-  pub committed : r.entries.committed ≡ []
-  pub pending : r.entries.pending ≡ None
+  pub places : IsWord (length (texts_of r.entries))
 
 pub record StateFits (s : NodeState) : Type 0 where
   pub session : IsWord s.session
@@ -105,22 +123,51 @@ pub record PartsFit (plan : Plan) (promises : List Promised) (devices : List Sei
 abbrev pub AttemptFits : AttemptState → Type 0
 AttemptFits a = PartsFit a.plan a.promises a.devices
 
+-- Requests.
+
+abbrev pub RequestFits : Request → Type 0
+RequestFits r = IsWord r.number
+
+-- the number of what was asked last, and what waits
+abbrev pub QueueFits : Queue → Type 0
+QueueFits q = IsWord q.asked × AllByRecursion RequestFits q.waiting
+
+-- a request that has come to the president
+abbrev pub ArrivedFits : Arrived → Type 0
+ArrivedFits a = IsNode a.from × IsWord a.number
+
+abbrev pub ProposedFits : Proposed → Type 0
+ProposedFits p = IsWord p.place × IsNodes p.missing
+
+-- the answer to a node, if there was one
+abbrev pub KeptFits : Option Kept → Type 0
+KeptFits o = IfSome o (λ (k : Kept). IsWord k.number)
+
+abbrev pub ProposalsFit : State → Type 0
+ProposalsFit s = AllByRecursion ArrivedFits s.arrived × IfSome s.proposed ProposedFits × All KeptFits s.answers
+
+abbrev pub PresidencyFits : Presidency → Type 0
+PresidencyFits p = ProposalsFit p.proposals × IsDevices p.held
+
 -- A node.
 
-pub record MemoryFits (c : Cluster) (n : ℕ) (s : NodeState) (tasks : List Task) (attempt : Option AttemptState) (view : Option ℕ) : Type 0 where
+pub record MemoryFits (c : Cluster) (n : ℕ) (s : NodeState) (tasks : List Task) (attempt : Option AttemptState) (view : Option ℕ) (requests : Queue)
+    (office : Option Presidency) : Type 0 where
   pub state : StateFits s
   pub all_tasks : AllByRecursion (TaskFits c n) tasks
   pub own : IfSome attempt AttemptFits
   pub seen : IfSome view IsNodes
+  pub asked : QueueFits requests
+  pub presides : IfSome office PresidencyFits
 
 abbrev pub UpFits : Cluster → ℕ → UpNode → Type 0
-UpFits c n x = MemoryFits c n (state_of x.seat) x.tasks x.attempt x.beats.view
+UpFits c n x = MemoryFits c n (state_of x.seat) x.tasks x.attempt x.beats.view x.requests x.presidency
 
 abbrev pub NodeFits : Cluster → ℕ → Node → Type 0
 NodeFits c n Down = Unit {0}
 NodeFits c n (Up x) = UpFits c n x
 
--- What it gives: each message goes to a node from number 1 on, can be spelled, and has no text.
+-- What it gives: each message goes to a node from number 1 on, and has its widths.
 abbrev pub AllFit : List Output → Type 0
 AllFit [] = Unit {0}
 AllFit (Tells e ∷ os) = AllFit os

@@ -1,13 +1,20 @@
-//! Whatever happens to a node, numbers and sets keep their widths in what it keeps, saves and sends, so that each of its messages
-//! can be spelled.
+//! Whatever happens to a node, numbers and sets keep their widths in what it keeps, saves and sends, so that each message that is
+//! sent can be spelled.
 //!
-//! The function here is a law. It has no body, and its contract is proved of every node and every input.
+//! The functions here are laws. They have no body, and their contracts are proved: of every node and every input, and of every
+//! message.
 #![tactic(auto)]
 
 ghost use Rattle.node_widths.specs.Plans.{StepsKeepWidths};
+ghost use Rattle.node_widths.specs.Widths.{SentMessagesFit};
 
-/// Where a node has its widths, and what happens to it too, each message that it sends goes to a node from number 1 on, has its
-/// widths, and no text; so do the records that it saves, and the node after the step. The cluster has at most 16 devices.
+/// Where a node has its widths, and what happens to it too, each message that it sends goes to a node from number 1 on and has its
+/// widths; so do the records that it saves, and the node after the step. The cluster has at most 16 devices.
 pub fn steps_keep_widths()
     ensures { StepsKeepWidths }
+{}
+
+/// A message from a node that has its widths can be spelled, where it is no longer than a packet. A longer one is not sent.
+pub fn sent_messages_fit()
+    ensures { SentMessagesFit }
 {}
