@@ -83,6 +83,7 @@ fn is_foreign_seizing(cluster: &Cluster, me: NodeId, members: NodeSet, device: D
     !members.has(me) || !cluster.has_nodes(members) || !cluster.devices.has(device)
 }
 
+#[tactic(auto, using(crate::proofs::Readings::with_strange_reading, crate::proofs::Readings::with_known_readings))]
 fn is_foreign_install(
     alloc: Global,
     cluster: &Cluster,
@@ -95,8 +96,10 @@ fn is_foreign_install(
     if !i.members.has(me) || !cluster.has_nodes(i.members) {
         return Ok(true);
     }
-    let bad = is_bad_log(alloc, cluster, i.committed.items(), i.pending.as_ref())?;
-    Ok(bad || !knows_readings(cluster, i.readings.items()))
+    if !knows_readings(cluster, i.readings.items()) {
+        return Ok(true);
+    }
+    is_bad_log(alloc, cluster, i.committed.items(), i.pending.as_ref())
 }
 
 fn knows_readings(cluster: &Cluster, readings: &[Reading]) -> bool
