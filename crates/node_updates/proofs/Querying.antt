@@ -1,5 +1,5 @@
 -- What a query is answered that is accepted or refused.
-use Rattle.std.proofs.Common.{◌≡◌, ◌≢◌, ◌⊎◌, ℕ, Bool, false, if◌then◌else◌, List, ◌++◌, inl, inr, ap, subst, sym, ◌∙◌, Some, Result, Ok, Err}
+use Rattle.std.proofs.Common.{◌≡◌, ◌≢◌, ◌⊎◌, ℕ, false, if◌then◌else◌, List, ◌++◌, inl, inr, ap, subst, sym, ◌∙◌, Some, Result, Ok, Err}
 use Rattle.std.specs.Prelude.{IfOk}
 use Rattle.admin_commands.specs.declared.accepted.Accepted.{Accepted}
 use Rattle.admin_commands.specs.declared.error.CheckError.{CheckError}
