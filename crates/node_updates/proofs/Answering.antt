@@ -1,5 +1,5 @@
 -- Where no request has come, none is answered.
-use Rattle.std.proofs.Common.{◌≡◌, ℕ, List, [], ◌∷◌, Option, None, Some, refl, sym}
+use Rattle.std.proofs.Common.{◌≡◌, ℕ, List, [], ◌∷◌, None, refl, sym}
 use Rattle.std.proofs.lemmas.Option.{none-some}
 use Rattle.proposals.specs.Arrivals.{answer_first, answered}
 use Rattle.proposals.specs.State.{State, first_in}

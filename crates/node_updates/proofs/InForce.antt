@@ -1,5 +1,5 @@
 -- The configuration in force where the list of updates makes none.
-use Rattle.std.proofs.Common.{◌≡◌, ℕ, List, Option, None, sym, ap, ◌∙◌}
+use Rattle.std.proofs.Common.{◌≡◌, ℕ, List, None, ap, ◌∙◌}
 use Rattle.std.specs.Option.{unwrap_or}
 use Rattle.cl_base.specs.declared.header.Header.{Header}
 use Rattle.ccr_tables.specs.State.{ConfigState, first_config}

@@ -1,5 +1,9 @@
 -- The plans of a president, by what it has in hand.
-use Rattle.std.specs.Prelude.{ℕ, List, Option, None, Some}
+use Rattle.std.specs.Prelude.{ℕ, ◌≡◌, List, Option, None, Some, Result}
+use Rattle.admin_commands.specs.declared.accepted.Accepted.{Accepted}
+use Rattle.admin_commands.specs.declared.error.CheckError.{CheckError}
+use Rattle.admin_words.specs.declared.error.WordError.{WordError}
+use Rattle.admin_words.specs.declared.request.Request.{Request}
 use Rattle.proposals.specs.State.{first_in, kept_at}
 use Rattle.proposals.specs.declared.arrived.Arrived.{Arrived}
 use Rattle.status_report.specs.declared.command_entry.Answer.{Answer}
@@ -13,7 +17,7 @@ use Rattle.node_model.specs.declared.presidency.Presidency.{Presidency}
 use Rattle.node_model.specs.Entries.{keeping, telling}
 use Rattle.node_model.specs.Plans.{Plan}
 use Rattle.node_model.specs.Plans.Plan.{Stays, Says}
-use Rattle.node_model.specs.Presidents.{answering_first, arriving, committing, kept_again, last_place, others_of, proposed_by, proposing_so, sent_to}
+use Rattle.node_model.specs.Presidents.{answering_first, arriving, committing, kept_again, last_place, others_of, proposed_by, proposing_so, sent_to, taken, taken_as}
 use Rattle.node_model.specs.Seats.{session_of}
 use Rattle.node_updates.specs.declared.verdict.Verdict.{Verdict}
 use Rattle.node_updates.specs.declared.verdict.Verdict.TheVariants as verdict
@@ -36,6 +40,14 @@ proposing_by me x text (Some p) = proposing_so me x text (proposed_by me x p tex
 abbrev pub following : ℕ → UpNode → Presidency → Arrived → Verdict → Plan
 following me x p a (verdict.Propose text) = proposing_so me x text (proposed_by me x p text)
 following me x p a (verdict.Answer told) = answering_first me x p a told
+
+-- the verdict is what the plan makes of a command that is accepted or refused so, whoever asks
+abbrev pub Decides : UpNode → Presidency → Result Accepted CheckError → Verdict → Type 0
+Decides x p answered v = (me : ℕ) (a : Arrived) → taken_as me x p a answered ≡ following me x p a v
+
+-- .. and what it makes of a request that is read so
+abbrev pub Judges : Cluster → UpNode → Presidency → Result Request WordError → Verdict → Type 0
+Judges c x p request v = (me : ℕ) (a : Arrived) → taken c me x p a request ≡ following me x p a v
 
 -- what is pending is committed and saved, and only then told; the first request is answered last
 abbrev pub acknowledging_then : ℕ → UpNode → List ℕ → Plan

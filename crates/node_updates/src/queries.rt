@@ -7,11 +7,11 @@ ghost use Rattle.node_model.specs.declared.stop.Stop.TheVariants.{NoMemory};
 ghost use Rattle.node_model.specs.Entries.{replying};
 ghost use Rattle.node_model.specs.Plans.{Gives};
 ghost use Rattle.node_model.specs.Plans.Plan.{Says};
-ghost use Rattle.node_model.specs.Presidents.{answering_query, query_told, told_lines};
+ghost use Rattle.node_model.specs.Presidents.{told_lines};
 ghost use Rattle.node_model.specs.declared.node.UpNode.{UpNode};
 ghost use Rattle.node_model.specs.Requests.{elsewhere, queried};
 ghost use Rattle.node_model.specs.Seats.{coordinator_of};
-ghost use Rattle.node_updates.specs.Queries.{telling_so};
+ghost use Rattle.node_updates.specs.Queries.{IsTold, IsToldOf};
 
 use crate::checks::{checked, config_in_force};
 use crate::requests::coordinator;
@@ -102,7 +102,7 @@ fn told_of(
     presidency: &Presidency,
     command: AdminCommand,
 ) -> Result<Told, Stop>
-    ensures plan { IfOk result (λ told. (me number : ℕ) → answering_query cluster.now me up.now presidency.now number command ≡ telling_so me number up.now told) }
+    ensures plan { IfOk result (IsTold cluster.now up.now presidency.now command) }
     ensures only { IfErr result (λ e. e ≡ NoMemory) }
 {
     let config = config_in_force(alloc, cluster, up)?;
@@ -120,7 +120,7 @@ fn accepted_told(
     config: &Config,
     accepted: Accepted,
 ) -> Result<Told, Stop>
-    ensures plan { IfOk result (λ told. (me number : ℕ) → query_told me up.now number config.now held (Ok accepted) ≡ telling_so me number up.now told) }
+    ensures plan { IfOk result (IsToldOf up.now config.now held (Ok accepted)) }
     ensures only { IfErr result (λ e. e ≡ NoMemory) }
 {
     match accepted {
@@ -139,7 +139,7 @@ fn accepted_told(
 }
 
 fn refused_told(e: CheckError) -> Result<Told, Stop>
-    ensures plan { IfOk result (λ told. (me number held : ℕ) (x : UpNode) (s : ConfigState) → query_told me x number s held (Err e) ≡ telling_so me number x told) }
+    ensures plan { IfOk result (λ told. (x : UpNode) (s : ConfigState) (held : ℕ) → IsToldOf x s held (Err e) told) }
     ensures memory { IfOk result (λ _. e ≢ because.NoMemory) }
     ensures only { IfErr result (λ e. e ≡ NoMemory) }
 {

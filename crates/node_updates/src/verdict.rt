@@ -1,15 +1,14 @@
 // The president's verdict on a request.
-ghost use Rattle.std.specs.Prelude.{◌≡◌, ◌≢◌, ℕ, Ok, Err, IfOk, IfErr};
-ghost use Rattle.proposals.specs.declared.arrived.Arrived.{Arrived};
+ghost use Rattle.std.specs.Prelude.{◌≡◌, ◌≢◌, Ok, Err, IfOk, IfErr};
 ghost use Rattle.admin_commands.specs.declared.error.CheckError.TheVariants as because;
 ghost use Rattle.admin_words.specs.Commands.{request_of};
 ghost use Rattle.admin_words.specs.declared.error.WordError.TheVariants as word;
 ghost use Rattle.node_model.specs.declared.node.UpNode.{UpNode};
 ghost use Rattle.node_model.specs.declared.presidency.Presidency.{Presidency};
 ghost use Rattle.node_model.specs.declared.stop.Stop.TheVariants.{NoMemory};
-ghost use Rattle.node_model.specs.Presidents.{checked, taken, taken_as, word_answer};
+ghost use Rattle.node_model.specs.Presidents.{checked, word_answer};
 ghost use Rattle.node_model.specs.Seats.{version_of};
-ghost use Rattle.node_updates.specs.Presidents.{following};
+ghost use Rattle.node_updates.specs.Presidents.{Decides, Judges};
 
 use crate::checks::checked_in_force;
 use admin_commands::{Accepted, CheckError};
@@ -38,7 +37,7 @@ pub fn decide(
     presidency: &Presidency,
     text: &Bytes,
 ) -> Result<Verdict, Stop>
-    ensures plan { IfOk result (λ v. (me : ℕ) (a : Arrived) → taken cluster.now me up.now presidency.now a (request_of (version_of cluster.now) text.now) ≡ following me up.now presidency.now a v) }
+    ensures plan { IfOk result (Judges cluster.now up.now presidency.now (request_of (version_of cluster.now) text.now)) }
     ensures only { IfErr result (λ e. e ≡ NoMemory) }
 {
     match parse_request(alloc, cluster.header.get().version, text.items()) {
@@ -59,7 +58,7 @@ fn decide_on(
     presidency: &Presidency,
     command: AdminCommand,
 ) -> Result<Verdict, Stop>
-    ensures plan { IfOk result (λ v. (me : ℕ) (a : Arrived) → taken_as me up.now presidency.now a (checked cluster.now up.now presidency.now command) ≡ following me up.now presidency.now a v) }
+    ensures plan { IfOk result (Decides up.now presidency.now (checked cluster.now up.now presidency.now command)) }
     ensures only { IfErr result (λ e. e ≡ NoMemory) }
 {
     match checked_in_force(alloc, cluster, up, presidency, command) {
@@ -70,7 +69,7 @@ fn decide_on(
 
 /// What is no update is done at once: no group runs, so that there is nothing to do.
 fn accepted_so(alloc: Global, accepted: Accepted) -> Result<Verdict, Stop>
-    ensures plan { IfOk result (λ v. (me : ℕ) (x : UpNode) (p : Presidency) (a : Arrived) → taken_as me x p a (Ok accepted) ≡ following me x p a v) }
+    ensures plan { IfOk result (λ v. (x : UpNode) (p : Presidency) → Decides x p (Ok accepted) v) }
     ensures only { IfErr result (λ e. e ≡ NoMemory) }
 {
     match accepted {
@@ -80,7 +79,7 @@ fn accepted_so(alloc: Global, accepted: Accepted) -> Result<Verdict, Stop>
 }
 
 fn refused_so(e: CheckError) -> Result<Verdict, Stop>
-    ensures plan { IfOk result (λ v. (me : ℕ) (x : UpNode) (p : Presidency) (a : Arrived) → taken_as me x p a (Err e) ≡ following me x p a v) }
+    ensures plan { IfOk result (λ v. (x : UpNode) (p : Presidency) → Decides x p (Err e) v) }
     ensures only { IfErr result (λ e. e ≡ NoMemory) }
     ensures memory { IfOk result (λ _. e ≢ because.NoMemory) }
 {

@@ -1,4 +1,4 @@
-use Rattle.std.proofs.Common.{rules, ◌∙◌}
+use Rattle.std.proofs.Common.{rules}
 use Rattle.node_updates.proofs.InForce.{first_in_force}
 use Rattle.node_updates.proofs.checks.config_in_force.Goals as goal
 
