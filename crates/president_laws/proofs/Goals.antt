@@ -27,7 +27,7 @@ use Rattle.president_laws.specs.Laws.{GoalsFollowTheRule, GoalsStay, GroupsBegin
 
 -- A goal that is set is the group's, and no other group's changes.
 
-goal_same : (goals : List (List ℕ × ℕ)) (name : List ℕ) (set : ℕ) → goal_of (goals_with goals name set) name ≡ set
+pub goal_same : (goals : List (List ℕ × ℕ)) (name : List ℕ) (set : ℕ) → goal_of (goals_with goals name set) name ≡ set
 goal_same [] name set = rw (texts_pass name name refl) refl
 goal_same (e ∷ es) name set = by (bytes_eq name e.0) refl (goal_same es name set)
   where
@@ -35,7 +35,7 @@ goal_same (e ∷ es) name set = by (bytes_eq name e.0) refl (goal_same es name s
     by true is ih = rw (is, texts_pass name name refl) refl
     by false is ih = rw (is, is) ih
 
-goal_other : (goals : List (List ℕ × ℕ)) (name : List ℕ) (set : ℕ) (other : List ℕ) → bytes_eq name other ≡ false → goal_of (goals_with goals name set) other ≡ goal_of goals other
+pub goal_other : (goals : List (List ℕ × ℕ)) (name : List ℕ) (set : ℕ) (other : List ℕ) → bytes_eq name other ≡ false → goal_of (goals_with goals name set) other ≡ goal_of goals other
 goal_other [] name set other apart = rw (text_flips other name ∙ apart) refl
 goal_other (e ∷ es) name set other apart = by (bytes_eq name e.0) refl (goal_other es name set other apart)
   where

@@ -1,0 +1,6 @@
+pub mod States
+pub mod Managed
+pub mod Same
+pub mod Done
+pub mod Asked
+pub mod Decided
