@@ -4,7 +4,7 @@ ghost use Rattle.pgr_device.specs.Keys.{HasNoZeroKey};
 ghost use Rattle.node_model.specs.Devices.{joined_all, joined_here, on_answer_of_device, on_progress, seized_here};
 ghost use Rattle.node_model.specs.Plans.{Follows};
 
-use crate::told::{coordinator, told_answer, word_in};
+use crate::told::{coordinator, greatest_of, told_answer, word_in};
 use cl_base::{DevId, NodeId};
 use device_queue::Progress;
 use node_attempts::{go_on, own_ready};
@@ -39,7 +39,7 @@ pub fn take_device_answer<K: RecordDisk>(
         answer: told_answer(&answer),
     };
     tell(out, Entry::Device(entry))?;
-    up.greatest = up.greatest.max(word_in(&answer));
+    up.greatest = greatest_of(up.greatest, word_in(&answer));
     let progress = up.tasks.take_answer(answer);
     take_progress(alloc, cluster, me, disk, up, progress, out)
 }

@@ -1,5 +1,5 @@
 // What answers tell.
-ghost use Rattle.std.specs.Prelude.{◌≡◌, ◌%◌};
+ghost use Rattle.std.specs.Prelude.{◌≡◌, ◌%◌, max};
 ghost use Rattle.node_model.specs.Devices.{answer_told, word_in};
 ghost use Rattle.node_model.specs.Seats.{node_numbered};
 
@@ -32,4 +32,11 @@ pub(crate) fn word_in(answer: &Result<PrAnswer, Failed>) -> Epoch
         Ok(PrAnswer::Word(word) | PrAnswer::Miscompare(word)) => Epoch::from_number(*word),
         _ => Epoch::zero(),
     }
+}
+
+/// The greater of the two.
+pub(crate) fn greatest_of(a: Epoch, b: Epoch) -> Epoch
+    ensures { result ≡ max a b }
+{
+    a.max(b)
 }
