@@ -1,2 +1,4 @@
+pub mod Again
 pub mod Hearing
 pub mod Heartbeats
+pub mod Known

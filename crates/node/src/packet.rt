@@ -5,6 +5,7 @@ ghost use Rattle.node_model.specs.Members.{beat_in, hearing, is_foreign, on_answ
 ghost use Rattle.node_model.specs.Plans.{Follows, Gives};
 ghost use Rattle.node.specs.Due.{HearsUp};
 ghost use Rattle.node.specs.Updates.{on_update};
+ghost use Rattle.node_members.specs.Strangers.{names_strangers};
 
 use cl_base::{DevId, Epoch, NodeId, NodeSet, Panic};
 use heartbeats::Beat;
@@ -19,6 +20,7 @@ use std::alloc::{AllocError, Global};
 use wire::{Body, Message};
 
 /// The node is delivered a message. A foreign one changes nothing.
+#[tactic(auto, using(crate::proofs::Known::known))]
 pub fn take_packet<K: RecordDisk>(
     alloc: Global,
     cluster: &Cluster,
@@ -49,7 +51,7 @@ fn take_message<K: RecordDisk>(
     m: &Message,
     out: &mut Vec<Output>,
 ) -> Result<UpNode, Stop>
-    requires few { HasFewKeys m.now.body }
+    requires own { names_strangers cluster.now me m.now.body ≡ false }
     ensures { Follows K.saving (on_body cluster.now me up from m.now m.now.body) out.old.items disk.old result out.new.items disk.new }
 {
     match &m.body {
@@ -84,7 +86,13 @@ fn take_message<K: RecordDisk>(
         Body::Install(i) => take_install(alloc, cluster, me, disk, up, from, i, out),
         Body::Start { epoch } => take_start(alloc, me, disk, up, *epoch, out),
         Body::Excluded { epoch, newest } => take_excluded(up, *epoch, *newest),
-        _ => take_update(alloc, cluster, me, disk, up, from, &m.body, out),
+        Body::Request { .. }
+        | Body::Prepare { .. }
+        | Body::Prepared { .. }
+        | Body::Commit { .. }
+        | Body::Answer { .. }
+        | Body::Order(_)
+        | Body::Done { .. } => take_update(alloc, cluster, me, disk, up, from, &m.body, out),
     }
 }
 
