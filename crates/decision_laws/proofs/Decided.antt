@@ -28,7 +28,7 @@ use Rattle.decision_laws.proofs.Same.{KeepsOrders, after_set, own_after}
 use Rattle.decision_laws.proofs.States.{ended_keeps}
 
 -- the goals change no flag
-goals_keep : (c : ConfigState) (now : ℕ) (p : PresidentState) → KeepsOrders p.view (with_goals_of c now p).view
+pub goals_keep : (c : ConfigState) (now : ℕ) (p : PresidentState) → KeepsOrders p.view (with_goals_of c now p).view
 unfolding goals_set with_goals with_ended with_decided with_listed
 goals_keep c now p = record {
   members = refl;

@@ -4,3 +4,5 @@ pub mod Same
 pub mod Done
 pub mod Asked
 pub mod Decided
+pub mod Ordering
+pub mod Quiet

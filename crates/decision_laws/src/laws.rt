@@ -1,4 +1,7 @@
+ghost use Rattle.decision_laws.specs.Quiet.{QuietGoalsAreSettled, QuietHasNoCalls};
 ghost use Rattle.decision_laws.specs.Safe.{AsksStaySafe, DecidedGoalsAreManaged, DecisionsStaySafe, DoneStaysSafe, SafeAtFirst};
+
+use rg_deps::laws;
 
 /// Under one configuration the outstanding orders of a president stay safe: as its membership begins,
 /// over each decision, old and new ones, as an order ends, and as something is asked for. In a
@@ -11,3 +14,12 @@ pub fn decisions_stay_safe()
     ensures asked { AsksStaySafe }
     ensures managed { DecidedGoalsAreManaged }
 {}
+
+/// Where nothing is outstanding after a decision, no member has a call; and where groups and
+/// resources have orders, each goal node shows ONLINE or ERROR_STOP_FAILED, or has a reason.
+pub fn quiet_is_settled()
+    ensures calls { QuietHasNoCalls }
+    ensures goals { QuietGoalsAreSettled }
+{
+    laws::what_is_chosen_is_an_order();
+}

@@ -4,4 +4,4 @@
 
 mod laws;
 
-pub use laws::decisions_stay_safe;
+pub use laws::{decisions_stay_safe, quiet_is_settled};
