@@ -1,12 +1,23 @@
 // Lists of updates, and the votes under them.
-use crate::fixture::{config, header, texts, votes};
+use crate::fixture::{first, header};
 use ccr_tables::Config;
 use cl_base::{Bytes, Table, Version};
 use quorum_votes::Votes;
 use std::alloc::Global;
 use std::process::Abort;
 use std::test::Fail;
-use update_log::{LogVotes, add, is_update, votes_after};
+use update_log::{LogVotes, add, config_after, is_update, votes_after};
+
+/// The lines that are not empty.
+fn texts(alloc: Global, lines: &[u8]) -> Result<Vec<Bytes>, Fail> {
+    let mut texts = Vec::new(alloc);
+    for line in lines.split(|b| *b == b'\n') {
+        if !line.is_empty() {
+            texts.push(Bytes::new(line.to_vec(alloc)?))?;
+        }
+    }
+    Ok(texts)
+}
 
 /// All votes, and those needed.
 fn counted(votes: &Votes) -> (u64, u64) {
@@ -26,6 +37,12 @@ fn told(found: &Option<LogVotes>) -> (Option<(u64, u64)>, Option<(u64, u64)>) {
         Some(votes) => (Some(counted(&votes.committed)), counted_if(&votes.pending)),
         None => (None, None),
     }
+}
+
+fn votes(alloc: Global, lines: &[u8]) -> Result<Option<LogVotes>, Fail> {
+    let header = header(alloc)?;
+    let texts = texts(alloc, lines)?;
+    Ok(votes_after(alloc, &header, texts.as_slice(), None)?)
 }
 
 fn votes_with(alloc: Global, lines: &[u8], pending: &[u8]) -> Result<Option<LogVotes>, Fail> {
@@ -84,6 +101,12 @@ fn votes_under_updates(rt: HostRuntime) -> Result<(), Fail> {
     )?;
     expect_pending(&rt, a, disable, disable, None)?;
     expect_pending(&rt, a, b"clq status", disable, None)
+}
+
+fn config(alloc: Global, lines: &[u8]) -> Result<Option<Config>, Fail> {
+    let header = header(alloc)?;
+    let texts = texts(alloc, lines)?;
+    Ok(config_after(alloc, &header, texts.as_slice())?)
 }
 
 fn generation(config: &Option<Config>) -> Option<u64> {
@@ -153,8 +176,7 @@ fn one_more(rt: &impl Abort, a: Global, config: &mut Config) -> Result<(), Fail>
 #[test]
 fn one_more_update(rt: HostRuntime) -> Result<(), Fail> {
     let a = rt.alloc();
-    let header = header(a)?;
-    let mut config = Config::first(a, &header)?;
+    let mut config = first(a)?;
     one_more(&rt, a, &mut config)
 }
 

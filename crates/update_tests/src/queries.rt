@@ -1,5 +1,5 @@
 // What queries are answered, as it is printed.
-use crate::fixture::{header, votes};
+use crate::fixture::{change, first};
 use ccr_tables::Config;
 use ccr_text::{Row, TableRows, checksum};
 use cl_base::{Bytes, DevSet, NodeSet, Table};
@@ -8,7 +8,6 @@ use status_report::{Entry, StatusEntry, print};
 use std::alloc::Global;
 use std::process::Abort;
 use std::test::Fail;
-use update_log::add;
 
 /// The lines of the entries.
 fn printed(alloc: Global, entries: Vec<StatusEntry>) -> Result<Vec<u8>, Fail> {
@@ -20,17 +19,16 @@ fn printed(alloc: Global, entries: Vec<StatusEntry>) -> Result<Vec<u8>, Fail> {
     Ok(text)
 }
 
-/// How the votes stand after these updates, with these members and devices held.
+/// How the votes stand with these members and devices held.
 fn expect_votes(
     rt: &impl Abort,
     alloc: Global,
-    updates: &[u8],
+    config: &Config,
     members: NodeSet,
     held: DevSet,
     wanted: &str,
 ) -> Result<(), Fail> {
-    let votes = votes(alloc, updates)?.ok_or("a bad list")?;
-    let lines = quorum_lines(alloc, &votes.committed, members, held)?;
+    let lines = quorum_lines(alloc, config.votes(), members, held)?;
     let text = printed(alloc, lines)?;
     assert_eq!(rt; text.as_slice(), wanted.as_bytes());
     Ok(())
@@ -60,24 +58,24 @@ quorum node 2 0 member
 quorum device 1 0 held
 ";
 
+fn votes(rt: &impl Abort, a: Global, config: &mut Config) -> Result<(), Fail> {
+    let (both, second) = (NodeSet::from_bits(0b11), NodeSet::from_bits(0b10));
+    let (device, no_device) = (DevSet::from_bits(0b1), DevSet::from_bits(0b0));
+    expect_votes(rt, a, config, both, device, ALL_THERE)?;
+    expect_votes(rt, a, config, NodeSet::from_bits(0b1), no_device, ALONE)?;
+    change(rt, a, config, b"clq disable device 1")?;
+    expect_votes(rt, a, config, both, device, WITHOUT_THE_DEVICE)?;
+    expect_votes(rt, a, config, both, no_device, WITHOUT_THE_DEVICE)?;
+    change(rt, a, config, b"clq enable device 1")?;
+    change(rt, a, config, b"clq disable node 2")?;
+    expect_votes(rt, a, config, second, device, WITHOUT_A_NODE)
+}
+
 #[test]
 fn votes_stand(rt: HostRuntime) -> Result<(), Fail> {
     let a = rt.alloc();
-    let (first, second) = (NodeSet::from_bits(0b01), NodeSet::from_bits(0b10));
-    let (both, device) = (NodeSet::from_bits(0b11), DevSet::from_bits(0b1));
-    let off = b"clq disable device 1".as_slice();
-    expect_votes(&rt, a, b"", both, device, ALL_THERE)?;
-    expect_votes(&rt, a, b"", first, DevSet::empty(), ALONE)?;
-    expect_votes(&rt, a, off, both, device, WITHOUT_THE_DEVICE)?;
-    expect_votes(&rt, a, off, both, DevSet::empty(), WITHOUT_THE_DEVICE)?;
-    expect_votes(
-        &rt,
-        a,
-        b"clq disable node 2",
-        second,
-        device,
-        WITHOUT_A_NODE,
-    )
+    let mut config = first(a)?;
+    votes(&rt, a, &mut config)
 }
 
 /// The text of the table.
@@ -107,7 +105,7 @@ const VOTES: &str =
 fn tables(rt: &impl Abort, a: Global, config: &mut Config) -> Result<(), Fail> {
     expect_table(rt, a, config, Table::Infrastructure, VOTES)?;
     expect_table(rt, a, config, Table::Types, NO_TYPES)?;
-    assert!(rt; add(a, config, b"clrt register app obedient START,STOP")?);
+    change(rt, a, config, b"clrt register app obedient START,STOP")?;
     expect_table(rt, a, config, Table::Types, ONE_TYPE)?;
     expect_table(rt, a, config, Table::Infrastructure, VOTES)
 }
@@ -115,8 +113,7 @@ fn tables(rt: &impl Abort, a: Global, config: &mut Config) -> Result<(), Fail> {
 #[test]
 fn texts_of_tables(rt: HostRuntime) -> Result<(), Fail> {
     let a = rt.alloc();
-    let header = header(a)?;
-    let mut config = Config::first(a, &header)?;
+    let mut config = first(a)?;
     tables(&rt, a, &mut config)
 }
 
