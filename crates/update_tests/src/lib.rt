@@ -1,0 +1,15 @@
+//! Tests of lists of updates, the answers to commands and queries, and the length of a record.
+#![tactic(auto)]
+
+#[cfg(test)]
+mod answers;
+#[cfg(test)]
+mod fixture;
+#[cfg(test)]
+mod lengths;
+#[cfg(test)]
+mod logs;
+#[cfg(test)]
+mod queries;
+#[cfg(test)]
+mod waiting;
