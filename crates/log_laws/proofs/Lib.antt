@@ -1,0 +1,11 @@
+mod Allowed
+mod Alls
+mod Changing
+mod Downward
+mod Falling
+mod Keeping
+mod Logs
+mod Named
+mod Ordering
+mod Ranked
+mod Ranks
