@@ -2,15 +2,11 @@
 ghost use Rattle.std.specs.Prelude.{◌≡◌, ◌++◌, ◌∷◌, [], None, IfErr, ◌<◌, ◌-◌, ◌^◌, true, length, OnOk, IfOk, IsSome};
 ghost use Rattle.ccr_commit.specs.Entries.{all_committed, texts_of, with_next};
 ghost use Rattle.cmm_member.specs.Nodes.{with_entries};
-ghost use Rattle.status_report.specs.declared.entry.Entry.TheVariants as entry;
-ghost use Rattle.status_report.specs.declared.node_entry.NodeEntry.TheVariants as note;
-ghost use Rattle.status_report.specs.declared.update_entry.UpdateEntry.TheVariants as update;
 ghost use Rattle.wire.specs.declared.message.Body.TheVariants as body;
-ghost use Rattle.node_model.specs.declared.output.Output.TheVariants.{Tells};
 ghost use Rattle.node_model.specs.Plans.{Follows, KeepFails};
 ghost use Rattle.node_model.specs.Presidents.{acknowledging, sent_to};
 ghost use Rattle.node_model.specs.Seats.{is_member, state_of, with_state};
-ghost use Rattle.node_updates.specs.Presidents.{acknowledging_then, proposing_by};
+ghost use Rattle.node_updates.specs.Presidents.{acknowledged_line, acknowledging_then, proposed_line, proposing_by, saved_line};
 
 use crate::answers::answer_first;
 use crate::sending::{send_commits, send_prepares};
@@ -59,7 +55,7 @@ fn tell_proposed(
     text: &Bytes,
     out: &mut Vec<Output>,
 ) -> Result<(), AllocError>
-    ensures told { OnOk result (out.new.items ≡ out.old.items ++ Tells (entry.Update (update.Proposed epoch place text.now)) ∷ []) }
+    ensures told { OnOk result (out.new.items ≡ out.old.items ++ proposed_line epoch place text.now ∷ []) }
 {
     let words = copied(alloc, text)?;
     let entry = UpdateEntry::Proposed {
@@ -85,7 +81,7 @@ fn keep_and_send<K: RecordDisk>(
 ) -> Result<(), Stop>
     ensures saved { OnOk result ((K.saving disk.old (state_of seat.now).saved).lost ≡ None) }
     ensures left { OnOk result (disk.new ≡ (K.saving disk.old (state_of seat.now).saved).after) }
-    ensures told { OnOk result (out.new.items ≡ (out.old.items ++ Tells (entry.Node me note.Saved) ∷ []) ++ sent_to others (body.Prepare epoch place text.now)) }
+    ensures told { OnOk result (out.new.items ≡ (out.old.items ++ saved_line me ∷ []) ++ sent_to others (body.Prepare epoch place text.now)) }
     ensures lost { IfErr result (KeepFails (K.saving disk.old (state_of seat.now).saved) out.old.items out.new.items disk.new) }
 {
     keep(alloc, me, disk, seat, out)?;
@@ -152,7 +148,7 @@ fn tell_acknowledged(
     words: Bytes,
     out: &mut Vec<Output>,
 ) -> Result<(), AllocError>
-    ensures told { OnOk result (out.new.items ≡ (out.old.items ++ Tells (entry.Update (update.Acknowledged epoch place words)) ∷ []) ++ sent_to others (body.Commit epoch place)) }
+    ensures told { OnOk result (out.new.items ≡ (out.old.items ++ acknowledged_line epoch place words ∷ []) ++ sent_to others (body.Commit epoch place)) }
 {
     let entry = UpdateEntry::Acknowledged {
         epoch,
