@@ -9,10 +9,13 @@ use Rattle.proposals.specs.declared.arrived.Arrived.{Arrived}
 use Rattle.status_report.specs.declared.command_entry.Answer.{Answer}
 use Rattle.status_report.specs.declared.command_entry.Answer.TheVariants as answer
 use Rattle.status_report.specs.declared.entry.Entry.TheVariants as entry
+use Rattle.status_report.specs.declared.node_entry.NodeEntry.TheVariants.{Saved}
 use Rattle.status_report.specs.declared.update_entry.UpdateEntry.TheVariants as update
 use Rattle.wire.specs.declared.message.Body.TheVariants as body
 use Rattle.node_model.specs.declared.cluster.Cluster.{Cluster}
 use Rattle.node_model.specs.declared.node.UpNode.{UpNode}
+use Rattle.node_model.specs.declared.output.Output.{Output}
+use Rattle.node_model.specs.declared.output.Output.TheVariants.{Tells}
 use Rattle.node_model.specs.declared.presidency.Presidency.{Presidency}
 use Rattle.node_model.specs.Entries.{keeping, telling}
 use Rattle.node_model.specs.Plans.{Plan}
@@ -48,6 +51,16 @@ Decides x p answered v = (me : ℕ) (a : Arrived) → taken_as me x p a answered
 -- .. and what it makes of a request that is read so
 abbrev pub Judges : Cluster → UpNode → Presidency → Result Request WordError → Verdict → Type 0
 Judges c x p request v = (me : ℕ) (a : Arrived) → taken c me x p a request ≡ following me x p a v
+
+-- what is told of a save, of an update that is proposed, and of one that is acknowledged
+abbrev pub saved_line : ℕ → Output
+saved_line me = Tells (entry.Node me Saved)
+
+abbrev pub proposed_line : ℕ → ℕ → List ℕ → Output
+proposed_line e place text = Tells (entry.Update (update.Proposed e place text))
+
+abbrev pub acknowledged_line : ℕ → ℕ → List ℕ → Output
+acknowledged_line e place text = Tells (entry.Update (update.Acknowledged e place text))
 
 -- what is pending is committed and saved, and only then told; the first request is answered last
 abbrev pub acknowledging_then : ℕ → UpNode → List ℕ → Plan

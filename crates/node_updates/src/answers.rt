@@ -1,17 +1,16 @@
 // The president answers the first request.
-ghost use Rattle.std.specs.Prelude.{◌≡◌, ◌++◌, ◌∷◌, [], OnOk, IfErr};
+ghost use Rattle.std.specs.Prelude.{◌≡◌, ◌++◌, ◌∷◌, [], Ok, OnOk};
 ghost use Rattle.request_queue.specs.Queue.{answered, found, oldest};
 ghost use Rattle.status_report.specs.CommandLines.{reply_text};
 ghost use Rattle.wire.specs.declared.message.Body.TheVariants as body;
 ghost use Rattle.node_model.specs.declared.output.Output.TheVariants.{Sends};
-ghost use Rattle.node_model.specs.declared.stop.Stop.TheVariants.{NoMemory};
 ghost use Rattle.node_model.specs.Plans.{Gives};
 ghost use Rattle.node_model.specs.Presidents.{own_line, with_own};
 ghost use Rattle.node_updates.specs.Presidents.{answering_by};
 
 use crate::telling::{copied, tell_own};
 use cl_base::{Bytes, Epoch, NodeId};
-use node_model::{Output, Stop, UpNode, send};
+use node_model::{Output, UpNode};
 use proposals::{Arrived, Proposals};
 use request_queue::RequestQueue;
 use status_report::{Answer, answer_text};
@@ -24,31 +23,31 @@ use wire::Body;
 pub fn answer_first(
     alloc: Global,
     me: NodeId,
-    mut up: UpNode,
+    up: &mut UpNode,
     answer: Answer,
     out: &mut Vec<Output>,
-) -> Result<UpNode, Stop>
-    ensures { Gives (answering_by me up answer up.presidency) out.old.items result out.new.items }
+) -> Result<(), AllocError>
+    ensures told { OnOk result (Gives (answering_by me up.old answer up.old.presidency) out.old.items (Ok up.new) out.new.items) }
 {
     let epoch = up.seat.session();
     let Some(mut presidency) = up.presidency.take() else {
-        return Ok(up);
+        return Ok(());
     };
     let kept = Bytes::new(answer_text(alloc, &answer)?);
     let Some(first) = presidency.proposals.answer(kept) else {
         up.presidency = Some(presidency);
-        return Ok(up);
+        return Ok(());
     };
     let (from, number) = (first.from, first.number);
     if from == me {
         let (requests, proposals) = (&mut up.requests, &mut presidency.proposals);
         answer_own(alloc, me, requests, proposals, number, answer, out)?;
         up.presidency = Some(presidency);
-        return Ok(up);
+        return Ok(());
     }
     answer_other(alloc, epoch, from, number, answer, out)?;
     up.presidency = Some(presidency);
-    Ok(up)
+    Ok(())
 }
 
 /// The president's own request waits no longer, and its answer is told. The next of its own comes.
@@ -60,11 +59,10 @@ fn answer_own(
     number: u64,
     answer: Answer,
     out: &mut Vec<Output>,
-) -> Result<(), Stop>
+) -> Result<(), AllocError>
     ensures requests { OnOk result (requests.new ≡ answered requests.old number) }
     ensures proposals { OnOk result (proposals.new ≡ with_own me proposals.old (oldest requests.new)) }
     ensures told { OnOk result (out.new.items ≡ out.old.items ++ own_line me answer (found requests.old.waiting number)) }
-    ensures only { IfErr result (λ e. e ≡ NoMemory) }
 {
     let own = requests.answer(number);
     next_own(alloc, me, requests, proposals)?;
@@ -79,9 +77,8 @@ fn answer_other(
     number: u64,
     answer: Answer,
     out: &mut Vec<Output>,
-) -> Result<(), Stop>
+) -> Result<(), AllocError>
     ensures sent { OnOk result (out.new.items ≡ out.old.items ++ Sends to (body.Answer epoch number (reply_text answer)) ∷ []) }
-    ensures only { IfErr result (λ e. e ≡ NoMemory) }
 {
     let text = Bytes::new(answer_text(alloc, &answer)?);
     let body = Body::Answer {
@@ -89,7 +86,8 @@ fn answer_other(
         number,
         text,
     };
-    send(out, to, body)
+    out.push(Output::Sends { to, body })?;
+    Ok(())
 }
 
 /// The next of the president's own requests comes.

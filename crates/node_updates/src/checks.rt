@@ -1,11 +1,13 @@
 // Commands over the configuration in force.
 ghost use Rattle.std.specs.Prelude.{◌≡◌, ◌⊎◌, ◌≤◌, Ok, Err, IfOk, IfErr};
+ghost use Rattle.admin_commands.specs.Answers.{answer_to};
 ghost use Rattle.admin_commands.specs.Records.{most_bytes};
 ghost use Rattle.admin_commands.specs.declared.error.CheckError.TheVariants as because;
-ghost use Rattle.node_model.specs.Presidents.{checked, in_force, length_of};
+ghost use Rattle.node_model.specs.Presidents.{checked, in_force, length_of, nothing_up};
 
 use admin_commands::{Accepted, CheckError, check};
 use ccr_tables::{AdminCommand, Config};
+use cl_base::{DevSet, NodeSet};
 use cmm_member::full_record_length;
 use node_model::{Cluster, Presidency, UpNode};
 use rg_view::GroupView;
@@ -60,20 +62,34 @@ pub fn checked(
     ensures accepted { IfOk result (λ a. checked cluster.now up.now presidency.now command ≡ Ok a) }
     ensures refused { IfErr result (λ e. (e ≡ because.NoMemory) ⊎ (checked cluster.now up.now presidency.now command ≡ Err e)) }
 {
-    let members = up.seat.members();
-    let view = GroupView::new(alloc, members);
     let Ok(length) = record_length(alloc, cluster, up) else {
         return Err(CheckError::NoMemory);
     };
-    check(
+    answer_to(
         alloc,
-        command,
         config,
-        &view,
-        members,
+        up.seat.members(),
         presidency.held,
         length,
+        command,
     )
+}
+
+/// The same, where the record may become so long. Nothing is known of groups but the members.
+fn answer_to(
+    alloc: Global,
+    config: &Config,
+    members: NodeSet,
+    held: DevSet,
+    length: u64,
+    command: AdminCommand,
+) -> Result<Accepted, CheckError>
+    requires room { length ≤ most_bytes }
+    ensures accepted { IfOk result (λ a. answer_to config.now (nothing_up members) members held length command ≡ Ok a) }
+    ensures refused { IfErr result (λ e. (e ≡ because.NoMemory) ⊎ (answer_to config.now (nothing_up members) members held length command ≡ Err e)) }
+{
+    let view = GroupView::new(alloc, members);
+    check(alloc, command, config, &view, members, held, length)
 }
 
 /// How long the node's record may become without what one more update adds.

@@ -18,7 +18,7 @@ use ccr_commit::Entries;
 use cl_base::{Bytes, Epoch};
 use node_model::{Cluster, Stop, UpNode};
 use std::alloc::{AllocError, Global};
-use update_log::{config_after, is_update, votes_after};
+use update_log::{is_update, votes_after};
 
 /// Whether the list of updates, with the pending one behind the others, is bad.
 pub fn is_bad_log(
@@ -79,12 +79,13 @@ fn may_not_come(
     has_no_config(alloc, cluster, &texts)
 }
 
+// Where there are votes, there is a configuration.
+#[tactic(auto, using(crate::proofs::InForce::votes_or_none))]
 fn has_no_config(alloc: Global, cluster: &Cluster, texts: &[Bytes]) -> Result<bool, AllocError>
     ensures { IfOk result (λ bad. bad ≡ not (is_some (config_after cluster.now.header texts.now))) }
 {
-    match config_after(alloc, cluster.header.get(), texts) {
-        Ok(Some(_)) => Ok(false),
-        Ok(None) => Ok(true),
+    match votes_after(alloc, cluster.header.get(), texts, None) {
+        Ok(votes) => Ok(votes.is_none()),
         Err(_) => Err(AllocError),
     }
 }

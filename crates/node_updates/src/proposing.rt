@@ -1,17 +1,18 @@
 // An update is proposed, and acknowledged once every member has prepared it.
-ghost use Rattle.std.specs.Prelude.{◌≡◌, ◌<◌, ◌-◌, ◌^◌, true, length, OnOk, IfOk, IsSome};
+ghost use Rattle.std.specs.Prelude.{◌≡◌, ◌++◌, ◌∷◌, [], None, IfErr, ◌<◌, ◌-◌, ◌^◌, true, length, OnOk, IfOk, IsSome};
 ghost use Rattle.ccr_commit.specs.Entries.{all_committed, texts_of, with_next};
 ghost use Rattle.cmm_member.specs.Nodes.{with_entries};
-ghost use Rattle.node_model.specs.Plans.{Follows};
-ghost use Rattle.node_model.specs.Presidents.{acknowledging};
+ghost use Rattle.wire.specs.declared.message.Body.TheVariants as body;
+ghost use Rattle.node_model.specs.Plans.{Follows, KeepFails};
+ghost use Rattle.node_model.specs.Presidents.{acknowledging, sent_to};
 ghost use Rattle.node_model.specs.Seats.{is_member, state_of, with_state};
-ghost use Rattle.node_updates.specs.Presidents.{acknowledging_then, proposing_by};
+ghost use Rattle.node_updates.specs.Presidents.{acknowledged_line, acknowledging_then, proposed_line, proposing_by, saved_line};
 
 use crate::answers::answer_first;
 use crate::sending::{send_commits, send_prepares};
 use crate::telling::copied;
-use cl_base::{Bytes, NodeId, NodeSet};
-use node_model::{Output, Seat, Stop, UpNode, keep, tell};
+use cl_base::{Bytes, Epoch, NodeId, NodeSet};
+use node_model::{Output, Seat, Stop, UpNode, keep};
 use record_disk::RecordDisk;
 use status_report::{Answer, Entry, UpdateEntry};
 use std::alloc::{AllocError, Global};
@@ -36,24 +37,56 @@ pub fn propose<K: RecordDisk>(
     let epoch = up.seat.session();
     let place = last_place(&up.seat) + 1;
     let others = up.seat.members().without(me);
-    let words = copied(alloc, &text)?;
-    tell(
-        out,
-        Entry::Update(UpdateEntry::Proposed {
-            epoch,
-            place,
-            words,
-        }),
-    )?;
+    tell_proposed(alloc, epoch, place, &text, out)?;
     take_next(&mut up.seat, &text)?;
     presidency.proposals.propose(place, others);
     up.presidency = Some(presidency);
-    keep(alloc, me, disk, &up.seat, out)?;
-    send_prepares(alloc, others, epoch, place, &text, out)?;
+    keep_and_send(alloc, me, disk, &up.seat, others, epoch, place, &text, out)?;
     if others == NodeSet::empty() {
         return acknowledge(alloc, me, disk, up, out);
     }
     Ok(up)
+}
+
+fn tell_proposed(
+    alloc: Global,
+    epoch: Epoch,
+    place: u64,
+    text: &Bytes,
+    out: &mut Vec<Output>,
+) -> Result<(), AllocError>
+    ensures told { OnOk result (out.new.items ≡ out.old.items ++ proposed_line epoch place text.now ∷ []) }
+{
+    let words = copied(alloc, text)?;
+    let entry = UpdateEntry::Proposed {
+        epoch,
+        place,
+        words,
+    };
+    out.push(Output::Tells(Entry::Update(entry)))?;
+    Ok(())
+}
+
+/// The president saves what is proposed, and only then sends it.
+fn keep_and_send<K: RecordDisk>(
+    alloc: Global,
+    me: NodeId,
+    disk: &mut K,
+    seat: &Seat,
+    others: NodeSet,
+    epoch: Epoch,
+    place: u64,
+    text: &Bytes,
+    out: &mut Vec<Output>,
+) -> Result<(), Stop>
+    ensures saved { OnOk result ((K.saving disk.old (state_of seat.now).saved).lost ≡ None) }
+    ensures left { OnOk result (disk.new ≡ (K.saving disk.old (state_of seat.now).saved).after) }
+    ensures told { OnOk result (out.new.items ≡ (out.old.items ++ saved_line me ∷ []) ++ sent_to others (body.Prepare epoch place text.now)) }
+    ensures lost { IfErr result (KeepFails (K.saving disk.old (state_of seat.now).saved) out.old.items out.new.items disk.new) }
+{
+    keep(alloc, me, disk, seat, out)?;
+    send_prepares(alloc, others, epoch, place, text, out)?;
+    Ok(())
 }
 
 #[tactic(auto, using(crate::proofs::Acknowledging::follows_acknowledging))]
@@ -101,16 +134,29 @@ fn acknowledge_text<K: RecordDisk>(
     let others = up.seat.members().without(me);
     commit_pending(&mut up.seat);
     keep(alloc, me, disk, &up.seat, out)?;
-    tell(
-        out,
-        Entry::Update(UpdateEntry::Acknowledged {
-            epoch,
-            place,
-            words: text,
-        }),
-    )?;
-    send_commits(alloc, others, epoch, place, out)?;
-    answer_first(alloc, me, up, Answer::Ok, out)
+    tell_acknowledged(alloc, others, epoch, place, text, out)?;
+    answer_first(alloc, me, &mut up, Answer::Ok, out)?;
+    Ok(up)
+}
+
+/// The update is acknowledged, and the other members told that it is committed.
+fn tell_acknowledged(
+    alloc: Global,
+    others: NodeSet,
+    epoch: Epoch,
+    place: u64,
+    words: Bytes,
+    out: &mut Vec<Output>,
+) -> Result<(), AllocError>
+    ensures told { OnOk result (out.new.items ≡ (out.old.items ++ acknowledged_line epoch place words ∷ []) ++ sent_to others (body.Commit epoch place)) }
+{
+    let entry = UpdateEntry::Acknowledged {
+        epoch,
+        place,
+        words,
+    };
+    out.push(Output::Tells(Entry::Update(entry)))?;
+    send_commits(alloc, others, epoch, place, out)
 }
 
 /// The place of the last update.

@@ -7,7 +7,7 @@ ghost use Rattle.node_model.specs.declared.stop.Stop.TheVariants.{NoMemory};
 ghost use Rattle.node_model.specs.Entries.{replying};
 ghost use Rattle.node_model.specs.Plans.{Gives};
 ghost use Rattle.node_model.specs.Plans.Plan.{Says};
-ghost use Rattle.node_model.specs.Presidents.{told_lines};
+ghost use Rattle.node_model.specs.Presidents.{in_force, told_lines};
 ghost use Rattle.node_model.specs.declared.node.UpNode.{UpNode};
 ghost use Rattle.node_model.specs.Requests.{elsewhere, queried};
 ghost use Rattle.node_model.specs.Seats.{coordinator_of};
@@ -106,8 +106,24 @@ fn told_of(
     ensures only { IfErr result (λ e. e ≡ NoMemory) }
 {
     let config = config_in_force(alloc, cluster, up)?;
-    match checked(alloc, cluster, up, presidency, &config, command) {
-        Ok(accepted) => accepted_told(alloc, up, presidency.held, &config, accepted),
+    told_in(alloc, cluster, up, presidency, &config, command)
+}
+
+/// The same, where this is the configuration in force.
+fn told_in(
+    alloc: Global,
+    cluster: &Cluster,
+    up: &UpNode,
+    presidency: &Presidency,
+    config: &Config,
+    command: AdminCommand,
+) -> Result<Told, Stop>
+    requires config { config.now ≡ in_force cluster.now up.now }
+    ensures plan { IfOk result (IsTold cluster.now up.now presidency.now command) }
+    ensures only { IfErr result (λ e. e ≡ NoMemory) }
+{
+    match checked(alloc, cluster, up, presidency, config, command) {
+        Ok(accepted) => accepted_told(alloc, up, presidency.held, config, accepted),
         Err(e) => refused_told(e),
     }
 }

@@ -1,6 +1,5 @@
 // What a node tells of its commands.
-ghost use Rattle.std.specs.Prelude.{◌≡◌, ◌++◌, OnOk, IfOk, IfErr};
-ghost use Rattle.node_model.specs.declared.stop.Stop.TheVariants.{NoMemory};
+ghost use Rattle.std.specs.Prelude.{◌≡◌, ◌++◌, OnOk, IfOk};
 ghost use Rattle.node_model.specs.Entries.{replying};
 ghost use Rattle.node_model.specs.Plans.{Gives};
 ghost use Rattle.node_model.specs.Presidents.{own_line};
@@ -36,9 +35,8 @@ pub fn tell_own(
     request: Option<Request>,
     answer: Answer,
     out: &mut Vec<Output>,
-) -> Result<(), Stop>
+) -> Result<(), AllocError>
     ensures told { OnOk result (out.new.items ≡ out.old.items ++ own_line me answer request) }
-    ensures only { IfErr result (λ e. e ≡ NoMemory) }
 {
     match request {
         Some(request) if request.told => {
@@ -47,7 +45,8 @@ pub fn tell_own(
                 number: request.number,
                 answer,
             };
-            tell(out, Entry::Command(entry))
+            out.push(Output::Tells(Entry::Command(entry)))?;
+            Ok(())
         }
         _ => Ok(()),
     }

@@ -47,7 +47,7 @@ fn take_turn<K: RecordDisk>(
     cluster: &Cluster,
     me: NodeId,
     disk: &mut K,
-    up: UpNode,
+    mut up: UpNode,
     out: &mut Vec<Output>,
 ) -> Result<UpNode, Stop>
     requires member { is_member up.seat ≡ true }
@@ -65,6 +65,9 @@ fn take_turn<K: RecordDisk>(
     };
     match decide(alloc, cluster, &up, presidency, &first.text)? {
         Verdict::Propose(text) => propose(alloc, me, disk, up, text, out),
-        Verdict::Answer(answer) => answer_first(alloc, me, up, answer, out),
+        Verdict::Answer(answer) => {
+            answer_first(alloc, me, &mut up, answer, out)?;
+            Ok(up)
+        }
     }
 }
