@@ -6,3 +6,7 @@ pub mod Asked
 pub mod Decided
 pub mod Ordering
 pub mod Quiet
+pub mod Before
+pub mod Grounds
+pub mod Counted
+pub mod Gaps

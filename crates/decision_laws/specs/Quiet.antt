@@ -1,5 +1,5 @@
 -- What shows of groups once a president has decided and nothing is outstanding.
-use Rattle.std.specs.Prelude.{◌≡◌, ◌⊎◌, ℕ, ◌<◌, ◌^◌, Bool, true, false, List, Option, None, Some, IsOk, IsSome, length}
+use Rattle.std.specs.Prelude.{◌≡◌, ◌⊎◌, ℕ, ◌<◌, ◌^◌, Bool, true, false, List, None, Some, IsOk, IsSome, length}
 use Rattle.std.specs.List.{IsDistinct}
 use Rattle.std.specs.Map.{keys_of}
 use Rattle.std.specs.Str.{bytes_eq}
@@ -25,6 +25,10 @@ pub record HaveOrders (t : GroupTable) : Type 0 where
   pub groups : IsOk (group_ordering t)
   pub resources : (group : List ℕ) → IsOk (resource_ordering t group)
 
+-- no two groups have one name
+abbrev pub GroupsAreApart : GroupTable → Type 0
+GroupsAreApart t = IsDistinct bytes_eq (keys_of t.groups)
+
 -- The members are nodes 1 to 32, there is a place for the order of each; and after the decision nothing is outstanding.
 pub record IsQuiet (c : ConfigState) (now : ℕ) (p : PresidentState) : Type 0 where
   pub members : p.view.members < 2 ^ 32
@@ -49,3 +53,11 @@ IsSettled c v name n = (group_state c v name n ≡ Online) ⊎ (group_state c v 
 abbrev pub QuietGoalsAreSettled : Type 0
 QuietGoalsAreSettled = (c : ConfigState) (now : ℕ) (p : PresidentState) → HaveOrders c.groups → IsQuiet c now p → (name : List ℕ) (n : ℕ)
     → has (goal_of (decision c now false p).president.view.goals name) n ≡ true → IsSettled c (decision c now false p).president.view name n
+
+-- After each decision a node of a group's Nodelist outside its goal has a reason, where the goal has fewer nodes than desired.
+abbrev pub GapsHaveReasons : Type 0
+GapsHaveReasons = (c : ConfigState) (now : ℕ) (held_up : Bool) (p : PresidentState) → HaveOrders c.groups → GroupsAreApart c.groups → p.view.members < 2 ^ 32
+    → (name : List ℕ) (g : Group) (n : ℕ) → named c.groups.groups name ≡ Some g → is_listed g.nodelist n ≡ true
+    → has (goal_of (decision c now held_up p).president.view.goals name) n ≡ false
+    → count_to (goal_of (decision c now held_up p).president.view.goals name) most_nodes < g.desired
+    → IsSome (reason_for c (decision c now held_up p).president.view name n)

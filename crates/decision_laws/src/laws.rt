@@ -1,4 +1,4 @@
-ghost use Rattle.decision_laws.specs.Quiet.{QuietGoalsAreSettled, QuietHasNoCalls};
+ghost use Rattle.decision_laws.specs.Quiet.{GapsHaveReasons, QuietGoalsAreSettled, QuietHasNoCalls};
 ghost use Rattle.decision_laws.specs.Safe.{AsksStaySafe, DecidedGoalsAreManaged, DecisionsStaySafe, DoneStaysSafe, SafeAtFirst};
 
 use rg_deps::laws;
@@ -20,6 +20,14 @@ pub fn decisions_stay_safe()
 pub fn quiet_is_settled()
     ensures calls { QuietHasNoCalls }
     ensures goals { QuietGoalsAreSettled }
+{
+    laws::what_is_chosen_is_an_order();
+}
+
+/// After each decision, held up or not, a node of a group's Nodelist outside its goal has a reason,
+/// where the goal has fewer nodes than desired. No two groups have one name.
+pub fn gaps_have_reasons()
+    ensures reasons { GapsHaveReasons }
 {
     laws::what_is_chosen_is_an_order();
 }

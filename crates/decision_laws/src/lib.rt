@@ -4,4 +4,4 @@
 
 mod laws;
 
-pub use laws::{decisions_stay_safe, quiet_is_settled};
+pub use laws::{decisions_stay_safe, gaps_have_reasons, quiet_is_settled};
