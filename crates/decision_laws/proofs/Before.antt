@@ -21,8 +21,8 @@ use Rattle.rg_props.specs.Lookups.{named, place_of}
 use Rattle.rg_props.specs.Table.{GroupTable}
 use Rattle.rgm_president.specs.Sequence.{groups_in_order}
 use Rattle.president_laws.specs.Laws.{Lacks}
-use Rattle.decision_laws.specs.Quiet.{GroupsAreApart, HaveOrders}
-use Rattle.decision_laws.proofs.Ordering.{IsFoundAt, found_at, group_stands, groups_arranged, held, leads_to, place_is}
+use Rattle.decision_laws.specs.Quiet.{GroupsAreApart}
+use Rattle.decision_laws.proofs.Ordering.{HaveOrders, IsFoundAt, found_at, group_stands, groups_arranged, held, leads_to, place_is}
 
 -- An order, cut at a place.
 pub record IsCut (order : List ℕ) (p : ℕ) : Type 0 where

@@ -15,7 +15,7 @@ use Rattle.placement.specs.Eligibility.{eligibility_in, eligibility_of, group_re
 use Rattle.placement.specs.Goals.{goal_by_rule}
 use Rattle.placement.specs.Resources.{has_enabled, is_stop_failed, is_stop_mark}
 use Rattle.placement.proofs.Reasons.{goal_best}
-use Rattle.rg_deps.specs.Laws.{ChosenIsOrder}
+use Rattle.rg_deps.specs.Laws.{AnOrderIsFound, ChosenIsOrder}
 use Rattle.rg_props.specs.declared.group.Group.{Group}
 use Rattle.rg_props.specs.Lookups.{named}
 use Rattle.rg_props.specs.Table.{GroupTable}
@@ -33,11 +33,12 @@ use Rattle.rgm_president.specs.Status.{reason_for, reason_outside}
 use Rattle.president_laws.specs.Laws.{MayAllBeGiven}
 use Rattle.president_laws.proofs.Decisions.{orders_are_allowed}
 use Rattle.president_laws.proofs.Goals.{goals_follow_the_rule, others_keep}
-use Rattle.decision_laws.specs.Quiet.{GapsHaveReasons, GroupsAreApart, HaveOrders}
+use Rattle.decision_laws.specs.Quiet.{GapsHaveReasons, GroupsAreApart}
 use Rattle.decision_laws.proofs.Before.{HasTurn, IsTarget, affinity_is, dependency_is, has_turn, offline_is, strong_is}
 use Rattle.decision_laws.proofs.Counted.{IsSplit, listed_split, same_load, split_fixed, split_other}
+use Rattle.decision_laws.proofs.Cycles.{orders_are_there}
 use Rattle.decision_laws.proofs.Grounds.{SharesGround, SharesTargets, same_reason}
-use Rattle.decision_laws.proofs.Ordering.{IsFoundAt, found_at}
+use Rattle.decision_laws.proofs.Ordering.{HaveOrders, IsFoundAt, found_at}
 use Rattle.decision_laws.proofs.States.{any_ended}
 
 -- Orders change nothing of a view but what is outstanding.
@@ -204,14 +205,14 @@ module _ (law : ChosenIsOrder) (c : ConfigState) (now : ℕ) (p : PresidentState
       by (Some r) is = refl
       by None is = let enough : g.desired ≤ count_to (goal_of w.goals name) most_nodes = taken listed_n outside is in absurd (omega (arith, enough, few))
 
-pub gaps_have_reasons : ChosenIsOrder → GapsHaveReasons
+pub gaps_have_reasons : ChosenIsOrder → AnOrderIsFound → GapsHaveReasons
 unfolding turns_unless
-gaps_have_reasons law c now true p orders apart small name g n there listed_n outside few =
-    gap_has_reason law c now p (with_goals_of c now p).view.outstanding orders apart small name g n there listed_n outside few
-gaps_have_reasons law c now false p orders apart small name g n there listed_n outside few =
+gaps_have_reasons law found c now true p none apart small name g n there listed_n outside few =
+    gap_has_reason law c now p (with_goals_of c now p).view.outstanding (orders_are_there law found c.groups none) apart small name g n there listed_n outside few
+gaps_have_reasons law found c now false p none apart small name g n there listed_n outside few =
     let decided_view : GroupView = (decision c now false p).president.view in
     let same : decided_view ≡ last c now p decided_view.outstanding = same_but_orders c (decision c now false p).orders 0 (with_goals_of c now p) (decision c now false p).president (orders_are_allowed c now p) in
     subst (λ (u : GroupView). IsSome (reason_for c u name n)) (sym same)
-    (gap_has_reason law c now p decided_view.outstanding orders apart small name g n there listed_n
+    (gap_has_reason law c now p decided_view.outstanding (orders_are_there law found c.groups none) apart small name g n there listed_n
     (ap (λ (u : GroupView). has (goal_of u.goals name) n) (sym same) ∙ outside)
     (subst (λ (u : GroupView). count_to (goal_of u.goals name) most_nodes < g.desired) same few))

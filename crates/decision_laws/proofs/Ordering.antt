@@ -17,17 +17,21 @@ use Rattle.rg_deps.specs.Cycles.{arranged, arrangement}
 use Rattle.rg_deps.specs.Edges.{group_edges, member_edges}
 use Rattle.rg_deps.specs.Laws.{ChosenIsOrder, IsOrder, is_thing}
 use Rattle.rg_deps.specs.Order.{first_left, ordered, stands}
-use Rattle.rg_deps.specs.Orderings.{named_order}
+use Rattle.rg_deps.specs.Orderings.{group_ordering, named_order, resource_ordering}
 use Rattle.rg_deps.specs.Things.{collected, group_things, member_things, names_at, thing_of_group, thing_of_member}
 use Rattle.rg_props.specs.declared.group.Group.{Group}
 use Rattle.rg_props.specs.declared.group.Resource.{Resource}
 use Rattle.rg_props.specs.Lookups.{named, place_of}
 use Rattle.rg_props.specs.Table.{GroupTable}
 use Rattle.rgm_president.specs.Sequence.{groups_in_order, in_order, members_in_order, sequence}
-use Rattle.decision_laws.specs.Quiet.{HaveOrders}
 
 abbrev pub among : List (List ℕ) → List ℕ → Bool
 among names name = list_any (λ x. bytes_eq x name) names
+
+-- Groups, and the resources of each group, have an order.
+pub record HaveOrders (t : GroupTable) : Type 0 where
+  pub groups : IsOk (group_ordering t)
+  pub resources : (group : List ℕ) → IsOk (resource_ordering t group)
 
 -- an order that is found is one of all things, and tells their names
 pub record IsArranged {X : Type 0} (es : List (List ℕ × X)) (things : List Thing) (edges : List Edge) : Type 0 where

@@ -19,7 +19,7 @@ use Rattle.cl_base.specs.Limits.{most_nodes}
 use Rattle.cl_base.specs.Numbers.{numbers_to}
 use Rattle.cl_base.specs.Sets.{has}
 use Rattle.load_limits.specs.declared.limits.Limit.{Limit}
-use Rattle.rg_deps.specs.Laws.{ChosenIsOrder}
+use Rattle.rg_deps.specs.Laws.{AnOrderIsFound, ChosenIsOrder}
 use Rattle.rg_props.specs.declared.group.Group.{Group}
 use Rattle.rg_props.specs.declared.group.Resource.{Resource}
 use Rattle.rg_props.specs.Lookups.{named}
@@ -43,10 +43,11 @@ use Rattle.rgm_president.specs.State.{PresidentState, with_order}
 use Rattle.rgm_president.specs.Status.{can_rise, first_blocked, first_faulted, group_state, has_stop_failed, is_hindered, is_order_of, reason_for, state_in, state_inside}
 use Rattle.president_laws.specs.Laws.{HasNoCall, MayAllBeGiven}
 use Rattle.president_laws.proofs.Decisions.{orders_are_allowed, quiet}
-use Rattle.decision_laws.specs.Quiet.{HaveOrders, IsHindered, IsQuiet, IsSettled, QuietGoalsAreSettled, QuietHasNoCalls}
+use Rattle.decision_laws.specs.Quiet.{IsHindered, IsQuiet, IsSettled, QuietGoalsAreSettled, QuietHasNoCalls}
+use Rattle.decision_laws.proofs.Cycles.{orders_are_there}
 use Rattle.decision_laws.proofs.Decided.{goals_keep}
 use Rattle.decision_laws.proofs.Managed.{goals_fit, is_managed}
-use Rattle.decision_laws.proofs.Ordering.{IsFoundAt, among, found_at, in_sequence}
+use Rattle.decision_laws.proofs.Ordering.{HaveOrders, IsFoundAt, among, found_at, in_sequence}
 use Rattle.decision_laws.proofs.Same.{after_set}
 
 -- An order that is given stays outstanding over the rest of the decision.
@@ -247,7 +248,7 @@ module _ (law : ChosenIsOrder) (c : ConfigState) (now : ℕ) (p : PresidentState
           settled c goals_left.view name n inside g there managed
           (rw (ap (is_order_of c.groups name) (idle c now p is n)) (still g there))
 
-pub quiet_goals_are_settled : ChosenIsOrder → QuietGoalsAreSettled
-quiet_goals_are_settled law c now p orders is name n =
+pub quiet_goals_are_settled : ChosenIsOrder → AnOrderIsFound → QuietGoalsAreSettled
+quiet_goals_are_settled law found c now p none is name n =
     subst (λ (q : PresidentState). has (goal_of q.view.goals name) n ≡ true → IsSettled c q.view name n) (sym (as_decided c now p is))
-    (decided_settled law c now p orders is name n)
+    (decided_settled law c now p (orders_are_there law found c.groups none) is name n)

@@ -1,2 +1,3 @@
 pub mod Safe
+pub mod Membership
 pub mod Quiet

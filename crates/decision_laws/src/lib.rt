@@ -4,4 +4,6 @@
 
 mod laws;
 
-pub use laws::{decisions_stay_safe, gaps_have_reasons, quiet_is_settled};
+pub use laws::{
+    decisions_stay_safe, gaps_have_reasons, orders_are_safe_throughout, quiet_is_settled,
+};
