@@ -44,7 +44,7 @@ module _ (edges : List Edge) where
   follow_on done (x ∷ xs) ys h = subst (λ (l : List ℕ). Follow edges l ys) (append_assoc done (x ∷ []) xs) (follow_on (done ++ x ∷ []) xs ys h.2)
 
   -- what stands does not come again
-  not_again : (done ps : List ℕ) (q : ℕ) → Follow edges done ps → stands done q ≡ true → stands ps q ≡ false
+  pub not_again : (done ps : List ℕ) (q : ℕ) → Follow edges done ps → stands done q ≡ true → stands ps q ≡ false
   not_again done [] q h before = refl
   not_again done (p ∷ ps) q h before = by (nat_eq q p) refl (not_again (done ++ p ∷ []) ps q h.2 (list_any-append (nat_eq q) done (p ∷ []) ∙ or_left _ _ before))
     where
@@ -166,7 +166,7 @@ module _ (t : GroupTable) (apart : GroupsAreApart t) (p : ℕ) (name : List ℕ)
       by (Some e) is rest = (not_it e is (bytes_eq e.0 x) refl, rest)
 
   -- each of the names at places
-  each_lacks : (P : List ℕ → Type 0) (places : List ℕ) → ((r : ℕ) (e : List ℕ × Group) → stands places r ≡ true → slice_get t.groups r ≡ Some e → P e.0) → AllByRecursion P (names_at t.groups places)
+  pub each_lacks : (P : List ℕ → Type 0) (places : List ℕ) → ((r : ℕ) (e : List ℕ × Group) → stands places r ≡ true → slice_get t.groups r ≡ Some e → P e.0) → AllByRecursion P (names_at t.groups places)
   each_lacks P [] h = tt
   each_lacks P (r ∷ rs) h = by (slice_get t.groups r) refl (each_lacks P rs (λ k e later is. h k e (or_right (nat_eq k r) (stands rs k) later) is))
     where

@@ -30,7 +30,7 @@ use Rattle.decision_laws.proofs.Grounds.{SharesGround}
 abbrev Goals : Type 0
 Goals = List (List ℕ × ℕ)
 
-pass : (b rest : Goals) (x : List ℕ) (set : ℕ) → Lacks (keys_of b) x → goals_with (b ++ rest) x set ≡ b ++ goals_with rest x set
+pub pass : (b rest : Goals) (x : List ℕ) (set : ℕ) → Lacks (keys_of b) x → goals_with (b ++ rest) x set ≡ b ++ goals_with rest x set
 pass [] rest x set h = refl
 pass (e ∷ b) rest x set h = rw (text_flips x e.0 ∙ h.0) (ap (λ (l : Goals). e ∷ l) (pass b rest x set h.1))
 
@@ -213,7 +213,7 @@ module _ (t : GroupTable) (v : GroupView) (name : List ℕ) (n : ℕ) where
       ∙ (λ i. flat_map (brought t n) (take-append_seam before ((name, own) ∷ rest) i) ++ flat_map (brought_fixed t v n) (drop-append-add before ((name, own) ∷ rest) 1 i))
 
 module _ (t : GroupTable) (v w : GroupView) (n : ℕ) (ground : SharesGround t v w) where
-  same_fixed : (x : List ℕ) → is_fixed t w x ≡ is_fixed t v x
+  pub same_fixed : (x : List ℕ) → is_fixed t w x ≡ is_fixed t v x
   unfolding is_fixed
   same_fixed x = ap (λ (b : Bool). is_suspended (named t.groups x) || b) (ground.failed x)
 

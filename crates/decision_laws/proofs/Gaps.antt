@@ -42,19 +42,19 @@ use Rattle.decision_laws.proofs.Ordering.{HaveOrders, IsFoundAt, found_at}
 use Rattle.decision_laws.proofs.States.{any_ended}
 
 -- Orders change nothing of a view but what is outstanding.
-same_but_orders : (c : ConfigState) (es : List (ℕ × Order)) (last : ℕ) (p new : PresidentState) → MayAllBeGiven c last p es new → new.view ≡ record p.view { outstanding = new.view.outstanding }
+pub same_but_orders : (c : ConfigState) (es : List (ℕ × Order)) (last : ℕ) (p new : PresidentState) → MayAllBeGiven c last p es new → new.view ≡ record p.view { outstanding = new.view.outstanding }
 same_but_orders c [] last p new same = subst (λ (q : PresidentState). q.view ≡ record p.view { outstanding = q.view.outstanding }) (sym same) refl
 same_but_orders c (e ∷ es) last p new (up, may, rest) = same_but_orders c es e.0 (with_order p e.0 e.1.resource e.1.method) new rest
 
 module _ (c : ConfigState) (now : ℕ) (p : PresidentState) (orders : List (Option Outstanding)) where
   -- what goals are decided over, and what is known then
-  abbrev first : GroupView
+  abbrev pub first : GroupView
   first = with_listed (groups_in_order c.groups) now p.view
 
-  abbrev last : GroupView
+  abbrev pub last : GroupView
   last = record (with_goals_of c now p).view { outstanding = orders }
 
-  ground : SharesGround c.groups first last
+  pub ground : SharesGround c.groups first last
   unfolding goals_set with_goals with_ended with_decided with_listed is_stop_failed
   ground = record {
     members = refl;
@@ -66,15 +66,15 @@ module _ (c : ConfigState) (now : ℕ) (p : PresidentState) (orders : List (Opti
         (sequence c.groups) p.view.resources;
   }
 
-  goals_are : last.goals ≡ decided c.groups c.limits first (groups_in_order c.groups)
+  pub goals_are : last.goals ≡ decided c.groups c.limits first (groups_in_order c.groups)
   unfolding goals_set with_goals with_ended with_decided
   goals_are = refl
 
-  listed_are : first.goals ≡ listed p.view.goals (groups_in_order c.groups)
+  pub listed_are : first.goals ≡ listed p.view.goals (groups_in_order c.groups)
   unfolding with_listed
   listed_are = refl
 
-  members_are : first.members ≡ p.view.members
+  pub members_are : first.members ≡ p.view.members
   unfolding with_listed
   members_are = refl
 

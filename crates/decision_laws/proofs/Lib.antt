@@ -13,3 +13,4 @@ pub mod Grounds
 pub mod Counted
 pub mod Gaps
 pub mod Membership
+pub mod Limited

@@ -1,3 +1,4 @@
+ghost use Rattle.decision_laws.specs.Limits.{DecidedWithinLimits};
 ghost use Rattle.decision_laws.specs.Membership.{OrdersAreSafeThroughout};
 ghost use Rattle.decision_laws.specs.Quiet.{GapsHaveReasons, QuietGoalsAreSettled, QuietHasNoCalls};
 ghost use Rattle.decision_laws.specs.Safe.{AsksStaySafe, DecidedGoalsAreManaged, DecisionsStaySafe, DoneStaysSafe, SafeAtFirst, UpdatesStaySafe};
@@ -37,6 +38,15 @@ pub fn quiet_is_settled()
 /// where the goal has fewer nodes than desired. There is no cycle, and no two groups have one name.
 pub fn gaps_have_reasons()
     ensures reasons { GapsHaveReasons }
+{
+    laws::what_is_chosen_is_an_order();
+    laws::an_order_is_found();
+}
+
+/// After each decision no hard limit is passed on a node by the groups whose goals have it, unless all
+/// of these that bring a load are fixed. There is no cycle, and no two groups have one name.
+pub fn goals_are_within_limits()
+    ensures limits { DecidedWithinLimits }
 {
     laws::what_is_chosen_is_an_order();
     laws::an_order_is_found();
