@@ -3,6 +3,14 @@ pub mod Managed
 pub mod Same
 pub mod Done
 pub mod Asked
+pub mod Updated
 pub mod Decided
 pub mod Ordering
+pub mod Cycles
 pub mod Quiet
+pub mod Before
+pub mod Grounds
+pub mod Counted
+pub mod Gaps
+pub mod Membership
+pub mod Limited

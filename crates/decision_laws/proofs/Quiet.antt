@@ -1,6 +1,6 @@
 -- Where a decision leaves nothing outstanding, no member has a call, and each goal node is settled.
-use Rattle.std.proofs.Common.{◌≡◌, ◌≢◌, ℕ, zero, suc, nat_eq, ◌+◌, ◌-◌, ◌≤◌, ◌<◌, ◌^◌, ◌==◌, ◌⊎◌, inl, inr, Bool, true, false, cond, not, ◌&&◌, ◌||◌, List, [], ◌∷◌, Option, None, Some, is_none, is_some, fold, map, filter, length, set, refl, sym, ap, subst, ◌∙◌, arith}
-use Rattle.std.proofs.lemmas.Bool.{eq-eqb, eqb-true, ne_eqb, or_cases, or_parts}
+use Rattle.std.proofs.Common.{◌≡◌, ◌≢◌, ℕ, suc, nat_eq, ◌+◌, ◌-◌, ◌≤◌, ◌<◌, ◌^◌, ◌==◌, ◌⊎◌, inl, inr, Bool, true, false, cond, ◌||◌, List, [], ◌∷◌, Option, None, Some, is_none, is_some, fold, map, filter, length, set, refl, sym, ap, subst, ◌∙◌, arith}
+use Rattle.std.proofs.lemmas.Bool.{eq-eqb, eqb-true, ne_eqb, or_cases}
 use Rattle.std.proofs.lemmas.Option.{none-some}
 use Rattle.std.proofs.lemmas.List.{length-set}
 use Rattle.std.proofs.lemmas.List.Elements.{All-contains}
@@ -14,12 +14,12 @@ use Rattle.cl_base.specs.declared.method.Method.TheVariants.{PrenetStart, Start,
 use Rattle.cl_base.specs.declared.reason.Reason.{Reason}
 use Rattle.cl_base.specs.declared.reason.Reason.TheVariants as reason
 use Rattle.cl_base.specs.declared.state.GroupState.{GroupState}
-use Rattle.cl_base.specs.declared.state.GroupState.TheVariants.{Unmanaged, ErrorStopFailed, OnlineFaulted, Online, PendingOnline, PendingOnlineBlocked, PendingOffline, Offline}
+use Rattle.cl_base.specs.declared.state.GroupState.TheVariants.{ErrorStopFailed, OnlineFaulted, PendingOnlineBlocked}
 use Rattle.cl_base.specs.Limits.{most_nodes}
 use Rattle.cl_base.specs.Numbers.{numbers_to}
 use Rattle.cl_base.specs.Sets.{has}
 use Rattle.load_limits.specs.declared.limits.Limit.{Limit}
-use Rattle.rg_deps.specs.Laws.{ChosenIsOrder}
+use Rattle.rg_deps.specs.Laws.{AnOrderIsFound, ChosenIsOrder}
 use Rattle.rg_props.specs.declared.group.Group.{Group}
 use Rattle.rg_props.specs.declared.group.Resource.{Resource}
 use Rattle.rg_props.specs.Lookups.{named}
@@ -37,16 +37,17 @@ use Rattle.sequencer.specs.Fields.{OutlookFields}
 use Rattle.sequencer.specs.Next.{call_of, first_up, last_down, next_call_of, up_call, with_up}
 use Rattle.sequencer_laws.proofs.Counts.{above_zero, any_member, within_most}
 use Rattle.rgm_state.specs.Standing.{resources_of}
-use Rattle.rgm_president.specs.Decisions.{call_on, decision, goals_set, outlook_over, with_goals_of}
+use Rattle.rgm_president.specs.Decisions.{call_on, decision, outlook_over, with_goals_of}
 use Rattle.rgm_president.specs.Sequence.{sequence}
 use Rattle.rgm_president.specs.State.{PresidentState, with_order}
-use Rattle.rgm_president.specs.Status.{can_rise, first_blocked, first_faulted, group_state, has_stop_failed, hindrance, is_hindered, is_order_of, reason_for, reason_inside, state_in, state_inside, state_of_managed}
-use Rattle.president_laws.specs.Laws.{HasNoCall, MayAllBeGiven, MayBeGiven}
+use Rattle.rgm_president.specs.Status.{can_rise, first_blocked, first_faulted, group_state, has_stop_failed, is_hindered, is_order_of, reason_for, state_in, state_inside}
+use Rattle.president_laws.specs.Laws.{HasNoCall, MayAllBeGiven}
 use Rattle.president_laws.proofs.Decisions.{orders_are_allowed, quiet}
-use Rattle.decision_laws.specs.Quiet.{HaveOrders, IsHindered, IsQuiet, IsSettled, QuietGoalsAreSettled, QuietHasNoCalls}
+use Rattle.decision_laws.specs.Quiet.{IsHindered, IsQuiet, IsSettled, QuietGoalsAreSettled, QuietHasNoCalls}
+use Rattle.decision_laws.proofs.Cycles.{orders_are_there}
 use Rattle.decision_laws.proofs.Decided.{goals_keep}
 use Rattle.decision_laws.proofs.Managed.{goals_fit, is_managed}
-use Rattle.decision_laws.proofs.Ordering.{IsFoundAt, among, found_at, in_sequence}
+use Rattle.decision_laws.proofs.Ordering.{HaveOrders, IsFoundAt, among, found_at, in_sequence}
 use Rattle.decision_laws.proofs.Same.{after_set}
 
 -- An order that is given stays outstanding over the rest of the decision.
@@ -247,7 +248,7 @@ module _ (law : ChosenIsOrder) (c : ConfigState) (now : ℕ) (p : PresidentState
           settled c goals_left.view name n inside g there managed
           (rw (ap (is_order_of c.groups name) (idle c now p is n)) (still g there))
 
-pub quiet_goals_are_settled : ChosenIsOrder → QuietGoalsAreSettled
-quiet_goals_are_settled law c now p orders is name n =
+pub quiet_goals_are_settled : ChosenIsOrder → AnOrderIsFound → QuietGoalsAreSettled
+quiet_goals_are_settled law found c now p none is name n =
     subst (λ (q : PresidentState). has (goal_of q.view.goals name) n ≡ true → IsSettled c q.view name n) (sym (as_decided c now p is))
-    (decided_settled law c now p orders is name n)
+    (decided_settled law c now p (orders_are_there law found c.groups none) is name n)

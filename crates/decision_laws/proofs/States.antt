@@ -1,6 +1,6 @@
 -- A state that is set is found at its place, and no other place's changes.
-use Rattle.std.proofs.Common.{◌≡◌, ℕ, Bool, true, false, cond, List, [], ◌∷◌, Option, None, Some, fold, refl, sym, ap, ◌∙◌}
-use Rattle.std.specs.List.{find}
+use Rattle.std.proofs.Common.{◌≡◌, ℕ, Bool, true, false, cond, ◌||◌, List, [], ◌∷◌, Option, None, Some, fold, refl, sym, ap, ◌∙◌}
+use Rattle.std.specs.List.{find, list_any}
 use Rattle.std.specs.Option.{unwrap_or}
 use Rattle.rg_props.specs.declared.group.Resource.{Resource}
 use Rattle.rg_props.specs.Lookups.{named}
@@ -11,7 +11,7 @@ use Rattle.rg_view.specs.declared.states.ResourceAt.{ResourceAt}
 use Rattle.rg_view.specs.Goals.{goal_of}
 use Rattle.rg_view.specs.PlaceLaws.{one_place, same_place_equiv}
 use Rattle.rg_view.specs.Places.{place, same_place}
-use Rattle.rg_view.specs.States.{is_state_of, place_of_state, state_of, states_with, unmarked}
+use Rattle.rg_view.specs.States.{is_state_of, place_of_state, state_at, state_of, states_with, unmarked}
 use Rattle.rgm_state.specs.Changes.{unfaulted}
 use Rattle.rgm_president.specs.Goals.{ended_for, ended_of, ended_outside}
 use Rattle.sequencer_laws.specs.Flags.{Flags}
@@ -69,8 +69,26 @@ flags_kept xs s same name n = ap flags_of (set_at s name n xs) ∙ by (own s nam
     by true is = same ∙ ap (λ (q : NameAt). flags_of (state_of xs q.name q.node)) (one_place (place_of_state s) (place name n) is)
     by false is = refl
 
--- The end of a mark changes no flag.
+-- What the end of one mark leaves as it is, the end of all leaves.
+module _ {V : Type 0} (what : List ResourceAt → V) (kept : (r : List ℕ) (xs : List ResourceAt) (k : ℕ) → what (unfaulted r xs k) ≡ what xs) where
+  outside_keeps : (goals : List (List ℕ × ℕ)) (group r : List ℕ) (ns : List ℕ) (xs : List ResourceAt) → what (fold (ended_outside goals group r) xs ns) ≡ what xs
+  outside_keeps goals group r [] xs = refl
+  outside_keeps goals group r (k ∷ ks) xs = outside_keeps goals group r ks (ended_outside goals group r xs k) ∙ by (has (goal_of goals group) k)
+    where
+      by : (b : Bool) → what (cond b xs (unfaulted r xs k)) ≡ what xs
+      by true = refl
+      by false = kept r xs k
 
+  all_ended_keep : (t : GroupTable) (goals : List (List ℕ × ℕ)) (members : List ℕ) (rs : List (List ℕ)) (xs : List ResourceAt)
+      → what (fold (ended_for t goals members) xs rs) ≡ what xs
+  all_ended_keep t goals members [] xs = refl
+  all_ended_keep t goals members (r ∷ rs) xs = all_ended_keep t goals members rs (ended_for t goals members xs r) ∙ by (named t.resources r)
+    where
+      by : (o : Option Resource) → what (ended_of goals members r xs o) ≡ what xs
+      by None = refl
+      by (Some x) = outside_keeps goals x.group r members xs
+
+-- The end of a mark changes no flag.
 module _ (name : List ℕ) (n : ℕ) where
   abbrev flags_in : List ResourceAt → Flags
   flags_in xs = flags_of (state_of xs name n)
@@ -85,19 +103,40 @@ module _ (name : List ℕ) (n : ℕ) where
       by true = flags_kept xs cleared (ap (λ (q : NameAt). flags_of (state_of xs q.name q.node)) (sym (at_place xs r k))) name n
       by false = refl
 
-  outside_keeps : (goals : List (List ℕ × ℕ)) (group r : List ℕ) (ns : List ℕ) (xs : List ResourceAt) → flags_in (fold (ended_outside goals group r) xs ns) ≡ flags_in xs
-  outside_keeps goals group r [] xs = refl
-  outside_keeps goals group r (k ∷ ks) xs = outside_keeps goals group r ks (ended_outside goals group r xs k) ∙ by (has (goal_of goals group) k)
-    where
-      by : (b : Bool) → flags_in (cond b xs (unfaulted r xs k)) ≡ flags_in xs
-      by true = refl
-      by false = unfaulted_keeps r xs k
-
   pub ended_keeps : (t : GroupTable) (goals : List (List ℕ × ℕ)) (members : List ℕ) (rs : List (List ℕ)) (xs : List ResourceAt)
       → flags_in (fold (ended_for t goals members) xs rs) ≡ flags_in xs
-  ended_keeps t goals members [] xs = refl
-  ended_keeps t goals members (r ∷ rs) xs = ended_keeps t goals members rs (ended_for t goals members xs r) ∙ by (named t.resources r)
+  ended_keeps t goals members rs xs = all_ended_keep flags_in unfaulted_keeps t goals members rs xs
+
+-- Nor does it change what a test tells of any state that does not look at the mark.
+module _ (test : ResourceAt → Bool) (blind : (s : ResourceAt) → test (record s { faulted = false }) ≡ test s) where
+  any_kept : (s y : ResourceAt) (xs : List ResourceAt) → state_at xs s.resource s.node ≡ Some y → test s ≡ test y → list_any test (states_with xs s) ≡ list_any test xs
+  any_kept s y [] found same = cc found
+  any_kept s y (x ∷ xs) found same = by (is_state_of s.resource s.node x) found (λ rest. any_kept s y xs rest same)
     where
-      by : (o : Option Resource) → flags_in (ended_of goals members r xs o) ≡ flags_in xs
-      by None = refl
-      by (Some x) = outside_keeps goals x.group r members xs
+      inside : Some x ≡ Some y → x ≡ y
+      inside h = cc h
+
+      by : (b : Bool) → cond b (Some x) (state_at xs s.resource s.node) ≡ Some y → (state_at xs s.resource s.node ≡ Some y → list_any test (states_with xs s) ≡ list_any test xs)
+          → list_any test (cond b (s ∷ xs) (x ∷ states_with xs s)) ≡ list_any test (x ∷ xs)
+      by true found rest = ap (λ (b : Bool). b || list_any test xs) (same ∙ sym (ap test (inside found)))
+      by false found rest = ap (λ (b : Bool). test x || b) (rest found)
+
+  any_unfaulted : (r : List ℕ) (xs : List ResourceAt) (k : ℕ) → list_any test (unfaulted r xs k) ≡ list_any test xs
+  any_unfaulted r xs k = by (state_at xs r k) refl
+    where
+      without : Option ResourceAt → List ResourceAt
+      without o = cond (unwrap_or o (unmarked r k)).faulted (states_with xs (record (unwrap_or o (unmarked r k)) { faulted = false })) xs
+
+      set : (y : ResourceAt) → state_at xs r k ≡ Some y → (b : Bool) → list_any test (cond b (states_with xs (record y { faulted = false })) xs) ≡ list_any test xs
+      set y is false = refl
+      set y is true =
+          let place : place_of_state y ≡ place r k = ap (λ (o : Option ResourceAt). place_of_state (unwrap_or o (unmarked r k))) (sym is) ∙ at_place xs r k in
+          any_kept (record y { faulted = false }) y xs (ap (λ (q : NameAt). state_at xs q.name q.node) place ∙ is) (blind y)
+
+      by : (o : Option ResourceAt) → state_at xs r k ≡ o → list_any test (unfaulted r xs k) ≡ list_any test xs
+      by None is = ap (λ (o : Option ResourceAt). list_any test (without o)) is
+      by (Some y) is = ap (λ (o : Option ResourceAt). list_any test (without o)) is ∙ set y is y.faulted
+
+  pub any_ended : (t : GroupTable) (goals : List (List ℕ × ℕ)) (members : List ℕ) (rs : List (List ℕ)) (xs : List ResourceAt)
+      → list_any test (fold (ended_for t goals members) xs rs) ≡ list_any test xs
+  any_ended t goals members rs xs = all_ended_keep (list_any test) any_unfaulted t goals members rs xs

@@ -1,2 +1,4 @@
 pub mod Safe
+pub mod Membership
 pub mod Quiet
+pub mod Limits

@@ -1,16 +1,17 @@
 -- The orders that a president has outstanding stay safe, under one configuration.
-use Rattle.std.specs.Prelude.{◌≡◌, ℕ, ◌≤◌, ◌<◌, ◌^◌, Bool, List, Option, Some, length}
+use Rattle.std.specs.Prelude.{◌≡◌, ℕ, ◌≤◌, ◌<◌, ◌^◌, Bool, List, Option, None, Some, length}
 use Rattle.cl_base.specs.declared.command.Ask.{Ask}
 use Rattle.cl_base.specs.declared.command.Ask.TheVariants.{Restart, Move, Remaster, Evacuate, Clear}
 use Rattle.cl_base.specs.declared.method.Outcome.{Outcome}
 use Rattle.cl_base.specs.Limits.{most_nodes}
 use Rattle.rg_view.specs.declared.orders.Outstanding.{Outstanding}
 use Rattle.rg_view.specs.Orders.{order_of}
+use Rattle.ccr_tables.specs.declared.update.Update.{Update}
 use Rattle.ccr_tables.specs.State.{ConfigState}
 use Rattle.sequencer_laws.specs.Laws.{GoalsAreManaged}
 use Rattle.sequencer_laws.specs.Orders.{AreApart, OrdersAreSafe}
 use Rattle.wire.specs.declared.report.Report.{Report}
-use Rattle.rgm_president.specs.Acts.{president_of, with_ask, with_done}
+use Rattle.rgm_president.specs.Acts.{president_of, with_ask, with_done, with_update}
 use Rattle.rgm_president.specs.Decisions.{decision}
 use Rattle.rgm_president.specs.State.{PresidentState}
 
@@ -57,3 +58,11 @@ AsksStaySafe = (c : ConfigState) (from : ℕ) (what : Ask) (now : ℕ) (p : Pres
 -- No decision leaves a goal node to a group that is not managed.
 abbrev pub DecidedGoalsAreManaged : Type 0
 DecidedGoalsAreManaged = (c : ConfigState) (now : ℕ) (held_up : Bool) (p : PresidentState) → GoalsAreManaged c.groups (decision c now held_up p).president.view
+
+-- nothing is outstanding
+abbrev pub NothingIsOutstanding : PresidentState → Type 0
+NothingIsOutstanding p = (n : ℕ) → order_of p.view.outstanding n ≡ None
+
+-- Updates are taken up only where nothing is outstanding: so it is under the configuration with the update.
+abbrev pub UpdatesStaySafe : Type 0
+UpdatesStaySafe = (c new : ConfigState) (u : Update) (p : PresidentState) → NothingIsOutstanding p → HoldsOrders c p → HoldsOrders new (with_update new u p)

@@ -50,7 +50,7 @@ goal_other (e ∷ es) name set other apart = by (bytes_eq name e.0) refl (goal_o
     by false is ih = rw is (chosen (bytes_eq other e.0) (Some e.1) (lookup (bytes_eq other) (goals_with es name set)) (lookup (bytes_eq other) es) ih)
 
 module _ (t : GroupTable) (limits : List Limit) (v : GroupView) where
-  others_keep : (names : List (List ℕ)) (name : List ℕ) (goals : List (List ℕ × ℕ)) → Lacks names name → goal_of (fold (with_other t limits v) goals names) name ≡ goal_of goals name
+  pub others_keep : (names : List (List ℕ)) (name : List ℕ) (goals : List (List ℕ × ℕ)) → Lacks names name → goal_of (fold (with_other t limits v) goals names) name ≡ goal_of goals name
   others_keep [] name goals apart = refl
   others_keep (x ∷ xs) name goals apart = others_keep xs name (with_other t limits v goals x) apart.1 ∙ by (is_fixed t v x)
     where
