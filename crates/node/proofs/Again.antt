@@ -53,8 +53,8 @@ pub told_at_tick : (c : Cluster) (me : ℕ) (x : UpNode) (beats : State) (given 
 told_at_tick c me x beats given first second third is said beat again =
     let later_beats : State = ticked x.beats c.configured in
     let sent : second ≡ (given ++ Tells (trace.Node me note.Ticked) ∷ []) ++ heartbeats_to (later c x) (receivers_of later_beats c.configured) =
-        beat ∙ ap (λ b. first ++ heartbeats_to (beating x b) (receivers_of b c.configured)) is ∙ ap (λ os. os ++ heartbeats_to (beating x later_beats) (receivers_of later_beats c.configured)) said
-        ∙ ap (λ os. (given ++ Tells (trace.Node me note.Ticked) ∷ []) ++ os) (same_beats c x (receivers_of later_beats c.configured)) in
+    beat ∙ ap (λ b. first ++ heartbeats_to (beating x b) (receivers_of b c.configured)) is ∙ ap (λ os. os ++ heartbeats_to (beating x later_beats) (receivers_of later_beats c.configured)) said
+    ∙ ap (λ os. (given ++ Tells (trace.Node me note.Ticked) ∷ []) ++ os) (same_beats c x (receivers_of later_beats c.configured)) in
     let requests : request_again (beating x beats) ≡ request_again x = same_requests x beats x.presidency in
     let prepares : prepares_again (beating x beats) ≡ prepares_again x = same_prepares x beats x.presidency in
     let head : List Output = given ++ Tells (trace.Node me note.Ticked) ∷ [] in

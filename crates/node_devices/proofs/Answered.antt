@@ -29,8 +29,8 @@ pub answered_so : {K : Type 0} → (saving : K → NodeRecord → Saving K) (c :
     → Follows saving (on_answer_of_device c me x a) given disk result after left
 answered_so saving c me x a tasks greatest d k progress given told after disk left result due command says done seen_so goes h =
     let here = subst (λ (p : Progress). Follows saving (on_progress c me (next x a) p) told disk result after left) goes
-        (subst (λ (g : ℕ). Follows saving (on_progress c me (record x { tasks = after_answer x.tasks a; greatest = g }) progress) told disk result after left) seen_so
-        (subst (λ (ts : List Task). Follows saving (on_progress c me (record x { tasks = ts; greatest = greatest }) progress) told disk result after left) done h)) in
+    (subst (λ (g : ℕ). Follows saving (on_progress c me (record x { tasks = after_answer x.tasks a; greatest = g }) progress) told disk result after left) seen_so
+    (subst (λ (ts : List Task). Follows saving (on_progress c me (record x { tasks = ts; greatest = greatest }) progress) told disk result after left) done h)) in
     let rest = subst (λ (os : List Output). Follows saving (on_progress c me (next x a) (progress_after x.tasks a)) os disk result after left) says here in
     let whole = follows_says saving (Tells (entry.Device (device.Command me d k (answer_told a))) ∷ []) (on_progress c me (next x a) (progress_after x.tasks a)) given after disk left result rest in
     subst (λ (o : Option ℕ). Follows saving (answered_with c me x a o (next_of x.tasks)) given disk result after left) (sym due)
