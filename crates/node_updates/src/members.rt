@@ -24,7 +24,7 @@ pub fn prepare<K: RecordDisk>(
     text: &Bytes,
     out: &mut Vec<Output>,
 ) -> Result<UpNode, Stop>
-    ensures { Follows K.saving (on_prepare_as me up from epoch place text.now up.seat) out.old.items disk.old result out.new.items disk.new }
+    ensures follows { Follows K.saving (on_prepare_as me up from epoch place text.now up.seat) out.old.items disk.old result out.new.items disk.new }
 {
     if !is_in(&up, epoch) {
         return Ok(up);
@@ -51,7 +51,7 @@ pub fn commit<K: RecordDisk>(
     place: u64,
     out: &mut Vec<Output>,
 ) -> Result<UpNode, Stop>
-    ensures { Follows K.saving (on_commit_as me up epoch place up.seat) out.old.items disk.old result out.new.items disk.new }
+    ensures follows { Follows K.saving (on_commit_as me up epoch place up.seat) out.old.items disk.old result out.new.items disk.new }
 {
     if !is_in(&up, epoch) {
         return Ok(up);

@@ -26,7 +26,7 @@ pub fn take_request<K: RecordDisk>(
     text: &Bytes,
     out: &mut Vec<Output>,
 ) -> Result<UpNode, Stop>
-    ensures { Follows K.saving (on_asked cluster.now me up from epoch number text.now) out.old.items disk.old result out.new.items disk.new }
+    ensures follows { Follows K.saving (on_asked cluster.now me up from epoch number text.now) out.old.items disk.old result out.new.items disk.new }
 {
     if !is_of_member(&up, from, epoch) {
         return Ok(up);
@@ -53,7 +53,7 @@ pub fn take_prepared<K: RecordDisk>(
     place: u64,
     out: &mut Vec<Output>,
 ) -> Result<UpNode, Stop>
-    ensures { Follows K.saving (on_prepared cluster.now me up from epoch place) out.old.items disk.old result out.new.items disk.new }
+    ensures follows { Follows K.saving (on_prepared cluster.now me up from epoch place) out.old.items disk.old result out.new.items disk.new }
 {
     if !is_of_member(&up, from, epoch) {
         return Ok(up);

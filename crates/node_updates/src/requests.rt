@@ -33,7 +33,7 @@ pub fn take_command<K: RecordDisk>(
     words: &[u8],
     out: &mut Vec<Output>,
 ) -> Result<UpNode, Stop>
-    ensures { Follows K.saving (on_command cluster.now me up words.now) out.old.items disk.old result out.new.items disk.new }
+    ensures follows { Follows K.saving (on_command cluster.now me up words.now) out.old.items disk.old result out.new.items disk.new }
 {
     let number = up.requests.take_number();
     tell(
@@ -171,7 +171,7 @@ pub fn take_reply<K: RecordDisk>(
     text: &[u8],
     out: &mut Vec<Output>,
 ) -> Result<UpNode, Stop>
-    ensures { Follows K.saving (on_reply cluster.now me up epoch number (answer_in text.now)) out.old.items disk.old result out.new.items disk.new }
+    ensures follows { Follows K.saving (on_reply cluster.now me up epoch number (answer_in text.now)) out.old.items disk.old result out.new.items disk.new }
 {
     if !is_member_in(&up, epoch) {
         return Ok(up);
