@@ -18,6 +18,8 @@ mod properties;
 #[cfg(test)]
 mod queries;
 #[cfg(test)]
+mod requests;
+#[cfg(test)]
 mod states;
 #[cfg(test)]
 mod things;
