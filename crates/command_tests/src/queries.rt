@@ -1,0 +1,27 @@
+// Queries, and tables that are not there.
+use crate::cases::{BOTH, answers, expect};
+use crate::fixture::first;
+use cl_base::Version;
+use std::test::Fail;
+
+const QUERIES: &[u8] = b"clrg status|query
+clrs status|query
+clq status|query
+ccr infrastructure|query
+ccr types|query
+ccr groups|query
+ccr resources|query
+ccr addresses|query
+ccr nodes|refused unknown nodes";
+
+/// Addresses are there from the second version on.
+const QUERIES_OF_ONE: &[u8] = b"ccr resources|query
+ccr addresses|refused unknown addresses";
+
+#[test]
+fn queries_are_accepted(rt: HostRuntime) -> Result<(), Fail> {
+    let a = rt.alloc();
+    expect(&rt, a, b"", BOTH, QUERIES)?;
+    let mut config = first(a, Version::One)?;
+    answers(&rt, a, &mut config, b"", BOTH, QUERIES_OF_ONE)
+}
