@@ -1,0 +1,15 @@
+//! Tests of the president of groups, and of what it knows of them.
+#![tactic(auto)]
+
+#[cfg(test)]
+mod asking;
+#[cfg(test)]
+mod deciding;
+#[cfg(test)]
+mod fixture;
+#[cfg(test)]
+mod knowing;
+#[cfg(test)]
+mod scenes;
+#[cfg(test)]
+mod standing;
