@@ -1,34 +1,49 @@
--- Which outcomes the agents give, and what they keep.
-use Rattle.std.specs.Prelude.{◌≡◌, ℕ, ◌+◌, ◌==◌, nat_le, ◌&&◌, List, [], ◌∷◌, if◌then◌else◌}
+-- How the agents' calls end, and what the agents keep.
+use Rattle.std.specs.Prelude.{ℕ, zero, suc, ◌+◌, ◌==◌, nat_le, ◌&&◌, Bool, List, [], ◌∷◌, if◌then◌else◌}
 use Rattle.cl_base.specs.Methods.{place_of}
 use Rattle.cl_base.specs.declared.agent.Call.{Call}
 use Rattle.cl_base.specs.declared.method.Outcome.{Outcome}
 use Rattle.cl_base.specs.declared.method.Outcome.TheVariants.{Success, Failure, Timeout}
-use Rattle.cl_base.specs.declared.method.Method.{Method}
 use Rattle.cl_base.specs.declared.method.Method.TheVariants.{Start}
 
 -- always success; it keeps nothing
-abbrev pub Obeys : List ℕ → Call → Outcome → List ℕ → Type 0
-Obeys kept call outcome new = (outcome ≡ Success) × (new ≡ kept)
+abbrev pub obeys : List ℕ → Call → Outcome
+obeys kept call = Success
 
--- after a call of this method: how many START calls came since the last that failed
-abbrev pub starts_after : Method → ℕ → ℕ
-starts_after method starts = if place_of method == place_of Start then (if nat_le 2 starts then 0 else starts + 1) else starts
+abbrev pub same_kept : List ℕ → Call → List ℕ
+same_kept kept call = kept
 
-abbrev pub third_fails : Method → ℕ → Outcome
-third_fails method starts = if (place_of method == place_of Start) && nat_le 2 starts then Failure else Success
+-- Of the START calls each third is a failure; it keeps how many came since the last that failed.
 
--- each third START call is a failure, every other call a success; it keeps the number of START calls since the last that failed
-abbrev pub FailsEachThird : List ℕ → Call → Outcome → List ℕ → Type 0
-FailsEachThird kept call outcome new = (starts : ℕ) → kept ≡ starts ∷ [] → (outcome ≡ third_fails call.method starts) × (new ≡ starts_after call.method starts ∷ [])
+abbrev pub is_start : Call → Bool
+is_start call = place_of call.method == place_of Start
 
--- an outcome as a number
+abbrev pub starts_in : List ℕ → ℕ
+starts_in [] = 0
+starts_in (starts ∷ _) = starts
+
+abbrev pub fails_each_third : List ℕ → Call → Outcome
+fails_each_third kept call = if is_start call && nat_le 2 (starts_in kept) then Failure else Success
+
+abbrev pub starts_after : List ℕ → Call → List ℕ
+starts_after kept call = (if is_start call then (if nat_le 2 (starts_in kept) then 0 else starts_in kept + 1) else starts_in kept) ∷ []
+
+-- The outcomes that are left, in order, and then success.
+
 abbrev pub code_of : Outcome → ℕ
 code_of Success = 0
 code_of Failure = 1
 code_of Timeout = 2
 
--- the outcomes that are left, in order, and then success
-abbrev pub Follows : List ℕ → Call → Outcome → List ℕ → Type 0
-Follows [] call outcome new = (outcome ≡ Success) × (new ≡ [])
-Follows (code ∷ codes) call outcome new = (code_of outcome ≡ code) × (new ≡ codes)
+abbrev pub coded : ℕ → Outcome
+coded zero = Success
+coded (suc zero) = Failure
+coded (suc (suc n)) = Timeout
+
+abbrev pub follows : List ℕ → Call → Outcome
+follows [] call = Success
+follows (code ∷ codes) call = coded code
+
+abbrev pub left_after : List ℕ → Call → List ℕ
+left_after [] call = []
+left_after (code ∷ codes) call = codes

@@ -1,4 +1,4 @@
--- what a reader must believe
 pub mod State
--- what only the proofs need
 pub mod Answers
+pub mod Stock
+pub mod Calls

@@ -1,5 +1,5 @@
 ghost use Rattle.std.specs.Prelude.{◌≡◌, ◌∷◌, []};
-ghost use Rattle.agents.specs.Answers.{FailsEachThird};
+ghost use Rattle.agents.specs.Answers.{fails_each_third, starts_after};
 
 use cl_base::{Agent, Call, Method, Name, Outcome};
 use std::marker::Model;
@@ -34,7 +34,9 @@ impl Agent for EveryThird {
 
     ghost kept = { λ a. a.starts ∷ [] };
 
-    ghost answers = { FailsEachThird };
+    ghost outcome = { fails_each_third };
+
+    ghost then_kept = { starts_after };
 
     fn name(&self) -> &[u8] {
         self.name.bytes()

@@ -1,5 +1,5 @@
 ghost use Rattle.std.specs.Prelude.{◌≡◌, []};
-ghost use Rattle.agents.specs.Answers.{Obeys};
+ghost use Rattle.agents.specs.Answers.{obeys, same_kept};
 
 use cl_base::{Agent, Call, Name, Outcome};
 use std::marker::Model;
@@ -32,7 +32,9 @@ impl Agent for Obedient {
 
     ghost kept = { λ a. [] };
 
-    ghost answers = { Obeys };
+    ghost outcome = { obeys };
+
+    ghost then_kept = { same_kept };
 
     fn name(&self) -> &[u8] {
         self.name.bytes()

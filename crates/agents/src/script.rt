@@ -1,5 +1,5 @@
 ghost use Rattle.std.specs.Prelude.{◌≡◌, map};
-ghost use Rattle.agents.specs.Answers.{Follows, code_of};
+ghost use Rattle.agents.specs.Answers.{follows, left_after, code_of};
 
 use cl_base::{Agent, Call, Name, Outcome};
 use std::marker::Model;
@@ -40,7 +40,9 @@ impl Agent for Script {
 
     ghost kept = { λ a. map code_of a.left };
 
-    ghost answers = { Follows };
+    ghost outcome = { follows };
+
+    ghost then_kept = { left_after };
 
     fn name(&self) -> &[u8] {
         self.name.bytes()

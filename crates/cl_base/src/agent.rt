@@ -20,7 +20,7 @@ pub struct Call {
 }
 
 /// Who carries out the methods of the resource types that name it. It promises nothing about the
-/// outcomes: `answers` may allow each.
+/// outcomes: what it has kept of the calls so far decides each, in a way of its own.
 pub trait Agent: Drop {
     /// The name that resource types name it by.
     ghost named: { Self → List ℕ };
@@ -28,9 +28,11 @@ pub trait Agent: Drop {
     /// What it has kept of the calls so far, as a list of numbers.
     ghost kept: { Self → List ℕ };
 
-    /// Which outcome a call may have, and what is kept then: the state before the call, the call, the
-    /// outcome, the state after it.
-    ghost answers: { List ℕ → Call → Outcome → List ℕ → Type 0 };
+    /// How a call ends, by what was kept before it.
+    ghost outcome: { List ℕ → Call → Outcome };
+
+    /// What is kept after a call.
+    ghost then_kept: { List ℕ → Call → List ℕ };
 
     /// The agent's name.
     fn name(&self) -> &[u8]
@@ -39,5 +41,6 @@ pub trait Agent: Drop {
     /// Carries out the call. The name stays.
     fn call(&mut self, call: &Call) -> Outcome
         ensures same_name { named self.new ≡ named self.old }
-        ensures answer { answers (kept self.old) call.now result (kept self.new) };
+        ensures outcome { result ≡ outcome (kept self.old) call.now }
+        ensures after { kept self.new ≡ then_kept (kept self.old) call.now };
 }
