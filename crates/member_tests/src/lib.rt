@@ -1,5 +1,7 @@
-//! Tests of a member's part in resource groups.
+//! Tests of a member's part in resource groups, and of the agents.
 #![tactic(auto)]
 
+#[cfg(test)]
+mod callees;
 #[cfg(test)]
 mod members;

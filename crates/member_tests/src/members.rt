@@ -1,8 +1,8 @@
 use ccr_tables::{Config, ResourceChange, Update};
 use cl_base::{
-    Bytes, Epoch, Header, Items, Method, MethodSet, Name, NodeId, NodeSet, Outcome, Version,
+    Bytes, Call, Epoch, Header, Items, Method, MethodSet, Name, NodeId, NodeSet, Outcome, Version,
 };
-use rgm_member::{Carried, Worker};
+use rgm_member::{Carried, Due, Worker, is_fatal};
 use std::alloc::Global;
 use std::process::Abort;
 use std::test::Fail;
@@ -167,16 +167,36 @@ fn follow(
     rows: &[(Method, Outcome, u64)],
 ) -> Result<Worker, Fail> {
     let mut worker = member(alloc)?;
-    let mut none = Vec::new(alloc);
     let mut number = 0u64;
     for (method, outcome, wanted) in rows {
         number = number.saturating_add(1);
         let o = order(alloc, number, r, Some(*method))?;
-        let carried = worker.carry_out(&o, c, &mut none, Some(*outcome), number)?;
-        assert_eq!(rt; carried, Carried::Called(*outcome));
+        carry_out_once(rt, &mut worker, &o, c, *outcome)?;
         expect_marks(rt, alloc, &worker, c, r, *wanted)?;
+        assert_eq!(rt; worker.has_flag(), *wanted % 8 != 0);
     }
     Ok(worker)
+}
+
+/// A call is due before the order is carried out, and none after it.
+fn carry_out_once(
+    rt: &impl Abort,
+    worker: &mut Worker,
+    o: &Order,
+    c: &Config,
+    outcome: Outcome,
+) -> Result<(), Fail> {
+    assert!(rt; worker.due(o, c, 7).is_some());
+    assert_eq!(rt;
+        worker.carry_out(o, c, outcome, 7)?,
+        Carried::Called(outcome)
+    );
+    assert!(rt; worker.due(o, c, 8).is_none());
+    assert_eq!(rt;
+        worker.carry_out(o, c, Outcome::Timeout, 8)?,
+        Carried::Kept(outcome)
+    );
+    Ok(())
 }
 
 fn succeed(rt: &impl Abort, alloc: Global, c: &Config) -> Result<(), Fail> {
@@ -203,6 +223,83 @@ fn successes_set_flags(rt: HostRuntime) -> Result<(), Fail> {
     let alloc = rt.alloc();
     let c = config(alloc, b"NONE")?;
     succeed(&rt, alloc, &c)
+}
+
+/// The call of an order for the resource at second 7, as it is due.
+fn expect_due(
+    rt: &impl Abort,
+    alloc: Global,
+    c: &Config,
+    r: &[u8],
+    agent: Option<Name>,
+) -> Result<(), Fail> {
+    let o = order(alloc, 3, r, Some(Method::Start))?;
+    let call = Call {
+        node: NodeId::new(1)?,
+        resource: name(r)?,
+        method: Method::Start,
+        second: 7,
+    };
+    let due = member(alloc)?.due(&o, c, 7);
+    assert_eq!(rt; due, Some(Due { agent, call }));
+    Ok(())
+}
+
+#[test]
+fn a_call_is_due_of_the_agent_that_the_type_names(rt: HostRuntime) -> Result<(), Fail> {
+    let alloc = rt.alloc();
+    let c = config(alloc, b"NONE")?;
+    expect_due(&rt, alloc, &c, b"r", Some(name(b"script")?))?;
+    expect_due(&rt, alloc, &c, b"unknown", None)
+}
+
+#[test]
+fn nothing_is_due(rt: HostRuntime) -> Result<(), Fail> {
+    let alloc = rt.alloc();
+    let c = config(alloc, b"NONE")?;
+    let mut worker = member(alloc)?;
+    let clear = order(alloc, 3, b"r", None)?;
+    assert!(rt; worker.due(&clear, &c, 7).is_none());
+    let no_name = order(alloc, 3, b"two words", Some(Method::Start))?;
+    assert!(rt; worker.due(&no_name, &c, 7).is_none());
+    let old = order(alloc, 3, b"r", Some(Method::Start))?;
+    worker.enter(epoch(129));
+    assert!(rt; worker.due(&old, &c, 7).is_none());
+    Ok(())
+}
+
+/// Whether the node panics of a method of r that ends so.
+fn expect_fatal(rt: &impl Abort, c: &Config, rows: &[(Method, Outcome, bool)]) -> Result<(), Fail> {
+    let r = name(b"r")?;
+    for (method, outcome, wanted) in rows {
+        assert_eq!(rt; is_fatal(c, &r, *method, *outcome), *wanted);
+    }
+    Ok(())
+}
+
+#[test]
+fn failures_to_stop_are_fatal_under_hard(rt: HostRuntime) -> Result<(), Fail> {
+    let alloc = rt.alloc();
+    let rows = [
+        (Method::MonitorStop, Outcome::Timeout, true),
+        (Method::Stop, Outcome::Failure, true),
+        (Method::PostnetStop, Outcome::Failure, true),
+        (Method::Stop, Outcome::Success, false),
+        (Method::Start, Outcome::Failure, false),
+        (Method::MonitorStart, Outcome::Failure, false),
+    ];
+    expect_fatal(&rt, &config(alloc, b"HARD")?, &rows)
+}
+
+#[test]
+fn failures_to_stop_are_borne_under_soft(rt: HostRuntime) -> Result<(), Fail> {
+    let alloc = rt.alloc();
+    let rows = [
+        (Method::MonitorStop, Outcome::Timeout, false),
+        (Method::Stop, Outcome::Failure, false),
+        (Method::PostnetStop, Outcome::Failure, false),
+    ];
+    expect_fatal(&rt, &config(alloc, b"SOFT")?, &rows)
 }
 
 fn forget(rt: &impl Abort, alloc: Global, w: &mut Worker, c: &mut Config) -> Result<(), Fail> {

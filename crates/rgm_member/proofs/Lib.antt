@@ -1,4 +1,3 @@
 mod Kept
 mod OrderLaws
-mod Places
 mod Reports

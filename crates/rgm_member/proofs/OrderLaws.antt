@@ -16,8 +16,10 @@ use Rattle.wire.specs.declared.message.Order.{Order}
 use Rattle.wire.specs.declared.report.Marks.{Marks}
 use Rattle.ccr_tables.specs.State.{ConfigState}
 use Rattle.rg_props.specs.Words.{name_in}
-use Rattle.rgm_member.specs.declared.carried.Carried.TheVariants.{Kept, Old}
-use Rattle.rgm_member.specs.Laws.{CallOnce, OthersStay, OutcomesStay, RestartsAreFew, SuccessAlone}
+use Rattle.rgm_member.specs.declared.carried.Carried.TheVariants.{Called, Kept, Old}
+use Rattle.rgm_member.specs.declared.due.Due.{Due}
+use Rattle.rgm_member.specs.Dues.{due_by_kept, due_call, due_of}
+use Rattle.rgm_member.specs.Laws.{CallOnce, DueIsCalled, DueOnce, OthersStay, OutcomesStay, RestartsAreFew, SuccessAlone}
 use Rattle.rgm_member.specs.Orders.{after_order, answer_by_kept, answer_to, done, kept_outcome, outcome_in, with_outcome}
 use Rattle.rgm_member.specs.Outcomes.{after_failure, is_start_failure, is_success, marks_after}
 use Rattle.rgm_member.specs.State.{WorkerState, marks_of, no_marks}
@@ -122,6 +124,30 @@ call_once w c o again now x y member same_epoch same_number =
     by (Some k) h method = again_kept w again y k (same_epoch ∙ member) (ap (λ (n : ℕ). kept_outcome w n) same_number ∙ h)
     by None h None = again_kept (with_outcome (done w c (name_in o.resource) o.method Success now) o.number Success) again y Success (at Success) (ended Success)
     by None h (Some method) = again_kept (with_outcome (done w c (name_in o.resource) o.method x now) o.number x) again y x (at x) (ended x)
+
+pub due_is_called : DueIsCalled
+due_is_called w c o now outcome due is = by (o.epoch == w.epoch) (kept_outcome w o.number) o.method (name_in o.resource) is
+  where
+    by : (b : Bool) (kept : Option Outcome) (method : Option Method) (name : Option (List ℕ))
+        → cond b (due_by_kept kept (due_call w.me c method name now)) None ≡ Some due → cond b (answer_by_kept kept method outcome) Old ≡ Called outcome
+    by false kept method name h = cc h
+    by true (Some k) method name h = cc h
+    by true None None name h = cc h
+    by true None (Some method) None h = cc h
+    by true None (Some method) (Some r) h = refl
+
+pub due_once : DueOnce
+due_once w c later o again now second x member same_epoch same_number = by (due_of after later again second) refl
+  where
+    after : WorkerState
+    after = after_order w c o now (answer_to w o x)
+
+    by : (due : Option Due) → due_of after later again second ≡ due → due ≡ None
+    by None is = refl
+    by (Some due) is =
+        let called = due_is_called after later again second x due is in
+        let kept = call_once w c o again now x x member same_epoch same_number in
+        cc (called, kept)
 
 pub outcomes_stay : OutcomesStay
 outcomes_stay w c o now number x kept is = of (o.epoch == w.epoch) (kept_outcome w o.number) refl o.method

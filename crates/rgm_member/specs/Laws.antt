@@ -1,12 +1,14 @@
 -- What holds of all orders and outcomes.
-use Rattle.std.specs.Prelude.{◌≡◌, ℕ, ◌≤◌, false, List, Some, length, if◌then◌else◌}
+use Rattle.std.specs.Prelude.{◌≡◌, ℕ, ◌≤◌, false, List, None, Some, length, if◌then◌else◌}
 use Rattle.std.specs.Str.{bytes_eq}
 use Rattle.cl_base.specs.declared.method.Method.{Method}
 use Rattle.cl_base.specs.declared.method.Outcome.{Outcome}
 use Rattle.wire.specs.declared.message.Order.{Order}
 use Rattle.wire.specs.declared.report.Marks.{Marks}
 use Rattle.ccr_tables.specs.State.{ConfigState}
-use Rattle.rgm_member.specs.declared.carried.Carried.TheVariants.{Kept}
+use Rattle.rgm_member.specs.declared.carried.Carried.TheVariants.{Called, Kept}
+use Rattle.rgm_member.specs.declared.due.Due.{Due}
+use Rattle.rgm_member.specs.Dues.{due_of}
 use Rattle.rgm_member.specs.Orders.{after_order, answer_to, kept_outcome, outcome_in}
 use Rattle.rgm_member.specs.Outcomes.{is_success, marks_after, resources_after}
 use Rattle.rgm_member.specs.Probes.{one_more_restart, most_restarts}
@@ -22,6 +24,17 @@ CallOnce = (w : WorkerState) (c : ConfigState) (o again : Order) (now : ℕ) (x 
 abbrev pub OutcomesStay : Type 0
 OutcomesStay = (w : WorkerState) (c : ConfigState) (o : Order) (now number : ℕ) (x kept : Outcome) → kept_outcome w number ≡ Some kept
     → kept_outcome (after_order w c o now (answer_to w o x)) number ≡ Some kept
+
+-- What is due of an order is called where the order is carried out.
+abbrev pub DueIsCalled : Type 0
+DueIsCalled = (w : WorkerState) (c : ConfigState) (o : Order) (now : ℕ) (outcome : Outcome) (due : Due) → due_of w c o now ≡ Some due
+    → answer_to w o outcome ≡ Called outcome
+
+-- Of an order number that was carried out nothing is due any more, whatever the configuration is then.
+abbrev pub DueOnce : Type 0
+DueOnce = (w : WorkerState) (c later : ConfigState) (o again : Order) (now second : ℕ) (x : Outcome) → o.epoch ≡ w.epoch
+    → again.epoch ≡ o.epoch → again.number ≡ o.number
+    → due_of (after_order w c o now (answer_to w o x)) later again second ≡ None
 
 -- Flags change by success alone.
 abbrev pub SuccessAlone : Type 0

@@ -1,8 +1,9 @@
 pub mod State
+pub mod Flags
 pub mod Settings
-pub mod Calls
 pub mod Outcomes
 pub mod Orders
+pub mod Dues
 pub mod Keeping
 pub mod Probes
 pub mod Reports

@@ -1,8 +1,7 @@
 -- What becomes of an order.
-use Rattle.std.specs.Prelude.{◌≡◌, ℕ, ◌==◌, List, Option, IfSome, None, Some, if◌then◌else◌, nat_eq}
+use Rattle.std.specs.Prelude.{◌≡◌, ℕ, ◌==◌, List, Option, None, Some, if◌then◌else◌, nat_eq}
 use Rattle.std.specs.Map.{lookup}
 use Rattle.indexmap.specs.IndexMap.{insert_entry}
-use Rattle.cl_base.specs.declared.agent.Call.{Call}
 use Rattle.cl_base.specs.declared.method.Method.{Method}
 use Rattle.cl_base.specs.declared.method.Outcome.{Outcome}
 use Rattle.cl_base.specs.declared.method.Outcome.TheVariants.{Success, Failure}
@@ -11,9 +10,7 @@ use Rattle.rg_props.specs.Words.{name_in}
 use Rattle.ccr_tables.specs.State.{ConfigState}
 use Rattle.rgm_member.specs.declared.carried.Carried.{Carried}
 use Rattle.rgm_member.specs.declared.carried.Carried.TheVariants.{Called, Cleared, Kept, Old}
-use Rattle.rgm_member.specs.Calls.{CallEnds}
 use Rattle.rgm_member.specs.Outcomes.{after_outcome, resources_cleared}
-use Rattle.rgm_member.specs.Settings.{agent_of}
 use Rattle.rgm_member.specs.State.{WorkerState}
 
 -- the outcome that is kept of the order of this number, if it was carried out in the membership
@@ -59,21 +56,3 @@ after_order w c o now (Called outcome) = with_outcome (done w c (name_in o.resou
 after_order w c o now Cleared = with_outcome (done w c (name_in o.resource) o.method Success now) o.number Success
 after_order w c o now (Kept outcome) = w
 after_order w c o now Old = w
-
--- the agent that an order is for
-abbrev pub agent_for : ConfigState → Option (List ℕ) → Option (List ℕ)
-agent_for c None = None
-agent_for c (Some r) = agent_of c r
-
--- the call that an order asks for
-abbrev pub call_of : WorkerState → Order → Method → ℕ → Call
-call_of w o method now = record { node = w.me; resource = o.resource; method = method; second = now }
-
--- What an order did with the agents: where it was called, they are as a call leaves them; else they are as they were.
-module _ {A : Type 0} (named kept : A → List ℕ) (answers : A → List ℕ → Call → Outcome → List ℕ → Type 0) (old new : List A) where
-  abbrev pub AgentsAfter : WorkerState → ConfigState → Order → Option Outcome → ℕ → Carried → Type 0
-  AgentsAfter w c o scripted now (Called outcome) =
-      IfSome o.method (λ method. CallEnds named kept answers old new (agent_for c (name_in o.resource)) scripted (call_of w o method now) outcome)
-  AgentsAfter w c o scripted now Cleared = new ≡ old
-  AgentsAfter w c o scripted now (Kept outcome) = new ≡ old
-  AgentsAfter w c o scripted now Old = new ≡ old

@@ -75,6 +75,31 @@ is_success Timeout = false
 abbrev pub is_start_failure : ConfigState → List ℕ → Method → Outcome → Bool
 is_start_failure c r method outcome = not (is_success outcome) && starts method && takes_away (mode_of c r) && not (is_suspended c r)
 
+abbrev pub stops : Method → Bool
+stops PrenetStart = false
+stops Start = false
+stops MonitorStart = false
+stops MonitorCheck = false
+stops MonitorStop = true
+stops Stop = true
+stops PostnetStop = true
+stops Validate = false
+stops Init = false
+stops Fini = false
+stops Boot = false
+stops Update = false
+
+abbrev pub is_hard : FailoverMode → Bool
+is_hard mode.None = false
+is_hard mode.Soft = false
+is_hard mode.Hard = true
+is_hard mode.RestartOnly = false
+is_hard mode.LogOnly = false
+
+-- MONITOR_STOP, STOP or POSTNET_STOP that did not succeed, under HARD: the node panics
+abbrev pub is_fatal : ConfigState → List ℕ → Method → Outcome → Bool
+is_fatal c r method outcome = not (is_success outcome) && stops method && is_hard (mode_of c r)
+
 abbrev pub marks_after : ConfigState → List ℕ → Method → Outcome → Marks → Marks
 marks_after c r method outcome m =
     if is_success outcome then after_success (has_postnet_stop c r) method m

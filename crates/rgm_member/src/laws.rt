@@ -1,10 +1,17 @@
-ghost use Rattle.rgm_member.specs.Laws.{CallOnce, OthersStay, OutcomesStay, RestartsAreFew, SuccessAlone};
+ghost use Rattle.rgm_member.specs.Laws.{CallOnce, DueIsCalled, DueOnce, OthersStay, OutcomesStay, RestartsAreFew, SuccessAlone};
 
 /// An order number of a membership calls once. An order of the same number that comes later gets
 /// the outcome of the first, whatever orders came between.
 pub fn orders_call_once()
     ensures once { CallOnce }
     ensures stay { OutcomesStay }
+{}
+
+/// A call that is due of an order is made where the order is carried out. After that none is due of an
+/// order of this number.
+pub fn due_calls_are_made()
+    ensures called { DueIsCalled }
+    ensures once { DueOnce }
 {}
 
 /// Flags change by success alone, and those of the order's resource alone.

@@ -2,8 +2,9 @@
 //! marks and histories of its node, and reports them. All of it is lost with the node.
 #![tactic(auto)]
 
-mod agents;
 mod carried;
+mod due;
+mod flags;
 mod keeping;
 mod laws;
 mod memory;
@@ -18,9 +19,10 @@ mod tables;
 mod worker;
 
 pub use carried::Carried;
-pub use laws::{flags_change_by_success, orders_call_once, restarts_are_few};
+pub use due::Due;
+pub use laws::{due_calls_are_made, flags_change_by_success, orders_call_once, restarts_are_few};
 pub use memory::NoMemory;
-pub use outcomes::{is_start_failure, marks_after};
+pub use outcomes::{is_fatal, is_start_failure, marks_after};
 pub use past::Past;
 pub use probed::Probed;
 pub use settings::charged;

@@ -1,6 +1,6 @@
 // What the outcome of a method leaves of a resource's flags and marks.
 ghost use Rattle.std.specs.Prelude.{◌≡◌};
-ghost use Rattle.rgm_member.specs.Outcomes.{after_success, after_failure, is_start_failure, is_success, marks_after, starts, takes_away};
+ghost use Rattle.rgm_member.specs.Outcomes.{after_success, after_failure, is_fatal, is_hard, is_start_failure, is_success, marks_after, starts, stops, takes_away};
 
 use crate::settings::{has_postnet_stop, is_suspended, mode_of};
 use ccr_tables::Config;
@@ -27,6 +27,13 @@ pub fn is_start_failure(c: &Config, r: &Name, method: Method, outcome: Outcome) 
     !is_success(outcome) && starts(method) && takes_away(mode_of(c, r)) && !is_suspended(c, r)
 }
 
+/// Whether the node panics of it: MONITOR_STOP, STOP or POSTNET_STOP that did not succeed, under HARD.
+pub fn is_fatal(c: &Config, r: &Name, method: Method, outcome: Outcome) -> bool
+    ensures value { result ≡ is_fatal c.now r.now method outcome }
+{
+    !is_success(outcome) && stops(method) && is_hard(mode_of(c, r))
+}
+
 fn is_success(outcome: Outcome) -> bool
     ensures { result ≡ is_success outcome }
 {
@@ -42,6 +49,27 @@ fn starts(method: Method) -> bool
     match method {
         Method::PrenetStart | Method::Start => true,
         _ => false,
+    }
+}
+
+fn stops(method: Method) -> bool
+    ensures { result ≡ stops method }
+{
+    match method {
+        Method::MonitorStop | Method::Stop | Method::PostnetStop => true,
+        _ => false,
+    }
+}
+
+fn is_hard(mode: FailoverMode) -> bool
+    ensures { result ≡ is_hard mode }
+{
+    match mode {
+        FailoverMode::Hard => true,
+        FailoverMode::None
+        | FailoverMode::Soft
+        | FailoverMode::RestartOnly
+        | FailoverMode::LogOnly => false,
     }
 }
 

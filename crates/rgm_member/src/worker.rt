@@ -1,21 +1,19 @@
 ghost use Rattle.std.specs.Prelude.{◌≡◌, ◌<◌, [], IfOk, OnErr};
 ghost use Rattle.indexmap.specs.IndexMap.{spare};
 ghost use Rattle.rg_props.specs.Words.{name_in};
-ghost use Rattle.rgm_member.specs.Calls.{CallEnds};
-ghost use Rattle.rgm_member.specs.Orders.{AgentsAfter, IsNew, agent_for, after_order, answer_to, call_of, outcome_in};
+ghost use Rattle.rgm_member.specs.Orders.{IsNew, after_order, answer_to};
 ghost use Rattle.rgm_member.specs.Outcomes.{groups_after, resources_after, resources_cleared, with_failure};
 ghost use Rattle.rgm_member.specs.State.{new_worker};
 
-use crate::agents::call_method;
 use crate::carried::Carried;
 use crate::memory::NoMemory;
 use crate::names::name_of;
 use crate::outcomes::{is_start_failure, marks_after};
 use crate::past::Past;
-use crate::settings::{agent_of, charged};
+use crate::settings::charged;
 use crate::tables::{keep_outcome, make_room, marks_of, past_of, put};
 use ccr_tables::Config;
-use cl_base::{Agent, Call, Epoch, Method, Name, NodeId, Outcome, Seconds};
+use cl_base::{Epoch, Method, Name, NodeId, Outcome, Seconds};
 use indexmap::IndexMap;
 use std::alloc::Global;
 use std::marker::Model;
@@ -64,22 +62,19 @@ impl Worker {
         self.outcomes.clear();
     }
 
-    /// Carries out an order at the second `now`, once. The method is called of the first agent of
-    /// the name that the type of its resource gives, unless `scripted` says how it ends. Where a
-    /// method that brings down fails under HARD the mark is set too; the panic is the caller's.
+    /// Carries out an order at the second `now`, once. `outcome` is how its method ends, where one is
+    /// called: `due` says which call that is. Where a method that brings down fails under HARD the mark
+    /// is set too; the panic is the caller's.
     pub fn carry_out(
         &mut self,
         o: &Order,
         c: &Config,
-        agents: &mut Vec<Box<dyn Agent>>,
-        scripted: Option<Outcome>,
+        outcome: Outcome,
         now: u64,
     ) -> Result<Carried, NoMemory>
-        ensures answer { IfOk result (λ carried. carried ≡ answer_to self.old o.now (outcome_in carried)) }
+        ensures answer { IfOk result (λ carried. carried ≡ answer_to self.old o.now outcome) }
         ensures after { IfOk result (λ carried. self.new ≡ after_order self.old c.now o.now now carried) }
-        ensures agents { IfOk result (λ carried. AgentsAfter (λ b. (⟦<dyn Agent as Agent>⟧ b.vtable).named b.value) (λ b. (⟦<dyn Agent as Agent>⟧ b.vtable).kept b.value) (λ b. (⟦<dyn Agent as Agent>⟧ b.vtable).answers) agents.old.items agents.new.items self.old c.now o.now scripted now carried) }
         ensures err { OnErr result (self.new ≡ self.old) }
-        ensures not_called { OnErr result (agents.new ≡ agents.old) }
         ensures wanted { OnErr result (IsNew self.old o.now) }
     {
         if o.epoch != self.epoch {
@@ -88,51 +83,20 @@ impl Worker {
         if let Some(outcome) = self.outcomes.get(&o.number) {
             return Ok(Carried::Kept(*outcome));
         }
-        // All memory is taken before an agent is called: after it nothing can fail.
+        // All memory is taken before anything is changed.
         self.outcomes.reserve(1)?;
         make_room(&mut self.resources)?;
         make_room(&mut self.groups)?;
+        let text = o.resource.items();
         let Some(method) = o.method else {
-            clear(&mut self.resources, o.resource.items());
+            clear(&mut self.resources, text);
             keep_outcome(&mut self.outcomes, o.number, Outcome::Success);
             return Ok(Carried::Cleared);
         };
-        let outcome = self.call(o, method, c, agents, scripted, now);
-        end_call(&mut self.resources, c, o.resource.items(), method, outcome);
-        end_start(
-            &mut self.groups,
-            c,
-            o.resource.items(),
-            method,
-            outcome,
-            now,
-        );
+        end_call(&mut self.resources, c, text, method, outcome);
+        end_start(&mut self.groups, c, text, method, outcome, now);
         keep_outcome(&mut self.outcomes, o.number, outcome);
         Ok(Carried::Called(outcome))
-    }
-
-    /// Has the order's method called.
-    fn call(
-        &self,
-        o: &Order,
-        method: Method,
-        c: &Config,
-        agents: &mut Vec<Box<dyn Agent>>,
-        scripted: Option<Outcome>,
-        now: u64,
-    ) -> Outcome
-        ensures { CallEnds (λ b. (⟦<dyn Agent as Agent>⟧ b.vtable).named b.value) (λ b. (⟦<dyn Agent as Agent>⟧ b.vtable).kept b.value) (λ b. (⟦<dyn Agent as Agent>⟧ b.vtable).answers) agents.old.items agents.new.items (agent_for c.now (name_in o.now.resource)) scripted (call_of self.now o.now method now) result }
-    {
-        let Some(resource) = name_of(o.resource.items()) else {
-            return scripted.unwrap_or(Outcome::Failure);
-        };
-        let call = Call {
-            node: self.me,
-            resource,
-            method,
-            second: now,
-        };
-        call_method(agents, agent_of(c, &resource), scripted, &call)
     }
 }
 
