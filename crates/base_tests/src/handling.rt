@@ -34,6 +34,7 @@ fn each_request_is_handled_once(rt: HostRuntime) -> Result<(), Fail> {
         (one, 1, Arrival::New),
         (two, 1, Arrival::New),
         (one, 1, Arrival::Waits),
+        (two, 2, Arrival::Waits),
     ];
     for (from, number, wanted) in cases {
         assert_eq!(rt; arrives(alloc, &mut proposals, from, number)?, wanted);

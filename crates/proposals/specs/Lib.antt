@@ -1,3 +1,4 @@
 pub mod State
 pub mod Arrivals
 pub mod Proposing
+pub mod OneEach

@@ -34,7 +34,7 @@ pub struct Proposed {
 pub enum Arrival {
     /// It is new, and waits for its turn.
     New,
-    /// It waits already, or is being handled.
+    /// One of its node waits already, or is being handled.
     Waits,
     /// It is the node's last that was answered: it gets the same answer again.
     Answered,

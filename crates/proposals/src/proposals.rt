@@ -3,7 +3,7 @@ ghost use Rattle.std.specs.List.{list_any};
 ghost use Rattle.std.specs.Option.{option_map};
 ghost use Rattle.proposals.specs.declared.arrived.Arrival.TheVariants.{New};
 ghost use Rattle.proposals.specs.State.{first_in, kept_at, nothing_yet};
-ghost use Rattle.proposals.specs.Arrivals.{after_kept, answered, arrival_of, is_of, waits_or_is_new, with_arrival};
+ghost use Rattle.proposals.specs.Arrivals.{after_kept, answered, arrival_of, is_from, waits_or_is_new, with_arrival};
 ghost use Rattle.proposals.specs.Proposing.{goes_again, is_prepared, prepared_by, proposing, ticked};
 
 use crate::arrived::{Arrival, Arrived, Kept, Proposed};
@@ -55,7 +55,8 @@ impl Proposals {
         })
     }
 
-    /// A request comes. One that is new waits behind the others; any other changes nothing. Memory is
+    /// A request comes. One that is new waits behind the others; any other changes nothing. A node has
+    /// one that waits at most. Memory is
     /// wanted by a new one alone, and without it nothing is changed.
     pub fn arrive(&mut self, request: Arrived) -> Result<Arrival, AllocError>
         ensures value { IfOk result (λ arrival. arrival ≡ arrival_of self.old request.from request.number) }
@@ -74,14 +75,14 @@ impl Proposals {
     pub fn arrival(&self, from: NodeId, number: u64) -> Arrival
         ensures value { result ≡ arrival_of self.now from number }
     {
-        after_kept(self.answer_to(from), number, self.waits(from, number))
+        after_kept(self.answer_to(from), number, self.waits(from))
     }
 
-    /// Whether a request of this number waits or is being handled.
-    fn waits(&self, from: NodeId, number: u64) -> bool
-        ensures { result ≡ list_any (is_of from number) self.now.arrived }
+    /// Whether a request of this node waits or is being handled.
+    fn waits(&self, from: NodeId) -> bool
+        ensures { result ≡ list_any (is_from from) self.now.arrived }
     {
-        self.arrived.iter().any(|a| is_of(a, from, number))
+        self.arrived.iter().any(|a| is_from(a, from))
     }
 
     /// The last answer to the node in this membership.
@@ -179,10 +180,10 @@ impl Proposals {
     }
 }
 
-fn is_of(a: &Arrived, from: NodeId, number: u64) -> bool
-    ensures { result ≡ is_of from number a.now }
+fn is_from(a: &Arrived, from: NodeId) -> bool
+    ensures { result ≡ is_from from a.now }
 {
-    a.from == from && a.number == number
+    a.from == from
 }
 
 /// What a request is, by the last answer to its node.

@@ -50,6 +50,8 @@ fn at_the_president(rt: HostRuntime) -> Result<(), Fail> {
     arrive(alloc, &mut proposals, two, 1)?;
     // One that waits already is not taken again.
     arrive(alloc, &mut proposals, one, 1)?;
+    // Nor is another of the same node.
+    arrive(alloc, &mut proposals, two, 2)?;
     assert_eq!(rt; proposals.len(), 2);
     Ok(())
 }
