@@ -25,3 +25,5 @@ pub mod DeviceWidths
 pub mod Widths
 pub mod Lines
 pub mod Consequences
+pub mod Sends
+pub mod WorldSends

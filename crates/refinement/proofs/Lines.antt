@@ -1,5 +1,5 @@
 -- Each line of a schedule in the world is moves of the run of all nodes.
-use Rattle.std.specs.Prelude.{ℕ, zero, suc, ◌-◌, ◌+◌, ◌≡◌, ◌≢◌, ◌≤◌, ◌<◌, ◌⊎◌, ◌++◌, ◌==◌, nat_lt, Bool, true, false, All, List, [], ◌∷◌, Option, None, Some, Result, Ok, Err, length, map, replicate, slice_get, slice_set}
+use Rattle.std.specs.Prelude.{ℕ, zero, suc, ◌-◌, ◌+◌, ◌^◌, ◌≡◌, ◌≢◌, ◌≤◌, ◌<◌, ◌⊎◌, ◌++◌, ◌==◌, nat_lt, Bool, true, false, All, List, [], ◌∷◌, Option, None, Some, Result, Ok, Err, length, map, replicate, slice_get, slice_set}
 use Rattle.std.proofs.Common.{refl, sym, ap, subst, ◌∙◌, inl, inr, arith}
 use Rattle.std.specs.List.{AllByRecursion}
 use Rattle.std.proofs.lemmas.List.{get_or-replicate, length-replicate}
@@ -368,7 +368,7 @@ attached_fit number (d ∷ ds) low high =
     same : (a b : ℕ) → a + suc b ≤ 17 → (a + 1) + b ≤ 17
     same a b h = omega arith
 
-few_attached : (number : ℕ) (ds : List HeaderDevice) → length ds ≤ 16 → length (attached_from number ds) ≤ 16
+pub few_attached : (number : ℕ) (ds : List HeaderDevice) → length ds ≤ 16 → length (attached_from number ds) ≤ 16
 few_attached number ds h = subst (λ k. k ≤ 16) (sym (as_many number ds)) h
   where
     as_many : (k : ℕ) (es : List HeaderDevice) → length (attached_from k es) ≡ length es
@@ -395,23 +395,35 @@ quorum_fits number (d ∷ ds) set low high h =
     same : (a b : ℕ) → a + suc b ≤ 17 → (a + 1) + b ≤ 17
     same a b k = omega arith
 
-pub world_runs_are_one : WorldRunsAreOne
-world_runs_are_one h cells text events few devices small named =
+one_is_low : 1 ≤ 1
+one_is_low = omega arith
+
+numbers_high : (k : ℕ) → k ≤ 16 → 1 + k ≤ 17
+numbers_high k l = omega arith
+
+attached_are : (h : Header) → length h.devices ≤ 16 → All IsDevice (first_cluster h).attached
+attached_are h devices = attached_fit 1 h.devices one_is_low (numbers_high (length h.devices) devices)
+
+-- the world is that of a run of all nodes
+pub world_played : (h : Header) (cells : ℕ) (text : List ℕ) (events : List Event) → h.nodes ≤ 32 → length h.devices ≤ 16 → h.cluster < 2 ^ 32 → AllByRecursion IsNamed events
+    → Played (first_cluster h) (lines_on events (play (first_world h cells) text)).world
+world_played h cells text events few devices small named =
     let c : Cluster = first_cluster h in
-    let fits : All IsDevice c.attached = attached_fit 1 h.devices (low_one) (high (length h.devices) devices) in
-    let whole : ClusterFits c = record { devices = record { few = few_attached 1 h.devices devices; attached = fits }; first_valid = quorum_fits 1 h.devices 0 low_one (high (length h.devices) devices) (omega arith) } in
+    let whole : ClusterFits c = record {
+      devices = record { few = few_attached 1 h.devices devices; attached = attached_are h devices };
+      first_valid = quorum_fits 1 h.devices 0 one_is_low (numbers_high (length h.devices) devices) (omega arith);
+    } in
     let gives : GivesFit c = gives_fit c whole in
     let fit : DevicesFit c = devices_fit c whole small in
     let first : (d : ℕ) (device : Device) → slice_get (map (first_device h) h.devices) d ≡ Some device → DeviceFits device = first_devices_fit h h.devices small in
-    let run : Played c (lines_on events (play (first_world h cells) text)).world = lines_so c gives fit events (play (first_world h cells) text) named (first_played h cells few first) in
+    lines_so c gives fit events (play (first_world h cells) text) named (first_played h cells few first)
+
+pub world_runs_are_one : WorldRunsAreOne
+world_runs_are_one h cells text events few devices small named =
+    let c : Cluster = first_cluster h in
+    let run : Played c (lines_on events (play (first_world h cells) text)).world = world_played h cells text events few devices small named in
     record {
       nodes = run.nodes;
       shows = run.shows;
-      is_run = every_run_is_one c run.moves run.nodes fits run.run;
+      is_run = every_run_is_one c run.moves run.nodes (attached_are h devices) run.run;
     }
-  where
-    low_one : 1 ≤ 1
-    low_one = omega arith
-
-    high : (k : ℕ) → k ≤ 16 → 1 + k ≤ 17
-    high k l = omega arith

@@ -10,3 +10,5 @@ pub mod Whole
 pub mod Runs
 pub mod Widths
 pub mod Worlds
+pub mod Sends
+pub mod WorldSends

@@ -14,6 +14,8 @@ ghost use Rattle.refinement.specs.Steps.{DisksKeepRules, StepsAreCut};
 ghost use Rattle.refinement.specs.Whole.{NodesGo};
 ghost use Rattle.refinement.specs.Runs.{CollectsAgree, EveryRunIsOne, InstallsAgree, PreparesAgree};
 ghost use Rattle.refinement.specs.Worlds.{WorldRunsAreOne};
+ghost use Rattle.refinement.specs.Sends.{RunsSendFew};
+ghost use Rattle.refinement.specs.WorldSends.{WorldsSendFew};
 
 /// The simulated disk keeps what is supposed of a disk: a save that is done leaves the record, one that is lost leaves it or the
 /// one before, and a mounting changes no record.
@@ -54,4 +56,16 @@ pub fn messages_agree()
     ensures collects { CollectsAgree }
     ensures installs { InstallsAgree }
     ensures prepares { PreparesAgree }
+{}
+
+/// In every run of all nodes each step of a node sends at most 4,096 messages, whatever came before and whatever happens to it. There
+/// are at most 16 devices.
+pub fn runs_send_few()
+    ensures { RunsSendFew }
+{}
+
+/// In every run of the simulated world each step of a node sends at most 4,096 messages, whatever comes to it of a node, and whatever
+/// its disk does.
+pub fn worlds_send_few()
+    ensures { WorldsSendFew }
 {}

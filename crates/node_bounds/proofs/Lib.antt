@@ -1,0 +1,9 @@
+pub mod Counts
+pub mod Plans
+pub mod Calls
+pub mod Attempts
+pub mod Queues
+pub mod Presidents
+pub mod Requests
+pub mod Handlers
+pub mod Steps
