@@ -29,16 +29,19 @@ group_reason t name g =
     else if not (has_enabled t name) then Some reason.Empty
     else None
 
--- what is known of the node
-unfoldable pub node_reason : GroupTable → GroupView → List ℕ → Group → ℕ → Option Reason
-node_reason t v name g n =
+-- what is known of the node, where it is known whether the group is stop-failed
+abbrev pub node_reason_of : Bool → GroupView → List ℕ → Group → ℕ → Option Reason
+node_reason_of stop_failed v name g n =
     if not (has v.members n) then Some reason.NotMember
-    else if is_stop_failed t v name then Some reason.StopFailed
+    else if stop_failed then Some reason.StopFailed
     else if is_marked v.evacuated name n then Some reason.Evacuated
     else if nat_le 2 (failures_at v name g.pingpong n) then Some reason.StartFailed
     else if was_moved v name g.pingpong n then Some reason.Moved
     else if is_marked v.leaving name n then Some reason.Leaving
     else None
+
+unfoldable pub node_reason : GroupTable → GroupView → List ℕ → Group → ℕ → Option Reason
+node_reason t v name g n = node_reason_of (is_stop_failed t v name) v name g n
 
 -- what other groups and resources have to do with it
 unfoldable pub target_reason : GroupTable → GroupView → List ℕ → Group → ℕ → Option Reason

@@ -1,6 +1,7 @@
 ghost use Rattle.std.specs.Prelude.{◌≡◌, ◌-◌, ◌^◌, ◌≤ℤ◌, pos, IsSome};
 ghost use Rattle.rg_props.specs.Lookups.{named};
-ghost use Rattle.placement.specs.Eligibility.{counted_to_most, eligibility, eligibility_of, group_reason, node_reason, reason_of, score_of, target_reason};
+ghost use Rattle.placement.specs.Eligibility.{counted_to_most, eligibility, eligibility_of, group_reason, node_reason_of, reason_of, score_of, target_reason};
+ghost use Rattle.placement.specs.Resources.{is_stop_failed};
 
 use crate::affinities::{forbidding, online_targets};
 use crate::dependencies::{lacking, without_goal};
@@ -15,6 +16,15 @@ use rg_view::GroupView;
 
 /// The greatest count that is told of targets: a greater one stays there.
 const MOST: u64 = (1 << 63) - 1;
+
+/// What is the same of a group on every node.
+#[derive(Drop)]
+pub struct Common {
+    /// The first reason that holds on all of them.
+    reason: Option<Reason>,
+    /// Whether a resource of the group could not be stopped on some member.
+    stop_failed: bool,
+}
 
 #[tactic(auto, unfolding(crate::specs::Eligibility::eligibility_of))]
 /// How well the node suits the group, or the first reason why the group may not run there.
@@ -38,7 +48,7 @@ pub fn eligible(
 }
 
 /// The same of a group at hand.
-pub fn eligibility(
+fn eligibility(
     g: &Groups,
     limits: &Limits,
     view: &GroupView,
@@ -48,13 +58,42 @@ pub fn eligibility(
 ) -> Result<Score, Reason>
     ensures { result ≡ eligibility g.now limits.now view.entry.now name.now own.now n }
 {
-    match reason(g, limits, view, name, own, n) {
+    let common = in_common(g, view, name, own);
+    eligibility_at(g, limits, view, name, own, &common, n)
+}
+
+/// What the nodes have in common, to be found once for all of them.
+pub fn in_common(g: &Groups, view: &GroupView, name: &Name, own: &Group) -> Common
+    ensures reason { result.reason ≡ group_reason g.now name.now own.now }
+    ensures stop_failed { result.stop_failed ≡ is_stop_failed g.now view.entry.now name.now }
+{
+    Common {
+        reason: group_reason(g, name, own),
+        stop_failed: is_stop_failed(g, view, name),
+    }
+}
+
+/// The same of a group of which that is known.
+pub fn eligibility_at(
+    g: &Groups,
+    limits: &Limits,
+    view: &GroupView,
+    name: &Name,
+    own: &Group,
+    common: &Common,
+    n: NodeId,
+) -> Result<Score, Reason>
+    requires reason { common.now.reason ≡ group_reason g.now name.now own.now }
+    requires stop_failed { common.now.stop_failed ≡ is_stop_failed g.now view.now name.now }
+    ensures { result ≡ eligibility g.now limits.now view.entry.now name.now own.now n }
+{
+    match reason(g, limits, view, name, own, common, n) {
         Some(reason) => Err(reason),
         None => Ok(score(g, limits, view, name, own, n)),
     }
 }
 
-#[tactic(auto, unfolding(crate::specs::Eligibility::reason_of))]
+#[tactic(auto, unfolding(crate::specs::Eligibility::reason_of, crate::specs::Eligibility::node_reason))]
 /// The first reason against the node.
 fn reason(
     g: &Groups,
@@ -62,14 +101,17 @@ fn reason(
     view: &GroupView,
     name: &Name,
     own: &Group,
+    common: &Common,
     n: NodeId,
 ) -> Option<Reason>
+    requires reason { common.now.reason ≡ group_reason g.now name.now own.now }
+    requires stop_failed { common.now.stop_failed ≡ is_stop_failed g.now view.now name.now }
     ensures { result ≡ reason_of g.now limits.now view.entry.now name.now own.now n }
 {
-    if let Some(reason) = group_reason(g, name, own) {
+    if let Some(reason) = common.reason {
         return Some(reason);
     }
-    if let Some(reason) = node_reason(g, view, name, own, n) {
+    if let Some(reason) = node_reason(view, name, own, common.stop_failed, n) {
         return Some(reason);
     }
     if let Some(reason) = target_reason(g, view, name, own, n) {
@@ -97,14 +139,19 @@ fn group_reason(g: &Groups, name: &Name, own: &Group) -> Option<Reason>
     }
 }
 
-#[tactic(auto, unfolding(crate::specs::Eligibility::node_reason))]
-/// What is known of the node.
-fn node_reason(g: &Groups, view: &GroupView, name: &Name, own: &Group, n: NodeId) -> Option<Reason>
-    ensures { result ≡ node_reason g.now view.entry.now name.now own.now n }
+/// What is known of the node, where it is known whether the group is stop-failed.
+fn node_reason(
+    view: &GroupView,
+    name: &Name,
+    own: &Group,
+    stop_failed: bool,
+    n: NodeId,
+) -> Option<Reason>
+    ensures { result ≡ node_reason_of stop_failed view.entry.now name.now own.now n }
 {
     if !view.members.has(n) {
         Some(Reason::NotMember)
-    } else if is_stop_failed(g, view, name) {
+    } else if stop_failed {
         Some(Reason::StopFailed)
     } else if view.evacuated.has(name, n) {
         Some(Reason::Evacuated)

@@ -8,7 +8,7 @@ ghost use Rattle.placement.specs.Eligibility.{eligibility};
 ghost use Rattle.placement.specs.Goals.{goal_by_rule, goal_in, placed};
 ghost use Rattle.placement.specs.Scores.{score_at};
 
-use crate::eligibility::eligibility;
+use crate::eligibility::{eligibility_at, in_common};
 use crate::placing::{Scores, placed, staying};
 use crate::resources::is_stop_failed;
 use cl_base::{Name, NodeSet};
@@ -79,9 +79,12 @@ fn best_goal(
 fn scores(g: &Groups, limits: &Limits, view: &GroupView, name: &Name, own: &Group) -> Scores
     ensures { All (λ n. score_at result n ≡ result_ok (eligibility g.now limits.now view.entry.now name.now own.now n)) own.now.nodelist }
 {
+    let common = in_common(g, view, name, own);
     let mut scores = [None; 32];
     for n in own.nodelist.items() {
-        scores[n.number() as usize - 1] = eligibility(g, limits, view, name, own, *n).ok();
+        scores[n.number() as usize - 1] = eligibility_at(
+            g, limits, view, name, own, &common, *n,
+        ).ok();
     }
     scores
 }

@@ -1,10 +1,11 @@
 // What is remembered of a group on a node.
 ghost use Rattle.std.specs.Prelude.{◌≡◌};
 ghost use Rattle.std.specs.List.{list_any};
-ghost use Rattle.restart_policy.specs.Policy.{is_recent, recent_of};
+ghost use Rattle.restart_policy.specs.Policy.{is_recent};
 ghost use Rattle.placement.specs.Histories.{failures_at, was_moved};
 
 use cl_base::{Name, NodeId};
+use restart_policy::{is_recent, recent};
 use rg_view::GroupView;
 
 /// How often the group failed to start on the node within the interval's seconds.
@@ -15,15 +16,6 @@ pub fn failures_at(view: &GroupView, group: &Name, interval: u64, n: NodeId) -> 
         Some(h) => recent(h.failures.items(), interval, view.now),
         None => 0,
     }
-}
-
-fn recent(seconds: &[u64], interval: u64, now: u64) -> u64
-    ensures { result ≡ recent_of seconds.now interval now }
-{
-    seconds
-        .iter()
-        .filter(|second| is_recent(**second, interval, now))
-        .count() as u64
 }
 
 /// Whether the group was moved away from the node within the interval's seconds.
@@ -42,11 +34,4 @@ fn has_recent(seconds: &[u64], interval: u64, now: u64) -> bool
     seconds
         .iter()
         .any(|second| is_recent(*second, interval, now))
-}
-
-/// Whether the second lies less than `interval` seconds before `now`, or above `now`.
-fn is_recent(second: u64, interval: u64, now: u64) -> bool
-    ensures { result ≡ is_recent interval now second }
-{
-    now.saturating_sub(second) < interval
 }

@@ -43,6 +43,22 @@ fn restart(
     Ok(())
 }
 
+/// Node 1 asks for a move of b's group, and no order follows at once.
+fn send_away(rt: &impl Abort, a: Global, p: &mut President, c: &Config) -> Result<(), Fail> {
+    check_given(p)?;
+    let order = p.ask(a, node(1)?, Ask::Move(name(b"b")?), c, 30)?;
+    assert!(rt; order.is_none());
+    Ok(())
+}
+
+/// Node 2 asks to choose the nodes of g anew, and no order follows at once.
+fn remaster(rt: &impl Abort, a: Global, p: &mut President, c: &Config) -> Result<(), Fail> {
+    check_given(p)?;
+    let order = p.ask(a, node(2)?, Ask::Remaster(name(b"g")?), c, 30)?;
+    assert!(rt; order.is_none());
+    Ok(())
+}
+
 /// Node 1 asks to evacuate node 1, and no order follows at once.
 fn evacuate(rt: &impl Abort, a: Global, p: &mut President, c: &Config) -> Result<(), Fail> {
     check_given(p)?;
@@ -89,6 +105,32 @@ fn evacuate_one(rt: &impl Abort, a: Global, p: &mut President, c: &Config) -> Re
     evacuate(rt, a, p, c)?;
     expect_call(rt, a, p, c, 1, 3, b"b", Method::Stop)?;
     expect_goal(rt, p, 2)
+}
+
+/// b's monitor asks node 1 for a move. The group goes down there, and then up on node 2.
+pub fn move_one(rt: &impl Abort, a: Global, p: &mut President, c: &Config) -> Result<(), Fail> {
+    expect_rest(rt, a, p, c)?;
+    expect_goal(rt, p, 1)?;
+    send_away(rt, a, p, c)?;
+    expect_call(rt, a, p, c, 1, 1, b"b", Method::Stop)?;
+    expect_goal(rt, p, 2)?;
+    succeed(rt, a, p, c, 1, 1)?;
+    expect_call(rt, a, p, c, 1, 2, b"a", Method::Stop)?;
+    succeed(rt, a, p, c, 1, 2)?;
+    expect_call(rt, a, p, c, 2, 3, b"a", Method::Start)?;
+    expect_goal(rt, p, 2)
+}
+
+/// The nodes are chosen anew: the evacuation ends, and node 1 comes first in the Nodelist.
+pub fn remaster_one(rt: &impl Abort, a: Global, p: &mut President, c: &Config) -> Result<(), Fail> {
+    evacuate(rt, a, p, c)?;
+    expect_call(rt, a, p, c, 1, 1, b"b", Method::Stop)?;
+    expect_goal(rt, p, 2)?;
+    remaster(rt, a, p, c)?;
+    expect_rest(rt, a, p, c)?;
+    expect_goal(rt, p, 1)?;
+    succeed(rt, a, p, c, 1, 1)?;
+    expect_call(rt, a, p, c, 1, 2, b"b", Method::Start)
 }
 
 /// The mark ends with b disabled. Then a goes down, and the group has no node.

@@ -173,3 +173,54 @@ fn what_changes_it(rt: HostRuntime) -> Result<(), Fail> {
     let c = config(rt.alloc(), b"NONE")?;
     with_view(&rt, rt.alloc(), &c)
 }
+
+/// a restarts where it has a flag, which is on node 1.
+fn restart(rt: &impl Abort, alloc: Global, view: &mut GroupView, c: &Config) -> Result<(), Fail> {
+    let (a, one, two) = (name(b"a")?, node(1)?, node(2)?);
+    take_up(alloc, view, two, Ask::Restart(a), c, 20)?;
+    assert!(rt; !view.restarting.has(&a, two));
+    take_up(alloc, view, one, Ask::Restart(a), c, 20)?;
+    assert!(rt; view.restarting.has(&a, one));
+    Ok(())
+}
+
+/// The move is kept in the place of the last one, and g leaves the node where it is up.
+fn move_away(rt: &impl Abort, alloc: Global, view: &mut GroupView, c: &Config) -> Result<(), Fail> {
+    let (g, one, two) = (name(b"g")?, node(1)?, node(2)?);
+    take_up(alloc, view, one, Ask::Move(name(b"a")?), c, 20)?;
+    expect_history(rt, view.groups.history(&g, one), &[3, 5], &[20]);
+    assert!(rt; view.leaving.has(&g, one));
+    take_up(alloc, view, two, Ask::Move(name(b"b")?), c, 21)?;
+    expect_history(rt, view.groups.history(&g, two), &[], &[21]);
+    assert!(rt; !view.leaving.has(&g, two));
+    Ok(())
+}
+
+/// A clear is an order, and changes nothing before it is done.
+fn clear(rt: &impl Abort, alloc: Global, view: &mut GroupView, c: &Config) -> Result<(), Fail> {
+    let what = Ask::Clear {
+        resource: name(b"a")?,
+        node: node(1)?,
+    };
+    take_up(alloc, view, node(2)?, what, c, 20)?;
+    expect_told(rt, view)
+}
+
+fn ask_each(rt: &impl Abort, alloc: Global, view: &mut GroupView, c: &Config) -> Result<(), Fail> {
+    clear(rt, alloc, view, c)?;
+    restart(rt, alloc, view, c)?;
+    move_away(rt, alloc, view, c)?;
+    assert_eq!(rt; states(view)?, [2, 0, 0, 8]);
+    Ok(())
+}
+
+fn with_asks(rt: &impl Abort, alloc: Global, c: &Config) -> Result<(), Fail> {
+    let mut view = view(alloc, c)?;
+    ask_each(rt, alloc, &mut view, c)
+}
+
+#[test]
+fn what_is_asked_for(rt: HostRuntime) -> Result<(), Fail> {
+    let c = config(rt.alloc(), b"NONE")?;
+    with_asks(&rt, rt.alloc(), &c)
+}

@@ -1,5 +1,5 @@
 // What is played with a configuration and its president, each in one function that owns it.
-use crate::asking::{ask_both, clear_one, disable_both};
+use crate::asking::{ask_both, clear_one, disable_both, move_one, remaster_one};
 use crate::deciding::{fail, go_up, hold_up};
 use crate::fixture::{begun, config, unmarked};
 use crate::standing::{block, come_online, fault, lack};
@@ -22,6 +22,8 @@ enum Scene {
     Lack,
     Clear,
     AskBoth,
+    Move,
+    Remaster,
     DisableBoth,
 }
 
@@ -42,6 +44,8 @@ fn act(
         Scene::Lack => lack(rt, a, p, c),
         Scene::Clear => clear_one(rt, a, p, c),
         Scene::AskBoth => ask_both(rt, a, p, c),
+        Scene::Move => move_one(rt, a, p, c),
+        Scene::Remaster => remaster_one(rt, a, p, c),
         Scene::DisableBoth => disable_both(rt, a, p, c),
     }
 }
@@ -198,6 +202,23 @@ fn restarts_and_evacuations(rt: HostRuntime) -> Result<(), Fail> {
         running(),
         running(),
         Scene::AskBoth,
+    )
+}
+
+#[test]
+fn moves(rt: HostRuntime) -> Result<(), Fail> {
+    play(&rt, rt.alloc(), b"NONE", running(), running(), Scene::Move)
+}
+
+#[test]
+fn nodes_chosen_anew(rt: HostRuntime) -> Result<(), Fail> {
+    play(
+        &rt,
+        rt.alloc(),
+        b"NONE",
+        running(),
+        running(),
+        Scene::Remaster,
     )
 }
 

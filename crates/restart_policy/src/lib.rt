@@ -4,4 +4,4 @@
 
 mod policy;
 
-pub use policy::{ProbeAction, ProbeRule, moved, on_probe, start_failures};
+pub use policy::{ProbeAction, ProbeRule, is_recent, moved, on_probe, recent, start_failures};

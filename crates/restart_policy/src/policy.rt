@@ -63,9 +63,9 @@ pub fn moved(h: &History, interval: u64, now: u64) -> bool
         .any(|second| is_recent(*second, interval, now))
 }
 
-/// How many of the seconds are recent.
-fn recent(seconds: &[u64], interval: u64, now: u64) -> u64
-    ensures { result ≡ recent_of seconds.now interval now }
+/// How many of the seconds lie less than `interval` seconds before `now`, or above `now`.
+pub fn recent(seconds: &[u64], interval: u64, now: u64) -> u64
+    ensures value { result ≡ recent_of seconds.now interval now }
 {
     seconds
         .iter()
@@ -74,8 +74,8 @@ fn recent(seconds: &[u64], interval: u64, now: u64) -> u64
 }
 
 /// Whether the second lies less than `interval` seconds before `now`, or above `now`.
-fn is_recent(second: u64, interval: u64, now: u64) -> bool
-    ensures { result ≡ is_recent interval now second }
+pub fn is_recent(second: u64, interval: u64, now: u64) -> bool
+    ensures value { result ≡ is_recent interval now second }
 {
     now.saturating_sub(second) < interval
 }

@@ -1,6 +1,6 @@
-ghost use Rattle.std.specs.Prelude.{◌≡◌, ◌<◌, ◌^◌, ◌≤◌, ◌+◌, ◌-◌, IfOk, OnOk, length};
+ghost use Rattle.std.specs.Prelude.{◌≡◌, ◌<◌, ◌^◌, ◌≤◌, ◌+◌, ◌-◌, None, false, IfOk, IfSome, OnOk, length};
 ghost use Rattle.rg_view.specs.Orders.{order_of};
-ghost use Rattle.rgm_president.specs.Decisions.{call_on, decision, goals_set, members_of, outlook_over, turns_of, turns_unless, with_turn, with_turns};
+ghost use Rattle.rgm_president.specs.Decisions.{call_on, decision, goals_set, members_of, ordered, outlook_over, turns_of, turns_unless, with_turn, with_turns};
 
 use crate::goals::set_goals;
 use crate::ordering::{groups_in_order, resources_in_order};
@@ -106,55 +106,79 @@ impl President {
         ensures after { OnOk result (self.new ≡ (turns_of c.now resources.now self.old nodes.now).president) }
     {
         let mut orders = Vec::new(alloc);
+        let mut outlook = None;
         for n in nodes {
-            self.give_next(alloc, c, resources, *n, &mut orders)?;
+            outlook = self.give_next(alloc, c, resources, *n, outlook, &mut orders)?;
         }
         Ok(orders)
     }
 
-    /// Gives the member its first allowed call, unless it has an order.
+    #[tactic(auto, unfolding(crate::specs::Decisions::with_turn))]
+    /// Gives the member its first allowed call, unless it has an order. What the calls rest on is
+    /// found where it is not known, and handed back while it holds: until an order is given.
     fn give_next(
         &mut self,
         alloc: Global,
         c: &Config,
         resources: &[Name],
         n: NodeId,
+        known: Option<Outlook>,
         orders: &mut Vec<(NodeId, Order)>,
-    ) -> Result<(), NoMemory>
-        requires { self.old.given < 2 ^ 64 - 1 }
+    ) -> Result<Option<Outlook>, NoMemory>
+        requires number { self.old.given < 2 ^ 64 - 1 }
+        requires known { IfSome known (λ o. o ≡ outlook_over c.now resources.now self.old.view) }
         ensures turn { OnOk result (record { president = self.new; orders = orders.new.items } ≡ with_turn c.now resources.now (record { president = self.old; orders = orders.old.items }) n) }
         ensures number { OnOk result (self.new.given ≤ self.old.given + 1) }
+        ensures holds { IfOk result (λ left. IfSome left (λ o. o ≡ outlook_over c.now resources.now self.new.view)) }
     {
-        // What is allowed changes with each order, so it is found anew.
-        let outlook = find_outlook(alloc, c, &self.view, resources)?;
-        self.give_order(alloc, c, resources, &outlook, n, orders)
+        if self.view.outstanding.at(n).is_some() {
+            return Ok(known);
+        }
+        let outlook = known_or_found(alloc, c, &self.view, resources, known)?;
+        let call = call_on(c, &self.view, resources, &outlook, n);
+        if self.give_order(alloc, n, call, orders)? {
+            return Ok(None);
+        }
+        Ok(Some(outlook))
     }
 
-    #[tactic(auto, unfolding(crate::specs::Decisions::with_turn))]
-    /// The same, by what the calls rest on now.
+    /// Gives the node, which has none, an order for the call, where there is one. Whether there is.
     fn give_order(
         &mut self,
         alloc: Global,
-        c: &Config,
-        resources: &[Name],
-        outlook: &Outlook,
         n: NodeId,
+        call: Option<(Name, Method)>,
         orders: &mut Vec<(NodeId, Order)>,
-    ) -> Result<(), NoMemory>
+    ) -> Result<bool, NoMemory>
+        requires room { order_of self.old.view.outstanding n ≡ None }
         requires number { self.old.given < 2 ^ 64 - 1 }
-        requires outlook { outlook.now ≡ outlook_over c.now resources.now self.old.view }
-        ensures turn { OnOk result (record { president = self.new; orders = orders.new.items } ≡ with_turn c.now resources.now (record { president = self.old; orders = orders.old.items }) n) }
+        ensures turn { OnOk result (record { president = self.new; orders = orders.new.items } ≡ ordered n (record { president = self.old; orders = orders.old.items }) call) }
         ensures number { OnOk result (self.new.given ≤ self.old.given + 1) }
+        ensures same { IfOk result (λ given. given ≡ false → self.new ≡ self.old) }
     {
-        if self.view.outstanding.at(n).is_some() {
-            return Ok(());
-        }
-        let Some((resource, method)) = call_on(c, &self.view, resources, outlook, n) else {
-            return Ok(());
+        let Some((resource, method)) = call else {
+            return Ok(false);
         };
         let order = self.order(alloc, n, resource, Some(method))?;
         orders.push((n, order))?;
-        Ok(())
+        Ok(true)
+    }
+}
+
+/// What the calls rest on, found where it is not known.
+fn known_or_found(
+    alloc: Global,
+    c: &Config,
+    view: &GroupView,
+    resources: &[Name],
+    known: Option<Outlook>,
+) -> Result<Outlook, NoMemory>
+    requires { IfSome known (λ o. o ≡ outlook_over c.now resources.now view.now) }
+    ensures { IfOk result (λ o. o ≡ outlook_over c.now resources.now view.entry.now) }
+{
+    match known {
+        Some(outlook) => Ok(outlook),
+        None => find_outlook(alloc, c, view, resources),
     }
 }
 

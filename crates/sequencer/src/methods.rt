@@ -51,22 +51,13 @@ fn is_callable(
     ensures { result ≡ is_callable g.now types.now limits.now view.entry.now outlook.now n name.now r.now m }
 {
     let t = types.resource_type(&r.resource_type);
-    if !view.members.has(n) || !offers(t, m) || is_stop_failed(g, view, &r.group) {
+    if !view.members.has(n) || !offers(t, m) {
         return false;
     }
     let s = view.resources.state(name, n);
-    may_call(
-        g,
-        limits,
-        view,
-        outlook,
-        name,
-        r,
-        n,
-        s,
-        offers(t, Method::PrenetStart),
-        m,
-    )
+    let net = offers(t, Method::PrenetStart);
+    // What goes through all places comes last: few calls are due.
+    may_call(g, limits, view, outlook, name, r, n, s, net, m) && !is_stop_failed(g, view, &r.group)
 }
 
 /// Whether a type which is there has the method.

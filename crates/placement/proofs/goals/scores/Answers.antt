@@ -15,7 +15,7 @@ loop-n-preserved c =
       places = length-set c.loop-n.scores (c.number.result - 1) c.ok.result ∙ c.loop-n.invariant.places;
       low = low_more nodes i n (omega arith) is (omega arith) c.loop-n.invariant.low;
       scores = scores_more (λ m. result_ok (eligibility c.args.g.now c.args.limits.now c.args.view.now c.args.name.now c.args.own.now m)) c.loop-n.scores nodes i n c.number.result c.ok.result
-          (omega arith) is c.number.ensures.value (c.ok.ensures.value ∙ ap result_ok c.eligibility.ensures) (omega arith) (omega arith) c.loop-n.invariant.low c.loop-n.invariant.scores;
+          (omega arith) is c.number.ensures.value (c.ok.ensures.value ∙ ap result_ok c.eligibility_at.ensures) (omega arith) (omega arith) c.loop-n.invariant.low c.loop-n.invariant.scores;
     }
 
 pub returns : goal.returns
