@@ -1,0 +1,12 @@
+//! The configuration that a node's updates make, kept from one call to the next.
+#![tactic(auto)]
+
+mod cache;
+mod coming;
+mod made;
+mod making;
+mod same_header;
+mod wanted;
+
+pub use cache::ConfigCache;
+pub use update_log::NoMemory;
