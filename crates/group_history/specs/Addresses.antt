@@ -1,0 +1,86 @@
+-- Shared addresses: what a client's request at a president is answered is what the requests for the address in this membership since it was last
+-- deleted, its policy and its targets at each of them give.
+use Rattle.std.specs.Prelude.{◌≡◌, ℕ, ◌==◌, nat_lt, ◌&&◌, not, if◌then◌else◌, List, [], ◌∷◌, ◌++◌, Option, Some, None}
+use Rattle.std.specs.List.{flat_map, find}
+use Rattle.std.specs.Option.{option_map_or}
+use Rattle.ccr_tables.specs.State.{ConfigState}
+use Rattle.ccr_tables.specs.declared.address.Address.{Address}
+use Rattle.ccr_tables.specs.declared.address.Weight.{Weight}
+use Rattle.ccr_tables.specs.declared.command.AdminCommand.{AdminCommand}
+use Rattle.ccr_tables.specs.declared.command.AdminCommand.TheVariants.{Change}
+use Rattle.ccr_tables.specs.declared.update.Update.TheVariants.{DeleteAddress}
+use Rattle.placement.specs.Resources.{is_online}
+use Rattle.rg_props.specs.Lookups.{named}
+use Rattle.rg_view.specs.declared.view.GroupView.{GroupView}
+use Rattle.schedule_text.specs.declared.event.Event.TheVariants as event
+use Rattle.schedule_text.specs.declared.line.Line.TheVariants as line
+use Rattle.shared_address.specs.Choosing.{Outcome, asked}
+use Rattle.shared_address.specs.History.{Event, Asked, Dropped, requests_for, outcome_after}
+use Rattle.shared_address.specs.declared.choice.Client.{Client}
+use Rattle.shared_address.specs.declared.choice.Target.{Target}
+use Rattle.status_report.specs.declared.schedule_entry.SkipCause.TheVariants as skip
+use Rattle.history.specs.Moment.{Moment, Said}
+use Rattle.history.specs.Trace.{member, ack, served, skipped}
+use Rattle.history.specs.Order.{EachEvent, Unless}
+use Rattle.history.specs.Setting.{coordinator, nodes_of}
+use Rattle.history.specs.Member.{member_of}
+use Rattle.group_history.specs.Setting.{Groups, config_of}
+use Rattle.group_history.specs.Doings.{forgot}
+use Rattle.group_history.specs.KnownMap.{known_of}
+
+-- ---- targets: the nodes, ascending, where the group of the address is online by what is known, with their weights where these are positive
+
+abbrev pub weight_of : List Weight → ℕ → ℕ
+weight_of weights n = option_map_or (λ (w : Weight). w.weight) (find (λ w. w.node == n) weights) 1
+
+abbrev pub target_on : ConfigState → GroupView → Address → ℕ → List Target
+target_on c v a n =
+    if is_online c.groups v a.group n && nat_lt 0 (weight_of a.weights n) then record { node = n; weight = weight_of a.weights n } ∷ [] else []
+
+abbrev pub targets_of : ConfigState → GroupView → Address → List Target
+targets_of c v a = flat_map (target_on c v a) (nodes_of v.members)
+
+-- ---- the requests for addresses in e, newest first
+
+abbrev pub request_in : ConfigState → GroupView → ℕ → ℕ → Option Address → List ℕ → List Event
+request_in c v client port None name = []
+request_in c v client port (Some a) name = Asked name (asked a.policy client port (targets_of c v a)) ∷ []
+
+abbrev pub dropped_by : Option AdminCommand → List Event
+dropped_by (Some (Change (DeleteAddress name))) = Dropped name ∷ []
+dropped_by _ = []
+
+abbrev pub events_in : Groups → ℕ → List Moment → List Event
+events_in S e [] = []
+events_in S e (member n f ∷ before) = if (f == e) && (n == coordinator e) then [] else events_in S e before
+events_in S e (served name client port target ∷ before) =
+    request_in (config_of S e before) (known_of S e before) client port (named (config_of S e before).addresses name) name ++ events_in S e before
+events_in S e (ack f v words ∷ before) = (if f == e then dropped_by (S.command words) else []) ++ events_in S e before
+events_in S e (_ ∷ before) = events_in S e before
+
+-- ---- the entries of a request
+
+abbrev pub forgot_line : List ℕ → Option Client → List Moment
+forgot_line name None = []
+forgot_line name (Some client) = forgot name client.address client.port ∷ []
+
+abbrev pub lines_of : List ℕ → ℕ → ℕ → Outcome → List Moment
+lines_of name client port o = forgot_line name o.forgot ++ served name client port o.node ∷ []
+
+abbrev pub entries_for : Groups → ℕ → List Moment → List ℕ → ℕ → ℕ → Option Address → List Moment
+entries_for S e before name client port None = skipped skip.NoAddress ∷ []
+entries_for S e before name client port (Some a) =
+    lines_of name client port
+    (outcome_after (requests_for name (events_in S e before)) (asked a.policy client port (targets_of (config_of S e before) (known_of S e before) a)))
+
+abbrev pub IsServedAt : Groups → List Moment → ℕ → List ℕ → ℕ → ℕ → List Moment → Option ℕ → Type 0
+IsServedAt S before n name client port entries None = Unit {0}
+IsServedAt S before n name client port entries (Some e) =
+    Unless (not (coordinator e == n)) (entries ≡ entries_for S e before name client port (named (config_of S e before).addresses name))
+
+abbrev pub IsServed : Groups → List Moment → Moment → List Moment → Type 0
+IsServed S before (Said (line.Event (event.Client n name client port))) entries = IsServedAt S before n name client port entries (member_of n before)
+IsServed S before _ entries = Unit {0}
+
+abbrev pub ClientsServed : Groups → List Moment → Type 0
+ClientsServed S moments = EachEvent (IsServed S) moments

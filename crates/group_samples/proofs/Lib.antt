@@ -1,0 +1,5 @@
+mod Limits
+pub mod Allowed
+pub mod Failover
+pub mod FailoverHistory
+pub mod Fault

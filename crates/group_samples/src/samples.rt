@@ -1,0 +1,31 @@
+//! Whole traces that meet the definitions: so they can be met.
+ghost use Rattle.history.specs.History.{History};
+ghost use Rattle.group_history.specs.GroupHistory.{GroupsHold, GroupAnswers, GroupsWhole};
+ghost use Rattle.group_samples.specs.SampleConfigurations.{staying, moving};
+ghost use Rattle.group_samples.specs.SampleFault.{faulted};
+ghost use Rattle.group_samples.specs.SampleFailover.{failed_over};
+
+/// A node fails to start a resource, which is faulted then, and tells it.
+pub fn a_fault()
+    ensures holds { GroupsHold staying faulted }
+    ensures answers { GroupAnswers staying faulted }
+    ensures whole { GroupsWhole staying faulted }
+{}
+
+/// A group fails to start on one node twice, and is started on the other.
+pub fn a_failover()
+    ensures holds { GroupsHold moving failed_over }
+    ensures answers { GroupAnswers moving failed_over }
+    ensures whole { GroupsWhole moving failed_over }
+{}
+
+/// The trace of the fault is a history too.
+#[tactic(auto, unfolding(cl_base::specs::Sets::has, quorum_votes::specs::Sums::sum_to))]
+pub fn the_fault_is_a_history()
+    ensures history { History staying.cluster faulted }
+{}
+
+/// And so is that of the failover.
+pub fn the_failover_is_a_history()
+    ensures history { History moving.cluster failed_over }
+{}
