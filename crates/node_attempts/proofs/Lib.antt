@@ -1,2 +1,3 @@
 pub mod BaseLines
+pub mod StartSteps
 pub mod StepLemmas

@@ -1,2 +1,3 @@
 pub mod Installs
+mod Names
 pub mod Readings

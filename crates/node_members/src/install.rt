@@ -4,11 +4,12 @@ ghost use Rattle.node_model.specs.Plans.{Follows, Gives};
 ghost use Rattle.node_members.specs.Installs.{installing_members};
 
 use cl_base::{Epoch, NodeId};
-use node_acts::{begin_joins, install, save_install};
+use node_acts::{begin_joins, install, own_report, save_install};
+use node_decisions::tidy;
 use node_model::{Cluster, Output, Stop, UpNode, send};
 use record_disk::RecordDisk;
 use std::alloc::Global;
-use wire::{Body, GroupReports, Install, Report, ResourceReports};
+use wire::{Body, Install};
 
 /// The node is to install a membership of its session.
 #[tactic(auto, using(crate::proofs::Installs::install_fails))]
@@ -33,56 +34,44 @@ pub fn take_install<K: RecordDisk>(
         return Ok(up);
     }
     let up = install_members(alloc, cluster, me, disk, up, i, out)?;
-    ready(alloc, up, from, out)
+    ready(alloc, cluster, up, from, out)
 }
 
-/// The node installs the membership of its session, where it has not done so.
+/// The node installs the membership of its session, where it has not done so. Of groups and resources
+/// that are deleted it keeps nothing.
 fn install_members<K: RecordDisk>(
     alloc: Global,
     cluster: &Cluster,
     me: NodeId,
     disk: &mut K,
-    up: UpNode,
+    mut up: UpNode,
     i: &Install,
     out: &mut Vec<Output>,
 ) -> Result<UpNode, Stop>
     ensures { Follows K.saving (installing_members cluster.now me up i.now up.seat) out.old.items disk.old result out.new.items disk.new }
 {
-    let UpNode {
-        seat,
-        greatest,
-        beats,
-        mut tasks,
-        attempt,
-        requests,
-        presidency,
-    } = up;
-    let (seat, changed) = install(alloc, seat, i)?;
+    let (seat, changed) = install(alloc, up.seat, i)?;
+    up.seat = seat;
     if changed {
-        begin_joins(
-            cluster,
-            me,
-            i.epoch,
-            seat.joined_devices(),
-            &mut tasks,
-            i.readings.items(),
-        )?;
-        save_install(alloc, me, disk, &seat, i.epoch, out)?;
+        let joined = up.seat.joined_devices();
+        let readings = i.readings.items();
+        begin_joins(cluster, me, i.epoch, joined, &mut up.tasks, readings)?;
+        tidy(alloc, cluster, &mut up)?;
+        save_install(alloc, me, disk, &up.seat, i.epoch, out)?;
     }
-    Ok(UpNode {
-        seat,
-        greatest,
-        beats,
-        tasks,
-        attempt,
-        requests,
-        presidency,
-    })
+    Ok(up)
 }
 
-/// The node is ready where it has no device left to join.
-pub fn ready(alloc: Global, up: UpNode, to: NodeId, out: &mut Vec<Output>) -> Result<UpNode, Stop>
-    ensures follows { Gives (readying up to) out.old.items result out.new.items }
+/// The node is ready where it has no device left to join. It reports what it keeps of groups and
+/// resources.
+pub fn ready(
+    alloc: Global,
+    cluster: &Cluster,
+    mut up: UpNode,
+    to: NodeId,
+    out: &mut Vec<Output>,
+) -> Result<UpNode, Stop>
+    ensures follows { Gives (readying cluster.now up to) out.old.items result out.new.items }
 {
     if up.tasks.joins() {
         return Ok(up);
@@ -90,10 +79,7 @@ pub fn ready(alloc: Global, up: UpNode, to: NodeId, out: &mut Vec<Output>) -> Re
     let body = Body::Ready {
         epoch: up.seat.session(),
         joined: up.seat.joined_devices(),
-        report: Report {
-            resources: ResourceReports::new(Vec::new(alloc)),
-            groups: GroupReports::new(Vec::new(alloc)),
-        },
+        report: own_report(alloc, cluster, &mut up)?,
     };
     send(out, to, body)?;
     Ok(up)

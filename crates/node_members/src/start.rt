@@ -12,44 +12,27 @@ use status_report::NodeEntry;
 use std::alloc::Global;
 
 /// The membership of this epoch has started: the node is a member of it where it has installed it in
-/// this session. What is pending is committed and saved first.
+/// this session, and has carried out no order of it. What is pending is committed and saved first.
 pub fn take_start<K: RecordDisk>(
     alloc: Global,
     me: NodeId,
     disk: &mut K,
-    up: UpNode,
+    mut up: UpNode,
     epoch: Epoch,
     out: &mut Vec<Output>,
 ) -> Result<UpNode, Stop>
     ensures follows { Follows K.saving (on_start_as me up epoch up.seat) out.old.items disk.old result out.new.items disk.new }
 {
-    let UpNode {
-        seat,
-        greatest,
-        beats,
-        tasks,
-        attempt,
-        requests,
-        presidency,
-    } = up;
-    let seat = match become_member(seat, epoch) {
+    match become_member(up.seat, epoch) {
         Ok(Started { node, changed }) => {
-            let seat = Seat::Member(node);
+            up.seat = Seat::Member(node);
+            up.worker.enter(up.seat.session());
             if changed {
-                keep(alloc, me, disk, &seat, out)?;
+                keep(alloc, me, disk, &up.seat, out)?;
             }
             tell_of(out, me, NodeEntry::Member(epoch))?;
-            seat
         }
-        Err(seat) => seat,
-    };
-    Ok(UpNode {
-        seat,
-        greatest,
-        beats,
-        tasks,
-        attempt,
-        requests,
-        presidency,
-    })
+        Err(seat) => up.seat = seat,
+    }
+    Ok(up)
 }

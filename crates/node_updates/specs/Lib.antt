@@ -1,3 +1,1 @@
--- what only the proofs need
-pub mod Presidents
-pub mod Queries
+pub mod Again
