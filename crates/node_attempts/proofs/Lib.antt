@@ -1,3 +1,2 @@
 pub mod BaseLines
-pub mod StartSteps
 pub mod StepLemmas

@@ -1,3 +1,0 @@
--- what only the proofs need
-pub mod StartSteps
-pub mod Told

@@ -5,14 +5,12 @@ ghost use Rattle.node_model.specs.Plans.{Follows};
 
 use cl_base::NodeId;
 use node_acts::{begin_joins, install, save_install};
-use node_decisions::tidy;
 use node_model::{Cluster, Output, Stop, UpNode};
 use record_disk::RecordDisk;
 use std::alloc::Global;
 use wire::Install;
 
-/// The coordinator installs the membership of its attempt; its seizings are over. Of
-/// groups and resources that are deleted it keeps nothing.
+/// The coordinator installs the membership of its attempt; its seizings are over.
 pub fn install_here<K: RecordDisk>(
     alloc: Global,
     cluster: &Cluster,
@@ -37,7 +35,6 @@ pub fn install_here<K: RecordDisk>(
             &mut up.tasks,
             i.readings.items(),
         )?;
-        tidy(alloc, cluster, &mut up)?;
         save_install(alloc, me, disk, &up.seat, i.epoch, out)?;
     }
     Ok(up)

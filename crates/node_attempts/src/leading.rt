@@ -68,7 +68,7 @@ fn begin_attempt<K: RecordDisk>(
     end_requests(alloc, me, &mut up.requests, out)?;
     let own = Message {
         sender: me,
-        body: promise_body(alloc, &up.seat, &up.worker, epoch)?,
+        body: promise_body(alloc, &up.seat, epoch)?,
     };
     let attached = AttachedDevices::new(cluster.attached.items().to_vec(alloc)?);
     let (attempt, steps) = Attempt::begin(alloc, epoch, members, own, attached, cluster.id)?;

@@ -2,10 +2,8 @@
 ghost use Rattle.std.specs.Prelude.{◌≡◌, IfOk, OnOk};
 ghost use Rattle.device_queue.specs.Queue.{after_seize};
 ghost use Rattle.cmm_attempt.specs.Attempts.{with_steps};
-ghost use Rattle.node_model.specs.Attempts.{begins_install, going_on, own_ready, performed, performed_all, performing, seizing_here, step_plan};
-ghost use Rattle.cmm_attempt.specs.Calls.{starts_in};
+ghost use Rattle.node_model.specs.Attempts.{begins_install, going_on, own_ready, performed, performing, seizing_here, step_plan};
 ghost use Rattle.node_model.specs.Plans.{Follows};
-ghost use Rattle.node_attempts.specs.StartSteps.{is_start};
 
 use crate::ending::end_attempt;
 use crate::installing::install_here;
@@ -14,7 +12,6 @@ use crate::voting::newest_votes;
 use cl_base::{DevId, NodeId};
 use cmm_attempt::{Attempt, Step, Steps};
 use device_queue::DeviceQueue;
-use node_decisions::decide;
 use node_model::{Cluster, Output, Stop, UpNode, send};
 use record_disk::RecordDisk;
 use seize::{Seize, SeizeKind};
@@ -58,7 +55,7 @@ fn perform<K: RecordDisk>(
     ensures { Follows K.saving (performed cluster.now me up steps) out.old.items disk.old result out.new.items disk.new }
 {
     let installs = begins_install(steps.items());
-    let up = perform_all(alloc, cluster, me, disk, up, steps, out)?;
+    let up = do_steps(alloc, cluster, me, disk, up, steps, out)?;
     if installs {
         own_ready(alloc, cluster, me, disk, up, out)
     } else {
@@ -92,42 +89,7 @@ pub fn own_ready<K: RecordDisk>(
     };
     let steps = attempt.own_ready()?;
     up.attempt.put(alloc, attempt)?;
-    perform_all(alloc, cluster, me, disk, up, steps, out)
-}
-
-/// The steps are carried out. Where the membership has started, the president decides.
-#[tactic(auto, using(crate::proofs::StepLemmas::decided_then, node_model::proofs::Plans::done_and_stays, node_model::proofs::Plans::stopped_then))]
-fn perform_all<K: RecordDisk>(
-    alloc: Global,
-    cluster: &Cluster,
-    me: NodeId,
-    disk: &mut K,
-    up: UpNode,
-    steps: Steps,
-    out: &mut Vec<Output>,
-) -> Result<UpNode, Stop>
-    ensures { Follows K.saving (performed_all cluster.now me up steps) out.old.items disk.old result out.new.items disk.new }
-{
-    let starts = starts_in(steps.items());
-    let mut up = do_steps(alloc, cluster, me, disk, up, steps, out)?;
-    if !starts {
-        return Ok(up);
-    }
-    decide(alloc, cluster, me, &mut up, out)?;
-    Ok(up)
-}
-
-/// Whether the membership starts in one of these steps.
-fn starts_in(steps: &[Step]) -> bool
-    ensures { result ≡ starts_in steps.now }
-{
-    steps.iter().any(|step| is_start(step))
-}
-
-fn is_start(step: &Step) -> bool
-    ensures { result ≡ is_start step.now }
-{
-    matches!(step, Step::StartHere)
+    do_steps(alloc, cluster, me, disk, up, steps, out)
 }
 
 fn do_steps<K: RecordDisk>(
@@ -167,7 +129,7 @@ fn do_step<K: RecordDisk>(
         Step::SeizeHere { dev, kind } => Ok(seize_here(cluster, me, up, dev, kind)?),
         Step::NeedVotes { .. } => Ok(up),
         Step::InstallHere(i) => install_here(alloc, cluster, me, disk, up, i, out),
-        Step::StartHere => start_here(alloc, cluster, me, disk, up, out),
+        Step::StartHere => start_here(alloc, me, disk, up, out),
         Step::Ended(end) => end_attempt(me, up, end, out),
     }
 }

@@ -6,85 +6,63 @@ ghost use Rattle.node_model.specs.declared.output.Output.TheVariants.{Tells};
 ghost use Rattle.node_model.specs.declared.stop.Stop.TheVariants.{NoMemory};
 ghost use Rattle.node_model.specs.Attempts.{base_lines, started_entry, starting_here, starting_with};
 ghost use Rattle.node_model.specs.Plans.{Follows};
-ghost use Rattle.node_attempts.specs.Told.{membership_told};
 
 use cl_base::{Bytes, Epoch, NodeId};
 use cmm_attempt::Attempt;
 use cmm_member::Started;
 use node_acts::become_member;
-use node_adoption::{preside, tell_adopted};
-use node_model::{Cluster, Output, Seat, Slot, Stop, UpNode, keep, tell, tell_of};
+use node_model::{Output, Presidency, Seat, Slot, Stop, UpNode, keep, tell, tell_of};
+use proposals::Proposals;
 use record_disk::RecordDisk;
 use status_report::{Entry, NodeEntry, StartEntry};
 use std::alloc::Global;
 
-/// The membership of the node's attempt starts: a pending update is committed and saved first. The
-/// node is the president, and adopts what the members report.
+/// The membership of the node's attempt starts: a pending update is committed and saved first.
 pub fn start_here<K: RecordDisk>(
     alloc: Global,
-    cluster: &Cluster,
     me: NodeId,
     disk: &mut K,
     mut up: UpNode,
     out: &mut Vec<Output>,
 ) -> Result<UpNode, Stop>
-    ensures follows { Follows K.saving (starting_here cluster.now me up up.attempt) out.old.items disk.old result out.new.items disk.new }
+    ensures follows { Follows K.saving (starting_here me up up.attempt) out.old.items disk.old result out.new.items disk.new }
 {
     let Some(attempt) = up.attempt.take() else {
         return Ok(up);
     };
-    start_attempt(alloc, cluster, me, disk, up, attempt, out)
+    start_attempt(alloc, me, disk, up, attempt, out)
 }
 
 fn start_attempt<K: RecordDisk>(
     alloc: Global,
-    cluster: &Cluster,
     me: NodeId,
     disk: &mut K,
     mut up: UpNode,
     attempt: Attempt,
     out: &mut Vec<Output>,
 ) -> Result<UpNode, Stop>
-    ensures { Follows K.saving (starting_with cluster.now me (record up { attempt = Some attempt }) attempt up.seat) out.old.items disk.old result out.new.items disk.new }
+    ensures { Follows K.saving (starting_with me (record up { attempt = Some attempt }) attempt up.seat) out.old.items disk.old result out.new.items disk.new }
 {
-    let presidency = preside(alloc, cluster, me, &mut up, &attempt)?;
-    match become_member(up.seat, attempt.epoch()) {
+    let epoch = attempt.epoch();
+    match become_member(up.seat, epoch) {
         Ok(Started { node, changed }) => {
             up.seat = Seat::Member(node);
             up.attempt = Slot::empty();
-            up.presidency = Some(presidency);
-            up.worker.enter(attempt.epoch());
-            tell_membership(alloc, cluster, me, disk, up, &attempt, changed, out)
+            up.presidency = Some(Presidency {
+                proposals: Proposals::new(alloc)?,
+                held: attempt.held_devices(),
+            });
+            if changed {
+                keep(alloc, me, disk, &up.seat, out)?;
+            }
+            tell_start(alloc, &attempt, up.seat.entries().committed(), out)?;
+            tell_of(out, me, NodeEntry::Member(epoch))?;
         }
         Err(seat) => {
             up.seat = seat;
             up.attempt.put(alloc, attempt)?;
-            Ok(up)
         }
     }
-}
-
-/// The node is a member now, and the president: its record is saved where it has changed, and the start
-/// is told.
-fn tell_membership<K: RecordDisk>(
-    alloc: Global,
-    cluster: &Cluster,
-    me: NodeId,
-    disk: &mut K,
-    mut up: UpNode,
-    attempt: &Attempt,
-    changed: bool,
-    out: &mut Vec<Output>,
-) -> Result<UpNode, Stop>
-    ensures { Follows K.saving (membership_told cluster.now me attempt.now changed up) out.old.items disk.old result out.new.items disk.new }
-{
-    if changed {
-        keep(alloc, me, disk, &up.seat, out)?;
-    }
-    let epoch = attempt.epoch();
-    tell_start(alloc, attempt, up.seat.entries().committed(), out)?;
-    tell_adopted(alloc, cluster, epoch, &mut up, out)?;
-    tell_of(out, me, NodeEntry::Member(epoch))?;
     Ok(up)
 }
 

@@ -136,6 +136,6 @@ fn joined_all<K: RecordDisk>(
     if coordinator == me {
         own_ready(alloc, cluster, me, disk, up, out)
     } else {
-        ready(alloc, cluster, up, coordinator, out)
+        ready(alloc, up, coordinator, out)
     }
 }

@@ -22,26 +22,26 @@ some_of n h = grind arith
 
 -- an install and then the answer is the rule of an install
 parts : (c : Cluster) (me : ℕ) (x : UpNode) (from : ℕ) (i : Install) (seat : Seat) → nat_le 1 i.epoch ≡ true → ((state_of seat).session == i.epoch) ≡ true
-    → and_then (installing_members c me x i seat) (λ y. readying c y from) ≡ on_install_as c me x from i seat
+    → and_then (installing_members c me x i seat) (λ y. readying y from) ≡ on_install_as c me x from i seat
 parts c me x from i (Member s) some is = refl
 parts c me x from i (Forming s) some is = rw (some, is) (by_test (s.saved.installed == i.epoch))
   where
-    by_test : (b : Bool) → and_then (if not b then installed_so me (installing c me x s x.tasks i) i.epoch (Stays (installing c me x s x.tasks i)) else Stays x) (λ y. readying c y from)
-        ≡ (if b then readying c x from else installed_so me (installing c me x s x.tasks i) i.epoch (readying c (installing c me x s x.tasks i) from))
+    by_test : (b : Bool) → and_then (if not b then installed_so me (installing c me x s x.tasks i) i.epoch (Stays (installing c me x s x.tasks i)) else Stays x) (λ y. readying y from)
+        ≡ (if b then readying x from else installed_so me (installing c me x s x.tasks i) i.epoch (readying (installing c me x s x.tasks i) from))
     by_test true = refl
     by_test false = refl
 
 whole : (c : Cluster) (me : ℕ) (x : UpNode) (from : ℕ) (i : Install) → nat_le 1 i.epoch ≡ true → (session_of x == i.epoch) ≡ true
-    → and_then (installing_members c me x i x.seat) (λ y. readying c y from) ≡ on_install c me x from i
+    → and_then (installing_members c me x i x.seat) (λ y. readying y from) ≡ on_install c me x from i
 whole c me x from i some is = parts c me x from i x.seat some is ∙ (rw (some, is) refl)
 
 pub install_then : {K : Type 0} → (saving : K → NodeRecord → Saving K) (c : Cluster) (me : ℕ) (x : UpNode) (from : ℕ) (i : Install) (given between after : List Output) (disk mid_disk left : K) (mid : UpNode) (result : Result UpNode Stop)
     → (i.epoch == 0) ≡ false → (session_of x == i.epoch) ≡ true
-    → IsDone saving (installing_members c me x i x.seat) given disk mid between mid_disk → Follows saving (readying c mid from) between mid_disk result after left
+    → IsDone saving (installing_members c me x i x.seat) given disk mid between mid_disk → Follows saving (readying mid from) between mid_disk result after left
     → Follows saving (on_install c me x from i) given disk result after left
 install_then saving c me x from i given between after disk mid_disk left mid result some is done rest =
     subst (λ plan. Follows saving plan given disk result after left) (whole c me x from i (some_of i.epoch some) is)
-    (done_then saving (installing_members c me x i x.seat) (λ y. readying c y from) given between after disk mid_disk left mid result done rest)
+    (done_then saving (installing_members c me x i x.seat) (λ y. readying y from) given between after disk mid_disk left mid result done rest)
 
 pub install_fails : {K : Type 0} → (saving : K → NodeRecord → Saving K) (c : Cluster) (me : ℕ) (x : UpNode) (from : ℕ) (i : Install) (given after : List Output) (disk left : K) (stop : Stop)
     → (i.epoch == 0) ≡ false → (session_of x == i.epoch) ≡ true
@@ -49,4 +49,4 @@ pub install_fails : {K : Type 0} → (saving : K → NodeRecord → Saving K) (c
     → Follows saving (on_install c me x from i) given disk (Err stop) after left
 install_fails saving c me x from i given after disk left stop some is fails =
     subst (λ plan. Follows saving plan given disk (Err stop) after left) (whole c me x from i (some_of i.epoch some) is)
-    (stopped_then saving (installing_members c me x i x.seat) (λ y. readying c y from) given after disk left stop fails)
+    (stopped_then saving (installing_members c me x i x.seat) (λ y. readying y from) given after disk left stop fails)

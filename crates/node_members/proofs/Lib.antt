@@ -1,3 +1,2 @@
 pub mod Installs
-mod Names
 pub mod Readings

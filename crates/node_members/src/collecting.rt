@@ -6,7 +6,7 @@ ghost use Rattle.node_model.specs.Seats.{promised_of};
 
 use cl_base::{Epoch, NodeId};
 use node_acts::{end_requests, promise_body};
-use node_model::{Output, Seat, Stop, UpNode, keep, send, tell};
+use node_model::{Output, Seat, Slot, Stop, UpNode, keep, send, tell};
 use record_disk::RecordDisk;
 use status_report::{AttemptEntry, Entry};
 use std::alloc::Global;
@@ -28,7 +28,7 @@ pub fn collect<K: RecordDisk>(
         return promise(alloc, me, disk, up, from, p, out);
     }
     let body = if p != Epoch::zero() && up.seat.session() == p {
-        promise_body(alloc, &up.seat, &up.worker, p)?
+        promise_body(alloc, &up.seat, p)?
     } else {
         Body::Nack {
             epoch: p,
@@ -44,7 +44,7 @@ fn promise<K: RecordDisk>(
     alloc: Global,
     me: NodeId,
     disk: &mut K,
-    mut up: UpNode,
+    up: UpNode,
     from: NodeId,
     p: Epoch,
     out: &mut Vec<Output>,
@@ -52,20 +52,36 @@ fn promise<K: RecordDisk>(
     requires smaller { promised_of up < p }
     ensures { Follows K.saving (on_collect me up from p) out.old.items disk.old result out.new.items disk.new }
 {
-    let Ok(node) = up.seat.promise(p) else {
+    let UpNode {
+        seat,
+        greatest,
+        mut beats,
+        mut tasks,
+        attempt,
+        mut requests,
+        ..
+    } = up;
+    let Ok(node) = seat.promise(p) else {
         unreachable!()
     };
-    up.seat = Seat::Forming(node);
-    keep(alloc, me, disk, &up.seat, out)?;
-    up.tasks.clear();
-    up.presidency = None;
-    if let Some(attempt) = up.attempt.take() {
+    let seat = Seat::Forming(node);
+    keep(alloc, me, disk, &seat, out)?;
+    tasks.clear();
+    if let Some(attempt) = attempt.get() {
         let epoch = attempt.epoch();
         let ended = AttemptEntry::Superseded { epoch, by: p };
-        up.beats.attempt_ended();
+        beats.attempt_ended();
         tell(out, Entry::Attempt(ended))?;
     }
-    end_requests(alloc, me, &mut up.requests, out)?;
-    send(out, from, promise_body(alloc, &up.seat, &up.worker, p)?)?;
-    Ok(up)
+    end_requests(alloc, me, &mut requests, out)?;
+    send(out, from, promise_body(alloc, &seat, p)?)?;
+    Ok(UpNode {
+        seat,
+        greatest,
+        beats,
+        tasks,
+        attempt: Slot::empty(),
+        requests,
+        presidency: None,
+    })
 }

@@ -4,12 +4,11 @@ ghost use Rattle.node_model.specs.Plans.{Follows, Gives};
 ghost use Rattle.node_members.specs.Installs.{installing_members};
 
 use cl_base::{Epoch, NodeId};
-use node_acts::{begin_joins, install, own_report, save_install};
-use node_decisions::tidy;
+use node_acts::{begin_joins, install, save_install};
 use node_model::{Cluster, Output, Stop, UpNode, send};
 use record_disk::RecordDisk;
 use std::alloc::Global;
-use wire::{Body, Install};
+use wire::{Body, GroupReports, Install, Report, ResourceReports};
 
 /// The node is to install a membership of its session.
 #[tactic(auto, using(crate::proofs::Installs::install_fails))]
@@ -34,44 +33,56 @@ pub fn take_install<K: RecordDisk>(
         return Ok(up);
     }
     let up = install_members(alloc, cluster, me, disk, up, i, out)?;
-    ready(alloc, cluster, up, from, out)
+    ready(alloc, up, from, out)
 }
 
-/// The node installs the membership of its session, where it has not done so. Of groups and resources
-/// that are deleted it keeps nothing.
+/// The node installs the membership of its session, where it has not done so.
 fn install_members<K: RecordDisk>(
     alloc: Global,
     cluster: &Cluster,
     me: NodeId,
     disk: &mut K,
-    mut up: UpNode,
+    up: UpNode,
     i: &Install,
     out: &mut Vec<Output>,
 ) -> Result<UpNode, Stop>
     ensures { Follows K.saving (installing_members cluster.now me up i.now up.seat) out.old.items disk.old result out.new.items disk.new }
 {
-    let (seat, changed) = install(alloc, up.seat, i)?;
-    up.seat = seat;
+    let UpNode {
+        seat,
+        greatest,
+        beats,
+        mut tasks,
+        attempt,
+        requests,
+        presidency,
+    } = up;
+    let (seat, changed) = install(alloc, seat, i)?;
     if changed {
-        let joined = up.seat.joined_devices();
-        let readings = i.readings.items();
-        begin_joins(cluster, me, i.epoch, joined, &mut up.tasks, readings)?;
-        tidy(alloc, cluster, &mut up)?;
-        save_install(alloc, me, disk, &up.seat, i.epoch, out)?;
+        begin_joins(
+            cluster,
+            me,
+            i.epoch,
+            seat.joined_devices(),
+            &mut tasks,
+            i.readings.items(),
+        )?;
+        save_install(alloc, me, disk, &seat, i.epoch, out)?;
     }
-    Ok(up)
+    Ok(UpNode {
+        seat,
+        greatest,
+        beats,
+        tasks,
+        attempt,
+        requests,
+        presidency,
+    })
 }
 
-/// The node is ready where it has no device left to join. It reports what it keeps of groups and
-/// resources.
-pub fn ready(
-    alloc: Global,
-    cluster: &Cluster,
-    mut up: UpNode,
-    to: NodeId,
-    out: &mut Vec<Output>,
-) -> Result<UpNode, Stop>
-    ensures follows { Gives (readying cluster.now up to) out.old.items result out.new.items }
+/// The node is ready where it has no device left to join.
+pub fn ready(alloc: Global, up: UpNode, to: NodeId, out: &mut Vec<Output>) -> Result<UpNode, Stop>
+    ensures follows { Gives (readying up to) out.old.items result out.new.items }
 {
     if up.tasks.joins() {
         return Ok(up);
@@ -79,7 +90,10 @@ pub fn ready(
     let body = Body::Ready {
         epoch: up.seat.session(),
         joined: up.seat.joined_devices(),
-        report: own_report(alloc, cluster, &mut up)?,
+        report: Report {
+            resources: ResourceReports::new(Vec::new(alloc)),
+            groups: GroupReports::new(Vec::new(alloc)),
+        },
     };
     send(out, to, body)?;
     Ok(up)

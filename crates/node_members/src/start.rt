@@ -12,27 +12,44 @@ use status_report::NodeEntry;
 use std::alloc::Global;
 
 /// The membership of this epoch has started: the node is a member of it where it has installed it in
-/// this session, and has carried out no order of it. What is pending is committed and saved first.
+/// this session. What is pending is committed and saved first.
 pub fn take_start<K: RecordDisk>(
     alloc: Global,
     me: NodeId,
     disk: &mut K,
-    mut up: UpNode,
+    up: UpNode,
     epoch: Epoch,
     out: &mut Vec<Output>,
 ) -> Result<UpNode, Stop>
     ensures follows { Follows K.saving (on_start_as me up epoch up.seat) out.old.items disk.old result out.new.items disk.new }
 {
-    match become_member(up.seat, epoch) {
+    let UpNode {
+        seat,
+        greatest,
+        beats,
+        tasks,
+        attempt,
+        requests,
+        presidency,
+    } = up;
+    let seat = match become_member(seat, epoch) {
         Ok(Started { node, changed }) => {
-            up.seat = Seat::Member(node);
-            up.worker.enter(up.seat.session());
+            let seat = Seat::Member(node);
             if changed {
-                keep(alloc, me, disk, &up.seat, out)?;
+                keep(alloc, me, disk, &seat, out)?;
             }
             tell_of(out, me, NodeEntry::Member(epoch))?;
+            seat
         }
-        Err(seat) => up.seat = seat,
-    }
-    Ok(up)
+        Err(seat) => seat,
+    };
+    Ok(UpNode {
+        seat,
+        greatest,
+        beats,
+        tasks,
+        attempt,
+        requests,
+        presidency,
+    })
 }

@@ -1,7 +1,5 @@
 use cl_base::DevSet;
 use proposals::Proposals;
-use rgm_president::President;
-use sent_orders::SentOrders;
 
 /// What a node has in hand as the president of its membership.
 #[derive(Drop)]
@@ -10,8 +8,4 @@ pub struct Presidency {
     pub proposals: Proposals,
     /// The devices that the membership holds.
     pub held: DevSet,
-    /// What it knows of groups, and the orders that it has given.
-    pub groups: President,
-    /// When orders to other members go again.
-    pub sent: SentOrders,
 }

@@ -1,1 +1,3 @@
-pub mod Again
+-- what only the proofs need
+pub mod Presidents
+pub mod Queries

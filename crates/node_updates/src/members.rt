@@ -1,21 +1,20 @@
 // What a member does for its president.
+ghost use Rattle.std.specs.Prelude.{◌≡◌, ◌&&◌};
 ghost use Rattle.node_model.specs.Plans.{Follows};
-ghost use Rattle.node_model.specs.Updates.{on_commit_as, on_prepare_as};
+ghost use Rattle.node_model.specs.Seats.{is_in, is_member};
+ghost use Rattle.node_model.specs.Updates.{is_of_member, on_commit_as, on_prepare_as};
 
 use ccr_commit::Prepared;
 use cl_base::{Bytes, Epoch, NodeId};
-use node_decisions::tidy;
-use node_model::{Cluster, Output, Seat, Stop, UpNode, keep, send};
-use node_presidents::is_in;
+use node_model::{Output, Seat, Stop, UpNode, keep, send};
 use record_disk::RecordDisk;
 use std::alloc::Global;
 use wire::Body;
 
-/// The president asks the member to prepare an update: the member saves it as pending and says so; of
-/// what it deletes nothing is kept. What it has already it says again.
+/// The president asks the member to prepare an update: the member saves it as pending and says so. What
+/// it has already it says again.
 pub fn prepare<K: RecordDisk>(
     alloc: Global,
-    cluster: &Cluster,
     me: NodeId,
     disk: &mut K,
     mut up: UpNode,
@@ -25,7 +24,7 @@ pub fn prepare<K: RecordDisk>(
     text: &Bytes,
     out: &mut Vec<Output>,
 ) -> Result<UpNode, Stop>
-    ensures follows { Follows K.saving (on_prepare_as cluster.now me up from epoch place text.now up.seat) out.old.items disk.old result out.new.items disk.new }
+    ensures follows { Follows K.saving (on_prepare_as me up from epoch place text.now up.seat) out.old.items disk.old result out.new.items disk.new }
 {
     if !is_in(&up, epoch) {
         return Ok(up);
@@ -34,10 +33,7 @@ pub fn prepare<K: RecordDisk>(
         return Ok(up);
     };
     match node.prepare(place, text.items())? {
-        Prepared::Taken => {
-            tidy(alloc, cluster, &mut up)?;
-            keep(alloc, me, disk, &up.seat, out)?;
-        }
+        Prepared::Taken => keep(alloc, me, disk, &up.seat, out)?,
         Prepared::Already => {}
         Prepared::Gap(_) => return Ok(up),
     }
@@ -67,4 +63,25 @@ pub fn commit<K: RecordDisk>(
         keep(alloc, me, disk, &up.seat, out)?;
     }
     Ok(up)
+}
+
+/// Whether the node is in the session of this epoch, which is one.
+pub fn is_in(up: &UpNode, epoch: Epoch) -> bool
+    ensures value { result ≡ is_in up.now epoch }
+{
+    epoch != Epoch::zero() && up.seat.session() == epoch
+}
+
+/// Whether the node is a member, and what comes is of its own membership.
+pub fn is_member_in(up: &UpNode, epoch: Epoch) -> bool
+    ensures value { result ≡ (is_member up.now.seat && is_in up.now epoch) }
+{
+    up.seat.is_member() && is_in(up, epoch)
+}
+
+/// Whether the message is of a member of the node's own membership.
+pub fn is_of_member(up: &UpNode, from: NodeId, epoch: Epoch) -> bool
+    ensures value { result ≡ is_of_member up.now from epoch }
+{
+    is_member_in(up, epoch) && up.seat.members().has(from)
 }

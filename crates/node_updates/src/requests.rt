@@ -2,17 +2,19 @@
 ghost use Rattle.std.specs.Prelude.{◌≡◌, true, Some};
 ghost use Rattle.answer_words.specs.Answers.{answer_in};
 ghost use Rattle.node_model.specs.Plans.{Follows};
-ghost use Rattle.node_model.specs.Requests.{asking, asking_if, commanded, is_idle, on_command, on_reply, queued, replied_as};
-ghost use Rattle.node_model.specs.Seats.{is_member};
+ghost use Rattle.node_model.specs.Requests.{asking, commanded, is_idle, on_command, on_reply, queued, replied_as};
+ghost use Rattle.node_model.specs.Seats.{coordinator_of, is_member};
 
-use crate::queries::{coordinator, query};
+use crate::arriving::arrive;
+use crate::members::is_member_in;
+use crate::queries::query;
+use crate::telling::{copied, reply, tell_own};
+use crate::verdict::word_answer;
 use admin_words::parse;
 use answer_words::parse_answer;
 use ccr_tables::AdminCommand;
 use cl_base::{Bytes, Epoch, NodeId};
 use node_model::{Cluster, Output, Stop, UpNode, send, tell};
-use node_presidents::{arrive, copied, is_member_in, tell_own, word_answer};
-use node_queries::reply;
 use proposals::Arrived;
 use record_disk::RecordDisk;
 use request_queue::{Request, RequestQueue};
@@ -99,24 +101,7 @@ fn queue<K: RecordDisk>(
         number,
         text,
         told: true,
-        second: up.second,
     })?;
-    ask_if(alone, alloc, cluster, me, disk, up, out)
-}
-
-/// A request that waits alone goes at once.
-pub fn ask_if<K: RecordDisk>(
-    alone: bool,
-    alloc: Global,
-    cluster: &Cluster,
-    me: NodeId,
-    disk: &mut K,
-    up: UpNode,
-    out: &mut Vec<Output>,
-) -> Result<UpNode, Stop>
-    requires member { is_member up.seat ≡ true }
-    ensures plan { Follows K.saving (asking_if alone cluster.now me up) out.old.items disk.old result out.new.items disk.new }
-{
     if alone {
         ask(alloc, cluster, me, disk, up, out)
     } else {
@@ -124,15 +109,14 @@ pub fn ask_if<K: RecordDisk>(
     }
 }
 
-/// Whether no request waits.
-pub fn is_idle(requests: &RequestQueue) -> bool
-    ensures value { result ≡ is_idle requests.now.waiting }
+fn is_idle(requests: &RequestQueue) -> bool
+    ensures { result ≡ is_idle requests.now.waiting }
 {
     requests.oldest().is_none()
 }
 
 /// The oldest request goes to the president, which may be the node itself.
-pub fn ask<K: RecordDisk>(
+fn ask<K: RecordDisk>(
     alloc: Global,
     cluster: &Cluster,
     me: NodeId,
@@ -141,7 +125,7 @@ pub fn ask<K: RecordDisk>(
     out: &mut Vec<Output>,
 ) -> Result<UpNode, Stop>
     requires member { is_member up.seat ≡ true }
-    ensures plan { Follows K.saving (asking cluster.now me up) out.old.items disk.old result out.new.items disk.new }
+    ensures { Follows K.saving (asking cluster.now me up) out.old.items disk.old result out.new.items disk.new }
 {
     let Some(oldest) = up.requests.oldest() else {
         return Ok(up);
@@ -166,6 +150,13 @@ pub fn ask<K: RecordDisk>(
         send(out, president, body)?;
     }
     Ok(up)
+}
+
+/// The node that coordinates the session.
+pub fn coordinator(up: &UpNode) -> Option<NodeId>
+    ensures value { result ≡ coordinator_of up.now }
+{
+    NodeId::new(up.seat.session().number() % 64).ok()
 }
 
 /// The president answers: the answer to the oldest request is told, and the next one goes.

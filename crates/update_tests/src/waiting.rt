@@ -18,7 +18,6 @@ fn ask(alloc: Global, queue: &mut RequestQueue) -> Result<(), Fail> {
         number,
         text: words(alloc)?,
         told: true,
-        second: 0,
     })?;
     Ok(())
 }

@@ -1,5 +1,4 @@
 pub mod Worlds
-pub mod Calls
 pub mod Sends
 pub mod Packets
 pub mod Devices

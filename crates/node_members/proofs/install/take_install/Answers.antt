@@ -13,5 +13,5 @@ returns g c =
           c.args.disk.now c.install_members.new.disk c.install_members.new.disk c.in_ok-up.up c.ready.result
           (subst (λ z. (c.args.i.now.epoch == z) ≡ false) c.zero.ensures.value (sym c.eq.ensures ∙ c.if-eq.false)) (search rules)
           (subst (λ r. Follows g.K.RecordDisk.saving (installing_members c.args.cluster.now c.args.me c.args.up c.args.i.now c.args.up.seat) c.args.out.now.items c.args.disk.now r c.install_members.new.out.items c.install_members.new.disk) c.in_ok-up.was c.install_members.ensures)
-          (gives_follows g.K.RecordDisk.saving (readying c.args.cluster.now c.in_ok-up.up c.args.from) c.install_members.new.out.items c.ready.new.out.items c.ready.result c.install_members.new.disk c.ready.ensures.follows);
+          (gives_follows g.K.RecordDisk.saving (readying c.in_ok-up.up c.args.from) c.install_members.new.out.items c.ready.new.out.items c.ready.result c.install_members.new.disk c.ready.ensures.follows);
     }

@@ -1,3 +1,0 @@
--- what only the proofs need
-pub mod Presidents
-pub mod Verdicts

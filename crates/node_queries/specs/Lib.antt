@@ -1,3 +1,0 @@
-pub mod Checks
--- what only the proofs need
-pub mod Queries
