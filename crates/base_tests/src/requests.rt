@@ -13,16 +13,18 @@ fn ask(alloc: Global, queue: &mut RequestQueue, text: &[u8]) -> Result<(), Fail>
         number,
         text: Bytes::new(text.to_vec(alloc)?),
         told: true,
+        second: number.saturating_mul(10),
     })?;
     Ok(())
 }
 
-/// The oldest has this number and text.
+/// The oldest has this number and text, and was asked at the tenth second for each number.
 fn expect(rt: &impl Abort, queue: &RequestQueue, number: u64, text: &[u8]) {
     match queue.oldest() {
         Some(request) => {
             assert_eq!(rt; request.number, number);
             assert_eq!(rt; request.text.items(), text);
+            assert_eq!(rt; request.second, number.saturating_mul(10));
         }
         None => assert_eq!(rt; number, 0),
     }

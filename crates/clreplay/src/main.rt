@@ -9,10 +9,12 @@ ghost use Rattle.clreplay.specs.Exits.{IsExit};
 
 mod help;
 
-use cl_base::Agent;
+use agents::{EveryThird, Obedient, StockAgent};
+use cl_base::Name;
 use cl_io::{StdinSource, StdoutSink};
 use help::{Answer, early_answer};
-use replay::{Status, run_words};
+use replay::{Status, read_task, run_words};
+use std::alloc::Global;
 use std::io::ErrorKind;
 use std::process::ExitCode;
 use std::{env, io};
@@ -79,8 +81,27 @@ fn run(rt: &HostRuntime, words: &[String]) -> u8
     ensures usage { result ≡ code_of Status.Usage ↔ (task_of (map string_bytes words.now) ≡ None) }
     ensures code { IsExit result }
 {
+    if read_task(words).is_none() {
+        return Status::Usage.code();
+    }
+    let Some(agents) = agents(rt.alloc()) else {
+        return Status::NoMemory.code();
+    };
     let mut source = StdinSource::new(rt.reader());
     let mut sink = StdoutSink::new(io::writer(rt));
-    let mut agents: Vec<Box<dyn Agent>> = Vec::new(rt.alloc());
-    run_words(rt.alloc(), words, &mut source, &mut sink, &mut agents).code()
+    run_words(rt.alloc(), words, &mut source, &mut sink, agents).code()
+}
+
+/// The agents that types of resources may name: `obedient` and `thirds`.
+fn agents(alloc: Global) -> Option<Vec<StockAgent>> {
+    let obedient = Name::new(b"obedient".as_slice()).ok()?;
+    let thirds = Name::new(b"thirds".as_slice()).ok()?;
+    let mut agents = Vec::new(alloc);
+    agents
+        .push(StockAgent::Obedient(Obedient::new(obedient)))
+        .ok()?;
+    agents
+        .push(StockAgent::EveryThird(EveryThird::new(thirds)))
+        .ok()?;
+    Some(agents)
 }

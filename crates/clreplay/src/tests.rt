@@ -1,8 +1,8 @@
 ghost use Rattle.std.specs.Prelude.{Some};
 
 use cl_base::{
-    Agent, DevId, DevSet, DeviceKind, Header, HeaderDevice, HeaderDevices, NodeId, NodeSet, Panic,
-    Version,
+    DevId, DevSet, DeviceKind, Header, HeaderDevice, HeaderDevices, NodeId, NodeSet, Outcome,
+    Panic, Version,
 };
 use cl_io::{Failed, MemSink, MemSource, Sink, Source};
 use cmm_attempt::AttachedDevices;
@@ -16,7 +16,7 @@ use status_report::{DownCause, Entry, NodeEntry};
 use std::alloc::Global;
 use std::process::Abort;
 use std::test::Fail;
-use world::World;
+use world::{Agents, World};
 
 /// A source that gives one byte at a time.
 #[derive(Drop)]
@@ -63,8 +63,7 @@ fn status_of<S: Source, K: Sink>(
     sink: &mut K,
 ) -> Result<Status, Fail> {
     let words = vec![in alloc; String::from_str(alloc, word)?]?;
-    let mut agents: Vec<Box<dyn Agent>> = Vec::new(alloc);
-    Ok(run_words(alloc, &words, source, sink, &mut agents))
+    Ok(run_words(alloc, &words, source, sink, Vec::new(alloc)))
 }
 
 fn source_of(alloc: Global, input: &[u8], fails: &[u64]) -> Result<MemSource, Fail> {
@@ -200,7 +199,7 @@ fn one_cell(rt: HostRuntime) -> Result<(), Fail> {
         configured: nodes,
         devices: HeaderDevices::new(vec![in alloc; device]?),
     };
-    let mut world = World::with_cells(alloc, &header, 1)?;
+    let mut world = World::with_cells(alloc, &header, 1, Agents::new(Vec::new(alloc)))?;
     let mut text = Vec::new(alloc);
     let device = DevId::new(1)?;
     world.step(alloc, &Event::Boot(one), &mut text)?;
@@ -256,7 +255,17 @@ fn tick(
     node: &mut Node,
 ) -> Result<Vec<Output>, Fail> {
     let mut given = Vec::new(alloc);
-    step(alloc, cluster, me, disk, node, &Input::Tick, &mut given)?;
+    step(
+        alloc,
+        cluster,
+        me,
+        0,
+        Outcome::Failure,
+        disk,
+        node,
+        &Input::Tick,
+        &mut given,
+    )?;
     Ok(given)
 }
 
@@ -273,6 +282,8 @@ fn lose_a_save(
         alloc,
         cluster,
         me,
+        0,
+        Outcome::Failure,
         &mut disk,
         node,
         &Input::Boot,

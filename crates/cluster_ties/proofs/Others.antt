@@ -21,7 +21,7 @@ use Rattle.node_model.specs.declared.node.Node.TheVariants.{Down, Up}
 use Rattle.node_model.specs.declared.node.UpNode.{UpNode}
 use Rattle.node_model.specs.declared.seat.Seat.TheVariants.{Forming}
 use Rattle.node_model.specs.Seats.{state_of}
-use Rattle.refinement.specs.Doings.Act.{Accepts, Ends, Gives, Goes_on, Hears, Makes, Minds, Notes, Queues, Spreads, Stores, Takes, Ticks, Waits, Writes}
+use Rattle.refinement.specs.Doings.Act.{Accepts, Dates, Ends, Gives, Goes_on, Hears, Makes, Minds, Notes, Queues, Spreads, Stores, Takes, Ticks, Waits, Works, Writes}
 use Rattle.cluster_ties.specs.Ties.{AttemptAt, MarksTied, UpAt}
 use Rattle.cluster_ties.specs.Moves.{first_whole}
 use Rattle.cluster_ties.specs.Laws.{BootsGo, IsOf, OthersStay, ReachedStays, RestsGo, SitsGo, StartsGo}
@@ -51,6 +51,8 @@ rests_go c W n x (Gives os) apart at = at
 rests_go c W n x (Spreads receivers b) apart at = at
 rests_go c W n x (Minds requests office) apart at = record { marks = at.marks; tasks = at.tasks; once = at.once; idle = at.idle; attempt = at.attempt }
 rests_go c W n x (Notes from place office) apart at = record { marks = at.marks; tasks = at.tasks; once = at.once; idle = at.idle; attempt = at.attempt }
+rests_go c W n x (Dates now) apart at = record { marks = at.marks; tasks = at.tasks; once = at.once; idle = at.idle; attempt = at.attempt }
+rests_go c W n x (Works worker) apart at = record { marks = at.marks; tasks = at.tasks; once = at.once; idle = at.idle; attempt = at.attempt }
 rests_go c W n x (Goes_on a k) apart at = absurd apart
 rests_go c W n x (Queues a d kind) apart at = absurd apart
 rests_go c W n x (Accepts kind e members d) apart at = absurd apart

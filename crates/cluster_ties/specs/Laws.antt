@@ -15,14 +15,13 @@ use Rattle.device_ties.specs.Tasks.{is_member}
 use Rattle.machine_base.specs.Put.{put}
 use Rattle.attempt_laws.specs.Asking.{AreApart, IsToldAt, numbers_of}
 use Rattle.attempt_laws.specs.Machine.{AreVotesOf, MachineHas}
-use Rattle.ccr_commit.specs.Entries.{with_next}
 use Rattle.cmm_attempt.specs.declared.counting.BothVotes.{BothVotes}
 use Rattle.cmm_attempt.specs.Attempts.{AttemptState, beginning}
 use Rattle.attempt_laws.specs.Laws.{is_held_in}
 use Rattle.cmm_attempt.specs.Calls as calls
 use Rattle.cmm_attempt.specs.Calls.{Call, IsReached as IsReachedAttempt, May as MayCall, installs_in, turn}
 use Rattle.machine_base.specs.Epochs.{coordinator}
-use Rattle.cmm_member.specs.Nodes.{NodeState, with_entries}
+use Rattle.cmm_member.specs.Nodes.{NodeState}
 use Rattle.cmm_member.specs.Records.{NodeRecord}
 use Rattle.membership_machine.specs.Events as membership
 use Rattle.membership_machine.specs.Starts.{Alike, DevicesMeet, Follows, last_start}
@@ -38,13 +37,13 @@ use Rattle.node_model.specs.Attempts.{installing, own_promise, seizing_here, sta
 use Rattle.node_model.specs.Members.{promised_so, sitting}
 use Rattle.node_model.specs.Presidents.{committing, proposed_by}
 use Rattle.node_model.specs.Seats.{promising, record_of, state_of, up_with}
-use Rattle.node_model.specs.Updates.{committed_so}
+use Rattle.node_model.specs.Updates.{committed_so, prepared_so}
 use Rattle.pgr_device.specs.declared.command.PrAnswer.TheVariants as given
 use Rattle.pgr_device.specs.declared.command.PrCommand.{PrCommand}
 use Rattle.pgr_device.specs.declared.command.PrCommand.TheVariants as command
 use Rattle.pgr_device.specs.Spc as spc
 use Rattle.refinement.specs.Doings.{Act, accepting, acted, answered_so, begun_by, going, minded}
-use Rattle.refinement.specs.Doings.Act.{Ends, Gives, Hears, Minds, Notes, Spreads, Ticks, Waits, Writes}
+use Rattle.refinement.specs.Doings.Act.{Dates, Ends, Gives, Hears, Minds, Notes, Spreads, Ticks, Waits, Works, Writes}
 use Rattle.request_queue.specs.Queue.{Queue}
 use Rattle.cl_base.specs.declared.header.DeviceKind.{DeviceKind}
 use Rattle.cl_base.specs.declared.header.DeviceKind.TheVariants.{Quorum}
@@ -201,6 +200,8 @@ IsApart (Gives os) = Unit {0}
 IsApart (Spreads receivers b) = Unit {0}
 IsApart (Minds requests office) = Unit {0}
 IsApart (Notes from place office) = Unit {0}
+IsApart (Dates now) = Unit {0}
+IsApart (Works worker) = Unit {0}
 IsApart _ = ⊥
 
 abbrev pub RestsGo : Type 0
@@ -210,7 +211,7 @@ RestsGo = (c : Cluster) (W : Whole) (n : ℕ) (x : UpNode) (act : Act) → IsApa
 abbrev pub StartsGo : Type 0
 StartsGo = (S : Setting) (c : Cluster) (W : Whole) (n q : ℕ) (x : UpNode) (a : AttemptState) (s : NodeState) (devices : Devices) → DevicesTied c devices W → UpAt c W n x
     → x.seat ≡ Forming s → coordinator q ≡ n → membership.Allowed S W.memberships (membership.Start q)
-    → MembershipGoes S c W n (membership.Start q) devices (record_of (starting_as x a s)) (Up (starting_as x a s))
+    → MembershipGoes S c W n (membership.Start q) devices (record_of (starting_as c n x a s)) (Up (starting_as c n x a s))
 
 abbrev pub SitsGo : Type 0
 SitsGo = (S : Setting) (c : Cluster) (W : Whole) (n q : ℕ) (x : UpNode) (s : NodeState) (devices : Devices) → DevicesTied c devices W → UpAt c W n x → x.seat ≡ Forming s
@@ -222,7 +223,7 @@ SitsGo = (S : Setting) (c : Cluster) (W : Whole) (n q : ℕ) (x : UpNode) (s : N
 abbrev pub ProposesGo : Type 0
 ProposesGo = (S : Setting) (c : Cluster) (W : Whole) (n q : ℕ) (x : UpNode) (p : Presidency) (text : List ℕ) (devices : Devices) → DevicesTied c devices W → UpAt c W n x → coordinator q ≡ n
     → membership.Allowed S W.memberships (membership.Propose q text)
-    → MembershipGoes S c W n (membership.Propose q text) devices (record_of (proposed_by n x p text)) (Up (proposed_by n x p text))
+    → MembershipGoes S c W n (membership.Propose q text) devices (record_of (proposed_by c n x p text)) (Up (proposed_by c n x p text))
 
 abbrev pub ProposalsAreLost : Type 0
 ProposalsAreLost = (S : Setting) (c : Cluster) (W : Whole) (n q : ℕ) (text : List ℕ) (disk : NodeRecord) (node : Node) (devices : Devices) → DevicesTied c devices W → NodeAt c W n disk node
@@ -234,15 +235,11 @@ AcknowledgesGo = (S : Setting) (c : Cluster) (W : Whole) (n q : ℕ) (x : UpNode
     → coordinator q ≡ n → membership.Allowed S W.memberships (membership.Acknowledge q)
     → MembershipGoes S c W n (membership.Acknowledge q) devices (record_of (minded (committing x) requests office)) (Up (minded (committing x) requests office))
 
--- a member with this update as pending
-abbrev pub prepared_so : UpNode → NodeState → List ℕ → UpNode
-prepared_so x s text = record x { seat = Member (with_entries s (with_next s.saved.entries text)) }
-
 -- A member has one more update, and commits what is pending.
 abbrev pub PreparesGo : Type 0
 PreparesGo = (S : Setting) (c : Cluster) (W : Whole) (n q : ℕ) (x : UpNode) (s : NodeState) (text : List ℕ) (devices : Devices) → DevicesTied c devices W → UpAt c W n x → x.seat ≡ Member s
     → membership.Allowed S W.memberships (membership.Prepare n q text)
-    → MembershipGoes S c W n (membership.Prepare n q text) devices (record_of (prepared_so x s text)) (Up (prepared_so x s text))
+    → MembershipGoes S c W n (membership.Prepare n q text) devices (record_of (prepared_so c x s text)) (Up (prepared_so c x s text))
 
 abbrev pub CommitsGo : Type 0
 CommitsGo = (S : Setting) (c : Cluster) (W : Whole) (n q : ℕ) (x : UpNode) (s : NodeState) (devices : Devices) → DevicesTied c devices W → UpAt c W n x → x.seat ≡ Member s

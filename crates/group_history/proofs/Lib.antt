@@ -1,1 +1,4 @@
 pub mod Within
+pub mod Ascending
+pub mod Due
+pub mod Clients

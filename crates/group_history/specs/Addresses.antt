@@ -1,6 +1,6 @@
 -- Shared addresses: what a client's request at a president is answered is what the requests for the address in this membership since it was last
 -- deleted, its policy and its targets at each of them give.
-use Rattle.std.specs.Prelude.{◌≡◌, ℕ, ◌==◌, nat_lt, ◌&&◌, not, if◌then◌else◌, List, [], ◌∷◌, ◌++◌, Option, Some, None}
+use Rattle.std.specs.Prelude.{◌≡◌, ℕ, ◌==◌, nat_lt, ◌&&◌, not, Bool, false, if◌then◌else◌, List, map, [], ◌∷◌, ◌++◌, Option, Some, None}
 use Rattle.std.specs.List.{flat_map, find}
 use Rattle.std.specs.Option.{option_map_or}
 use Rattle.ccr_tables.specs.State.{ConfigState}
@@ -14,8 +14,9 @@ use Rattle.rg_props.specs.Lookups.{named}
 use Rattle.rg_view.specs.declared.view.GroupView.{GroupView}
 use Rattle.schedule_text.specs.declared.event.Event.TheVariants as event
 use Rattle.schedule_text.specs.declared.line.Line.TheVariants as line
-use Rattle.shared_address.specs.Choosing.{Outcome, asked}
-use Rattle.shared_address.specs.History.{Event, Asked, Dropped, requests_for, outcome_after}
+use Rattle.std.specs.Str.{bytes_eq}
+use Rattle.shared_address.specs.Choosing.{Outcome, Request, asked}
+use Rattle.shared_address.specs.History.{outcome_after}
 use Rattle.shared_address.specs.declared.choice.Client.{Client}
 use Rattle.shared_address.specs.declared.choice.Target.{Target}
 use Rattle.status_report.specs.declared.schedule_entry.SkipCause.TheVariants as skip
@@ -40,23 +41,50 @@ target_on c v a n =
 abbrev pub targets_of : ConfigState → GroupView → Address → List Target
 targets_of c v a = flat_map (target_on c v a) (nodes_of v.members)
 
--- ---- the requests for addresses in e, newest first
+-- ---- the requests for an address at the president of e since it became one or the address was deleted, newest first, with what their lines tell
 
-abbrev pub request_in : ConfigState → GroupView → ℕ → ℕ → Option Address → List ℕ → List Event
-request_in c v client port None name = []
-request_in c v client port (Some a) name = Asked name (asked a.policy client port (targets_of c v a)) ∷ []
+pub record Answered : Type 0 where
+  pub request : Request
+  pub node : Option ℕ
+  pub forgot : Option Client
 
-abbrev pub dropped_by : Option AdminCommand → List Event
-dropped_by (Some (Change (DeleteAddress name))) = Dropped name ∷ []
-dropped_by _ = []
+abbrev pub requests_of : List Answered → List Request
+requests_of answers = map (λ a. a.request) answers
 
-abbrev pub events_in : Groups → ℕ → List Moment → List Event
-events_in S e [] = []
-events_in S e (member n f ∷ before) = if (f == e) && (n == coordinator e) then [] else events_in S e before
-events_in S e (served name client port target ∷ before) =
-    request_in (config_of S e before) (known_of S e before) client port (named (config_of S e before).addresses name) name ++ events_in S e before
-events_in S e (ack f v words ∷ before) = (if f == e then dropped_by (S.command words) else []) ++ events_in S e before
-events_in S e (_ ∷ before) = events_in S e before
+abbrev pub request_at : Groups → ℕ → List Moment → ℕ → ℕ → Address → Request
+request_at S e before client port a = asked a.policy client port (targets_of (config_of S e before) (known_of S e before) a)
+
+abbrev pub answer_at : Groups → ℕ → List Moment → ℕ → ℕ → Option ℕ → Option Client → Option Address → List Answered
+answer_at S e before client port target evicted None = []
+answer_at S e before client port target evicted (Some a) = record { request = request_at S e before client port a; node = target; forgot = evicted } ∷ []
+
+-- whether n is the president of e, where this is the membership that it has
+abbrev pub presides : ℕ → ℕ → Option ℕ → Bool
+presides e n None = false
+presides e n (Some f) = (f == e) && (coordinator e == n)
+
+-- the line of the client comes right before those of its answer
+abbrev pub answer_of : Groups → ℕ → List ℕ → Option ℕ → Option Client → List Moment → List Answered
+answer_of S e name target evicted (Said (line.Event (event.Client n other client port)) ∷ before) =
+    if bytes_eq other name && presides e n (member_of n before)
+    then answer_at S e before client port target evicted (named (config_of S e before).addresses name)
+    else []
+answer_of S e name target evicted _ = []
+
+abbrev pub answer_told : Groups → ℕ → List ℕ → Option ℕ → List Moment → List Answered
+answer_told S e name target (forgot other client port ∷ before) = answer_of S e name target (Some (record { address = client; port = port })) before
+answer_told S e name target before = answer_of S e name target None before
+
+abbrev pub deletes : List ℕ → Option AdminCommand → Bool
+deletes name (Some (Change (DeleteAddress other))) = bytes_eq other name
+deletes name _ = false
+
+abbrev pub answers_in : Groups → ℕ → List ℕ → List Moment → List Answered
+answers_in S e name [] = []
+answers_in S e name (member n f ∷ before) = if (f == e) && (n == coordinator e) then [] else answers_in S e name before
+answers_in S e name (served other client port target ∷ before) = answer_told S e name target before ++ answers_in S e name before
+answers_in S e name (ack f v words ∷ before) = if (f == e) && deletes name (S.command words) then [] else answers_in S e name before
+answers_in S e name (_ ∷ before) = answers_in S e name before
 
 -- ---- the entries of a request
 
@@ -70,8 +98,7 @@ lines_of name client port o = forgot_line name o.forgot ++ served name client po
 abbrev pub entries_for : Groups → ℕ → List Moment → List ℕ → ℕ → ℕ → Option Address → List Moment
 entries_for S e before name client port None = skipped skip.NoAddress ∷ []
 entries_for S e before name client port (Some a) =
-    lines_of name client port
-    (outcome_after (requests_for name (events_in S e before)) (asked a.policy client port (targets_of (config_of S e before) (known_of S e before) a)))
+    lines_of name client port (outcome_after (requests_of (answers_in S e name before)) (request_at S e before client port a))
 
 abbrev pub IsServedAt : Groups → List Moment → ℕ → List ℕ → ℕ → ℕ → List Moment → Option ℕ → Type 0
 IsServedAt S before n name client port entries None = Unit {0}

@@ -28,4 +28,5 @@ pub mod Probes
 pub mod Failures
 pub mod Refusals
 pub mod Addresses
+pub mod Served
 pub mod GroupHistory

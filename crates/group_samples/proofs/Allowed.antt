@@ -2,7 +2,7 @@
 use Rattle.std.proofs.Common.{refl, arith, [], ◌∷◌}
 use Rattle.cl_base.specs.Sets.{has}
 use Rattle.cl_base.specs.declared.history.FailoverMode.TheVariants as mode
-use Rattle.cl_base.specs.declared.method.Method.TheVariants.{Start}
+use Rattle.cl_base.specs.declared.method.Method.TheVariants.{Start, Stop}
 use Rattle.cl_base.specs.declared.method.Outcome.TheVariants.{Success}
 use Rattle.placement.specs.Resources.{has_enabled}
 use Rattle.schedule_text.specs.declared.event.Event.TheVariants as event
@@ -17,6 +17,9 @@ use Rattle.group_samples.specs.SampleAllowed.{dependent, apart, b, h}
 use Rattle.group_samples.specs.SampleConfigurations.{a, staying, moving, resource_under}
 use Rattle.group_samples.specs.SampleFailover as failover
 use Rattle.group_samples.specs.SampleFault as fault
+use Rattle.group_samples.specs.SampleServing as serving
+use Rattle.group_samples.specs.SampleServing.{sticking}
+use Rattle.group_samples.specs.SampleStatus.{tick}
 use Rattle.group_samples.proofs.Limits.{none_is_there}
 
 pub faulted : IsAllowedCall (situation_of staying 65 fault.ticking) 1 a Start
@@ -137,4 +140,38 @@ away = record {
     },
     search,
   );
+}
+
+pub serving_started : IsAllowedCall (situation_of sticking 65 (tick fault.formed)) 1 a Start
+unfolding has has_up has_online has_enabled
+serving_started = record {
+  member = refl;
+  resource = resource_under mode.None;
+  there = refl;
+  offered = refl;
+  may = (
+    record {
+      listed = refl;
+      managed = refl;
+      enabled = refl;
+      primaries = search arith;
+      strong = refl;
+      groups = refl;
+      close = refl;
+      apart = refl;
+      avoided = refl;
+      within = λ l there. search (none_is_there l there);
+    },
+    search,
+  );
+}
+
+pub serving_stopped : IsAllowedCall (situation_of sticking 65 (tick serving.evacuating)) 1 a Stop
+unfolding has has_up has_online has_enabled
+serving_stopped = record {
+  member = refl;
+  resource = resource_under mode.None;
+  there = refl;
+  offered = refl;
+  may = record { runs = refl; unmonitored = refl; alone = refl; free = refl };
 }

@@ -5,3 +5,6 @@ pub mod SampleCalls
 pub mod SampleAllowed
 pub mod SampleMaps
 pub mod SampleStatus
+pub mod SampleServing
+pub mod SampleGoals
+pub mod SampleTurns

@@ -1,8 +1,9 @@
 //! What the definitions of groups refuse, by small traces: each clause says of one of them that it meets the definition, or that its newest
 //! moment or event does not.
-ghost use Rattle.std.specs.Prelude.{◌≡◌, [], ◌∷◌, Some, None, true, false};
+ghost use Rattle.std.specs.Prelude.{◌≡◌, [], ◌∷◌, Some, None, true, false, length};
 ghost use Rattle.cl_base.specs.declared.history.FailoverMode.TheVariants as mode;
 ghost use Rattle.cl_base.specs.declared.reason.Reason.TheVariants as reason;
+ghost use Rattle.decision_laws.specs.Limits.{IsWithin};
 ghost use Rattle.rgm_member.specs.State.{no_marks};
 ghost use Rattle.history.specs.Order.{OfNewest, OfNewestEvent};
 ghost use Rattle.group_history.specs.AllowedCalls.{IsAllowed};
@@ -27,7 +28,8 @@ ghost use Rattle.group_history.specs.Quiet.{IsQuietStatus};
 ghost use Rattle.group_history.specs.Again.{GoesAgain};
 ghost use Rattle.group_history.specs.Waiting.{IsWaiting};
 ghost use Rattle.group_history.specs.Refusals.{IsProposal, IsAnswerDue, IsFull};
-ghost use Rattle.group_history.specs.Addresses.{IsServed};
+ghost use Rattle.group_history.specs.Addresses.{IsServed, answers_in};
+ghost use Rattle.group_history.specs.Served.{ClientsStick, PortsStick, ServedByTargets, WeightsExact};
 ghost use Rattle.group_samples.specs.SampleConfigurations.{a, g, group_on, moving, staying};
 ghost use Rattle.group_samples.specs.SampleAllowed as allowed;
 ghost use Rattle.group_samples.specs.SampleAllowed.{dependent, apart, close};
@@ -36,7 +38,12 @@ ghost use Rattle.group_samples.specs.SampleFailover as failover;
 ghost use Rattle.group_samples.specs.SampleMaps as maps;
 ghost use Rattle.group_samples.specs.SampleMaps.{hard};
 ghost use Rattle.group_samples.specs.SampleStatus as told;
-ghost use Rattle.group_samples.specs.SampleStatus.{commanded, serving};
+ghost use Rattle.group_samples.specs.SampleGoals.{both_there, limit, limited, one_there};
+ghost use Rattle.group_samples.specs.SampleServing as sample;
+ghost use Rattle.group_samples.specs.SampleServing.{by_client, sticking};
+ghost use Rattle.group_samples.specs.SampleStatus.{commanded, serving, x};
+ghost use Rattle.group_samples.specs.SampleTurns as turn;
+ghost use Rattle.group_samples.specs.SampleTurns.{weighing};
 
 /// Allowed call: a start waits for its strong dependencies, for room and for a node without a group that keeps away; a stop for its dependents.
 #[tactic(auto, unfolding(cl_base::specs::Sets::has, sequencer_laws::specs::Situations::has_up, sequencer_laws::specs::Situations::has_online, placement::specs::Resources::has_enabled))]
@@ -220,4 +227,54 @@ pub fn maps_of_a_membership()
     ensures known { (state_of (known_of moving 65 failover.learned).resources a 2).run ≡ true }
     ensures flags { (flags_of moving 65 failover.told a 2).run ≡ true }
     ensures goal { goal_in moving 65 g failover.told ≡ 2 }
+{}
+
+/// The requests that count: those at the president of the membership, since the address was deleted.
+#[tactic(auto, unfolding(cl_base::specs::Sets::has, cl_base::specs::Sets::set_with, placement::specs::Decisions::decided, placement::specs::Eligibility::group_reason, placement::specs::Eligibility::node_reason, placement::specs::Eligibility::target_reason, placement::specs::Eligibility::reason_of, placement::specs::Eligibility::online_targets, placement::specs::Eligibility::score_of, placement::specs::Eligibility::eligibility_of, placement::specs::Goals::kept, placement::specs::Goals::best_of, placement::specs::Goals::placed, placement::specs::Goals::goal_by_rule, placement::specs::Loads::is_fixed, placement::specs::Loads::counted, placement::specs::Loads::passed_limit, placement::specs::Loads::soft_passed, placement::specs::Resources::has_enabled, placement::specs::Resources::has_down, placement::specs::Resources::is_stop_failed, placement::specs::Targets::forbidding, placement::specs::Targets::without_goal, placement::specs::Targets::lacking, rgm_president::specs::Goals::with_listed, rgm_president::specs::Goals::with_decided, rgm_president::specs::Goals::with_ended, rgm_president::specs::Goals::with_goals, rgm_president::specs::Sequence::groups_in_order, rgm_president::specs::Sequence::members_in_order, load_limits::specs::Loads::load))]
+pub fn requests_that_count()
+    ensures once { length (answers_in sticking 65 x sample.served_first) ≡ 1 }
+    ensures another_president { length (answers_in sticking 65 x sample.served_by_another_president) ≡ 1 }
+    ensures deleted { answers_in sticking 65 x sample.deleted ≡ [] }
+{}
+
+/// Served by targets: by a target where there is one, and by nobody only where there is none.
+#[tactic(auto, unfolding(cl_base::specs::Sets::has, cl_base::specs::Sets::set_with, placement::specs::Decisions::decided, placement::specs::Eligibility::group_reason, placement::specs::Eligibility::node_reason, placement::specs::Eligibility::target_reason, placement::specs::Eligibility::reason_of, placement::specs::Eligibility::online_targets, placement::specs::Eligibility::score_of, placement::specs::Eligibility::eligibility_of, placement::specs::Goals::kept, placement::specs::Goals::best_of, placement::specs::Goals::placed, placement::specs::Goals::goal_by_rule, placement::specs::Loads::is_fixed, placement::specs::Loads::counted, placement::specs::Loads::passed_limit, placement::specs::Loads::soft_passed, placement::specs::Resources::has_enabled, placement::specs::Resources::has_down, placement::specs::Resources::is_stop_failed, placement::specs::Targets::forbidding, placement::specs::Targets::without_goal, placement::specs::Targets::lacking, rgm_president::specs::Goals::with_listed, rgm_president::specs::Goals::with_decided, rgm_president::specs::Goals::with_ended, rgm_president::specs::Goals::with_goals, rgm_president::specs::Sequence::groups_in_order, rgm_president::specs::Sequence::members_in_order, load_limits::specs::Loads::load))]
+pub fn served_by_targets()
+    ensures target { ServedByTargets serving 65 x told.served_by_the_target }
+    ensures nobody { ServedByTargets serving 65 x told.served_by_nobody → ⊥ }
+    ensures offline { ServedByTargets serving 65 x told.served_offline → ⊥ }
+    ensures elsewhere { ServedByTargets sticking 65 x sample.served_elsewhere → ⊥ }
+{}
+
+/// Weights exact: with one target, each turn is its own; of two, the one with twice the weight has two of three.
+#[tactic(auto, unfolding(cl_base::specs::Sets::has, cl_base::specs::Sets::set_with, placement::specs::Decisions::decided, placement::specs::Eligibility::group_reason, placement::specs::Eligibility::node_reason, placement::specs::Eligibility::target_reason, placement::specs::Eligibility::reason_of, placement::specs::Eligibility::online_targets, placement::specs::Eligibility::score_of, placement::specs::Eligibility::eligibility_of, placement::specs::Goals::kept, placement::specs::Goals::best_of, placement::specs::Goals::placed, placement::specs::Goals::goal_by_rule, placement::specs::Loads::is_fixed, placement::specs::Loads::counted, placement::specs::Loads::passed_limit, placement::specs::Loads::soft_passed, placement::specs::Resources::has_enabled, placement::specs::Resources::has_down, placement::specs::Resources::is_stop_failed, placement::specs::Targets::forbidding, placement::specs::Targets::without_goal, placement::specs::Targets::lacking, rgm_president::specs::Goals::with_listed, rgm_president::specs::Goals::with_decided, rgm_president::specs::Goals::with_ended, rgm_president::specs::Goals::with_goals, rgm_president::specs::Sequence::groups_in_order, rgm_president::specs::Sequence::members_in_order, load_limits::specs::Loads::load, rg_props::specs::Words::name_in, wire::specs::Reads::number_at, wire::specs::Reads::byte_at, wire::specs::Reads::node_at, wire::specs::Reads::text_at, wire::specs::Reads::truth_at, wire::specs::Reads::device_at, wire::specs::Reads::devices_at, wire::specs::Reads::items_at, wire::specs::Reads::list_at, wire::specs::Reads::at_most_one_at, wire::specs::Reads::method_at, wire::specs::Reads::outcome_at, wire::specs::Reads::kind_at, wire::specs::Reads::marks_at, wire::specs::Reads::failures_at, wire::specs::Reads::resource_at, wire::specs::Reads::group_at, wire::specs::Reads::report_at, wire::specs::Reads::ready_at, wire::specs::Reads::order_at, wire::specs::Reads::done_at, wire::specs::Reads::body_at, wire::specs::Reads::message_at, wire::specs::Reads::whole_of))]
+pub fn turns()
+    ensures by_weight { OfNewestEvent (IsServed weighing) turn.by_weight }
+    ensures nobodys { WeightsExact serving 65 x told.served_by_nobody → ⊥ }
+    ensures anothers { WeightsExact serving 65 x sample.served_elsewhere_at_once → ⊥ }
+    ensures all_the_firsts { WeightsExact weighing 65 x turn.always_the_first → ⊥ }
+    ensures two_of_the_second { WeightsExact weighing 65 x turn.as_if_weighted_otherwise → ⊥ }
+{}
+
+/// Sticky: a client whose node is still a target is served there again, under STICKY_PORT at its port, under LB_STICKY at each port.
+pub fn clients_that_stick()
+    ensures elsewhere { PortsStick sticking 65 x sample.served_elsewhere → ⊥ }
+    ensures nobody { PortsStick sticking 65 x sample.served_nobody → ⊥ }
+    ensures elsewhere_by_client { ClientsStick by_client 65 x sample.served_elsewhere_by_client → ⊥ }
+    ensures nobody_by_client { ClientsStick by_client 65 x sample.served_nobody_by_client → ⊥ }
+{}
+
+/// Placed within limits: groups that are not fixed bring a node no more than its hard limit.
+#[tactic(auto, unfolding(cl_base::specs::Sets::has, placement::specs::Loads::is_fixed, placement::specs::Resources::is_stop_failed, load_limits::specs::Loads::load))]
+pub fn placed_within_limits()
+    ensures one { IsWithin (limited 1) one_there limit }
+    ensures both { IsWithin (limited 1) both_there limit → ⊥ }
+    ensures too_heavy { IsWithin (limited 2) one_there limit → ⊥ }
+{}
+
+/// Clears: the mark of a failed stop is there until the tick after the command.
+#[tactic(auto, unfolding(cl_base::specs::Sets::has))]
+pub fn clears()
+    ensures marked { (own_of sticking 1 sample.not_stopped).marks ≡ (a, record no_marks { run = true; stop_failed = true }) ∷ [] }
+    ensures cleared { (own_of sticking 1 sample.cleared).marks ≡ (a, record no_marks { run = true }) ∷ [] }
 {}

@@ -4,6 +4,7 @@ ghost use Rattle.group_history.specs.GroupHistory.{GroupsHold, GroupAnswers, Gro
 ghost use Rattle.group_samples.specs.SampleConfigurations.{staying, moving};
 ghost use Rattle.group_samples.specs.SampleFault.{faulted};
 ghost use Rattle.group_samples.specs.SampleFailover.{failed_over};
+ghost use Rattle.group_samples.specs.SampleServing.{cleared, sticking};
 
 /// A node fails to start a resource, which is faulted then, and tells it.
 pub fn a_fault()
@@ -19,6 +20,13 @@ pub fn a_failover()
     ensures whole { GroupsWhole moving failed_over }
 {}
 
+/// Under the second version a client of a shared address is served, a stop fails as the node is evacuated, and the mark is cleared.
+pub fn a_client_served()
+    ensures holds { GroupsHold sticking cleared }
+    ensures answers { GroupAnswers sticking cleared }
+    ensures whole { GroupsWhole sticking cleared }
+{}
+
 /// The trace of the fault is a history too.
 #[tactic(auto, unfolding(cl_base::specs::Sets::has, quorum_votes::specs::Sums::sum_to))]
 pub fn the_fault_is_a_history()
@@ -28,4 +36,10 @@ pub fn the_fault_is_a_history()
 /// And so is that of the failover.
 pub fn the_failover_is_a_history()
     ensures history { History moving.cluster failed_over }
+{}
+
+/// And that of the second version.
+#[tactic(auto, unfolding(cl_base::specs::Sets::has, quorum_votes::specs::Sums::sum_to))]
+pub fn the_client_is_served_in_a_history()
+    ensures history { History sticking.cluster cleared }
 {}

@@ -1,5 +1,5 @@
--- What goes at a tick: heartbeats, and again what is not answered.
-use Rattle.std.proofs.Common.{◌≡◌, ℕ, Bool, true, false, List, [], ◌∷◌, ◌++◌, Option, Some, None, if◌then◌else◌, refl, ap, sym, subst, ◌∙◌, append_assoc}
+-- What goes at a tick: heartbeats, and again a request that is not answered.
+use Rattle.std.proofs.Common.{◌≡◌, ℕ, List, [], ◌∷◌, ◌++◌, Option, Some, None, if◌then◌else◌, refl, ap, ◌∙◌, append_assoc}
 use Rattle.heartbeats.specs.State.{State}
 use Rattle.heartbeats.specs.Views.{receivers_of, ticked}
 use Rattle.proposals.specs.Proposing.{goes_again}
@@ -18,7 +18,7 @@ use Rattle.node_model.specs.Seats.{coordinator_of, record_of}
 use Rattle.node_model.specs.Ticks.{heartbeats_to, later, ticked_output}
 use Rattle.node_model.specs.Updates.{prepares_again, prepares_again_by, prepares_of, request_again, request_again_by, request_again_to}
 
-abbrev beating : UpNode → State → UpNode
+abbrev pub beating : UpNode → State → UpNode
 beating x beats = record x { beats = beats }
 
 -- heartbeats tell nothing of what waits
@@ -42,13 +42,16 @@ same_prepares_of x beats None (Some text) = refl
 same_prepares_of x beats None None = refl
 same_prepares_of x beats (Some p) None = refl
 
-same_prepares : (x : UpNode) (beats : State) (office : Option Presidency) → prepares_again_by (beating x beats) office ≡ prepares_again_by x office
-same_prepares x beats None = refl
-same_prepares x beats (Some p) = ap (λ os. if goes_again p.proposals then os else []) (same_prepares_of x beats p.proposals.proposed (record_of x).entries.pending)
+same_prepares_by : (x : UpNode) (beats : State) (office : Option Presidency) → prepares_again_by (beating x beats) office ≡ prepares_again_by x office
+same_prepares_by x beats None = refl
+same_prepares_by x beats (Some p) = ap (λ os. if goes_again p.proposals then os else []) (same_prepares_of x beats p.proposals.proposed (record_of x).entries.pending)
+
+pub same_prepares : (x : UpNode) (beats : State) → prepares_again (beating x beats) ≡ prepares_again x
+same_prepares x beats = same_prepares_by x beats x.presidency
 
 pub told_at_tick : (c : Cluster) (me : ℕ) (x : UpNode) (beats : State) (given first second third : List Output) → beats ≡ ticked x.beats c.configured
     → first ≡ given ++ Tells (trace.Node me note.Ticked) ∷ [] → second ≡ first ++ heartbeats_to (record x { beats = beats }) (receivers_of beats c.configured)
-    → third ≡ second ++ request_again (record x { beats = beats }) ++ prepares_again (record x { beats = beats })
+    → third ≡ second ++ request_again (record x { beats = beats })
     → third ≡ (given ++ Tells (trace.Node me note.Ticked) ∷ []) ++ ticked_output c x (later c x)
 told_at_tick c me x beats given first second third is said beat again =
     let later_beats : State = ticked x.beats c.configured in
@@ -56,10 +59,6 @@ told_at_tick c me x beats given first second third is said beat again =
     beat ∙ ap (λ b. first ++ heartbeats_to (beating x b) (receivers_of b c.configured)) is ∙ ap (λ os. os ++ heartbeats_to (beating x later_beats) (receivers_of later_beats c.configured)) said
     ∙ ap (λ os. (given ++ Tells (trace.Node me note.Ticked) ∷ []) ++ os) (same_beats c x (receivers_of later_beats c.configured)) in
     let requests : request_again (beating x beats) ≡ request_again x = same_requests x beats x.presidency in
-    let prepares : prepares_again (beating x beats) ≡ prepares_again x = same_prepares x beats x.presidency in
     let head : List Output = given ++ Tells (trace.Node me note.Ticked) ∷ [] in
     let hearts : List Output = heartbeats_to (later c x) (receivers_of later_beats c.configured) in
-    again ∙ ap (λ os. second ++ os ++ prepares_again (beating x beats)) requests ∙ ap (λ os. second ++ request_again x ++ os) prepares
-    ∙ ap (λ os. os ++ request_again x ++ prepares_again x) sent
-    ∙ ap (λ os. os ++ prepares_again x) (append_assoc head hearts (request_again x))
-    ∙ append_assoc head (hearts ++ request_again x) (prepares_again x)
+    again ∙ ap (λ os. second ++ os) requests ∙ ap (λ os. os ++ request_again x) sent ∙ append_assoc head hearts (request_again x)

@@ -8,11 +8,13 @@ ghost use Rattle.node_model.specs.Seats.{up_with};
 
 use cl_base::NodeId;
 use cmm_member::DownNode;
+use config_cache::ConfigCache;
 use device_queue::DeviceQueue;
 use heartbeats::Heartbeats;
 use node_model::{Cluster, Output, Seat, Slot, Stop, UpNode, cause_of, tell_of};
 use record_disk::{DiskError, RecordDisk};
 use request_queue::RequestQueue;
+use rgm_member::Worker;
 use status_report::NodeEntry;
 use std::alloc::Global;
 
@@ -41,6 +43,9 @@ pub fn boot<K: RecordDisk>(
                 tasks: DeviceQueue::new(alloc),
                 attempt: Slot::empty(),
                 requests: RequestQueue::new(alloc),
+                worker: Worker::new(alloc, me),
+                second: 0,
+                made: ConfigCache::new(),
                 presidency: None,
             })
         }

@@ -5,14 +5,15 @@ ghost use Rattle.status_report.specs.declared.node_entry.NodeEntry.TheVariants a
 ghost use Rattle.node_model.specs.declared.output.Output.TheVariants.{Tells};
 ghost use Rattle.node_model.specs.Inputs.{IsAnswered};
 ghost use Rattle.node_model.specs.Plans.{Follows};
-ghost use Rattle.node.specs.Due.{IsDueAt, MayBegin, finished, rest_of, untouched};
+ghost use Rattle.node.specs.Due.{IsDueAt, MayFollow, finished, rest_of, untouched};
 
 use crate::due::Due;
+use crate::govern::govern;
 use crate::packet::take_packet;
-use crate::tick::go_on_with;
-use cl_base::NodeId;
-use node_attempts::lead;
+use crate::tick::tick_attempt;
+use cl_base::{NodeId, Outcome};
 use node_devices::{before_command, take_device_answer, take_write_answer};
+use node_groups::take_report;
 use node_model::{Cluster, Input, Node, Output, Stop, UpNode};
 use node_updates::take_command;
 use record_disk::RecordDisk;
@@ -26,6 +27,7 @@ pub(crate) fn finish<K: RecordDisk>(
     alloc: Global,
     cluster: &Cluster,
     me: NodeId,
+    outcome: Outcome,
     disk: &mut K,
     node: &mut Node,
     input: &Input,
@@ -34,12 +36,12 @@ pub(crate) fn finish<K: RecordDisk>(
 ) -> Result<(), AllocError>
     requires answer { IsAnswered input.now }
     requires due { IsDueAt me node.old due }
-    ensures { OnOk result (record { after = node.new; given = out.new.items; disk = disk.new } ≡ finished K.saving cluster.now me node.old input.now due out.old.items disk.old) }
+    ensures { OnOk result (record { after = node.new; given = out.new.items; disk = disk.new } ≡ finished K.saving cluster.now me outcome node.old input.now due out.old.items disk.old) }
 {
     let Node::Up(up) = mem::replace(node, Node::Down) else {
         return Ok(());
     };
-    match do_rest(alloc, cluster, me, disk, up, input, due, out) {
+    match do_rest(alloc, cluster, me, outcome, disk, up, input, due, out) {
         Ok(up) => {
             *node = Node::Up(up);
             Ok(())
@@ -65,6 +67,7 @@ fn do_rest<K: RecordDisk>(
     alloc: Global,
     cluster: &Cluster,
     me: NodeId,
+    outcome: Outcome,
     disk: &mut K,
     up: UpNode,
     input: &Input,
@@ -72,14 +75,13 @@ fn do_rest<K: RecordDisk>(
     out: &mut Vec<Output>,
 ) -> Result<UpNode, Stop>
     requires answer { IsAnswered input.now }
-    requires due { MayBegin me up due }
-    ensures { Follows K.saving (rest_of cluster.now me up input.now due) out.old.items disk.old result out.new.items disk.new }
+    requires due { MayFollow me up due }
+    ensures { Follows K.saving (rest_of cluster.now me outcome up input.now due) out.old.items disk.old result out.new.items disk.new }
 {
     match due {
-        Due::Nothing => Ok(up),
-        Due::Attempt => go_on_with(alloc, cluster, me, disk, up, out),
-        Due::Lead(members) => lead(alloc, cluster, me, disk, up, members, out),
-        Due::All => step_up(alloc, cluster, me, disk, up, input, out),
+        Due::Attempt(due) => tick_attempt(alloc, cluster, me, disk, up, due, out),
+        Due::Govern(again) => govern(alloc, cluster, me, outcome, disk, up, again, out),
+        Due::All => step_up(alloc, cluster, me, outcome, disk, up, input, out),
     }
 }
 
@@ -88,19 +90,20 @@ fn step_up<K: RecordDisk>(
     alloc: Global,
     cluster: &Cluster,
     me: NodeId,
+    outcome: Outcome,
     disk: &mut K,
     up: UpNode,
     input: &Input,
     out: &mut Vec<Output>,
 ) -> Result<UpNode, Stop>
     requires answer { IsAnswered input.now }
-    ensures { Follows K.saving (untouched cluster.now me up input.now) out.old.items disk.old result out.new.items disk.new }
+    ensures { Follows K.saving (untouched cluster.now me outcome up input.now) out.old.items disk.old result out.new.items disk.new }
 {
     match input {
         Input::Boot | Input::Tick => Ok(up),
         Input::Crash => Err(Stop::Down(DownCause::Crash)),
         Input::Packet { from, message } => {
-            take_packet(alloc, cluster, me, disk, up, *from, message, out)
+            take_packet(alloc, cluster, me, outcome, disk, up, *from, message, out)
         }
         Input::CommandDue => before_command(alloc, me, disk, up, out),
         Input::Answered(answer) => take_device_answer(alloc, cluster, me, disk, up, *answer, out),
@@ -110,5 +113,8 @@ fn step_up<K: RecordDisk>(
             answer,
         } => take_write_answer(me, up, *device, *value, *answer, out),
         Input::Commanded(words) => take_command(alloc, cluster, me, disk, up, words.items(), out),
+        Input::Reported { resource, good } => {
+            take_report(alloc, cluster, me, disk, up, resource, *good, out)
+        }
     }
 }

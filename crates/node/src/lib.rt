@@ -4,10 +4,13 @@
 mod boot;
 mod due;
 mod finish;
+mod govern;
+mod handing;
 mod packet;
 mod stepping;
 mod tick;
 
 pub use node_devices::may_write;
+pub use node_groups::call_due;
 pub use node_model::Input;
 pub use stepping::step;

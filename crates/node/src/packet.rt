@@ -1,18 +1,22 @@
 // A packet that is delivered.
-ghost use Rattle.std.specs.Prelude.{◌≡◌, false, List, IfOk, OnOk, Ok};
+ghost use Rattle.std.specs.Prelude.{◌≡◌, true, false, List, IfOk, OnOk, Ok};
 ghost use Rattle.cmm_attempt.specs.Attempts.{HasFewKeys};
 ghost use Rattle.node_model.specs.Members.{beat_in, hearing, is_foreign, on_answer, on_body, on_excluded, on_heartbeat, on_packet};
 ghost use Rattle.node_model.specs.Plans.{Follows, Gives};
 ghost use Rattle.node.specs.Due.{HearsUp};
-ghost use Rattle.node.specs.Updates.{on_update};
+ghost use Rattle.node.specs.Handing.{Excludes};
+ghost use Rattle.node.specs.Updates.{on_update, orders_name};
 ghost use Rattle.node_members.specs.Strangers.{names_strangers};
 
-use cl_base::{DevId, Epoch, NodeId, NodeSet, Panic};
+use crate::handing::{hand_back, hand_over};
+use cl_base::{DevId, Epoch, NodeId, NodeSet, Outcome, Panic};
 use heartbeats::Beat;
 use node_attempts::go_on;
+use node_groups::{take_done, take_order};
 use node_members::{Request, collect, is_foreign, seize, take_install, take_start};
-use node_model::{Cluster, Output, Stop, UpNode};
-use node_updates::{commit, prepare, take_prepared, take_reply, take_request};
+use node_model::{Cluster, Output, Seat, Stop, UpNode};
+use node_presidents::take_request;
+use node_updates::{commit, prepare, take_prepared, take_reply};
 use record_disk::RecordDisk;
 use seize::SeizeKind;
 use status_report::DownCause;
@@ -20,24 +24,28 @@ use std::alloc::{AllocError, Global};
 use wire::{Body, Message};
 
 /// The node is delivered a message. A foreign one changes nothing.
-#[tactic(auto, using(crate::proofs::Known::known))]
+#[tactic(auto, using(crate::proofs::Known::known, crate::proofs::Known::named))]
 pub fn take_packet<K: RecordDisk>(
     alloc: Global,
     cluster: &Cluster,
     me: NodeId,
+    outcome: Outcome,
     disk: &mut K,
     mut up: UpNode,
     from: NodeId,
     m: &Message,
     out: &mut Vec<Output>,
 ) -> Result<UpNode, Stop>
-    ensures follows { Follows K.saving (on_packet cluster.now me up from m.now) out.old.items disk.old result out.new.items disk.new }
+    ensures follows { Follows K.saving (on_packet cluster.now me outcome up from m.now) out.old.items disk.old result out.new.items disk.new }
 {
-    if is_foreign(alloc, cluster, me, &up, &m.body)? {
-        return Ok(up);
+    match is_foreign(alloc, cluster, me, &mut up, &m.body) {
+        Ok(true) => Ok(up),
+        Ok(false) => {
+            hear(&mut up, from, &m.body);
+            take_message(alloc, cluster, me, outcome, disk, up, from, m, out)
+        }
+        Err(_) => hand_back(up, Err(AllocError)),
     }
-    hear(&mut up, from, &m.body);
-    take_message(alloc, cluster, me, disk, up, from, m, out)
 }
 
 #[tactic(auto, using(node_model::proofs::Plans::gives_follows))]
@@ -45,6 +53,7 @@ fn take_message<K: RecordDisk>(
     alloc: Global,
     cluster: &Cluster,
     me: NodeId,
+    outcome: Outcome,
     disk: &mut K,
     up: UpNode,
     from: NodeId,
@@ -52,17 +61,15 @@ fn take_message<K: RecordDisk>(
     out: &mut Vec<Output>,
 ) -> Result<UpNode, Stop>
     requires own { names_strangers cluster.now me m.now.body ≡ false }
-    ensures { Follows K.saving (on_body cluster.now me up from m.now m.now.body) out.old.items disk.old result out.new.items disk.new }
+    requires named { orders_name m.now.body ≡ true }
+    ensures { Follows K.saving (on_body cluster.now me outcome up from m.now m.now.body) out.old.items disk.old result out.new.items disk.new }
 {
     match &m.body {
         Body::Heartbeat {
             session,
             member,
             ..
-        } => {
-            answer_heartbeat(me, &up, from, *session, *member, out)?;
-            Ok(up)
-        }
+        } => { take_heartbeat(me, up, from, *session, *member, out) }
         Body::Collect { epoch, .. } => collect(alloc, me, disk, up, from, *epoch, out),
         Body::Promise { .. } | Body::Nack { .. } | Body::Seized { .. } | Body::Ready { .. } => {
             take_answer(alloc, cluster, me, disk, up, from, m, out)
@@ -92,22 +99,27 @@ fn take_message<K: RecordDisk>(
         | Body::Commit { .. }
         | Body::Answer { .. }
         | Body::Order(_)
-        | Body::Done { .. } => take_update(alloc, cluster, me, disk, up, from, &m.body, out),
+        | Body::Done { .. } => take_update(
+            alloc, cluster, me, outcome, disk, up, from, &m.body, out,
+        ),
     }
 }
 
-/// What belongs to updates of the configuration.
+#[tactic(auto, using(node_model::proofs::Plans::gives_follows))]
+/// What belongs to updates of the configuration and to orders.
 fn take_update<K: RecordDisk>(
     alloc: Global,
     cluster: &Cluster,
     me: NodeId,
+    outcome: Outcome,
     disk: &mut K,
     up: UpNode,
     from: NodeId,
     body: &Body,
     out: &mut Vec<Output>,
 ) -> Result<UpNode, Stop>
-    ensures { Follows K.saving (on_update cluster.now me up from body.now) out.old.items disk.old result out.new.items disk.new }
+    requires named { orders_name body.now ≡ true }
+    ensures { Follows K.saving (on_update cluster.now me outcome up from body.now) out.old.items disk.old result out.new.items disk.new }
 {
     match body {
         Body::Request {
@@ -118,7 +130,9 @@ fn take_update<K: RecordDisk>(
             alloc, cluster, me, disk, up, from, *epoch, *number, text, out,
         ),
         Body::Prepare { epoch, place, text } => {
-            prepare(alloc, me, disk, up, from, *epoch, *place, text, out)
+            prepare(
+                alloc, cluster, me, disk, up, from, *epoch, *place, text, out,
+            )
         }
         Body::Prepared { epoch, place } => {
             take_prepared(alloc, cluster, me, disk, up, from, *epoch, *place, out)
@@ -138,6 +152,14 @@ fn take_update<K: RecordDisk>(
             *number,
             text.items(),
             out,
+        ),
+        Body::Order(order) => take_order(alloc, cluster, me, up, from, order, outcome, out),
+        Body::Done {
+            epoch,
+            number,
+            outcome,
+        } => take_done(
+            alloc, cluster, me, disk, up, from, *epoch, *number, *outcome, out,
         ),
         _ => Ok(up),
     }
@@ -171,8 +193,10 @@ fn take_answer<K: RecordDisk>(
     let Some(mut attempt) = up.attempt.take() else {
         return Ok(up);
     };
-    let steps = attempt.take(from, m)?;
-    go_on(alloc, cluster, me, disk, up, attempt, steps, out)
+    match attempt.take(from, m) {
+        Ok(steps) => go_on(alloc, cluster, me, disk, up, attempt, steps, out),
+        Err(_) => hand_back(up, Err(AllocError)),
+    }
 }
 
 /// The sender is heard, and the epochs that its message shows are seen.
@@ -206,6 +230,22 @@ pub(crate) fn hear_heartbeat(
     Ok(true)
 }
 
+#[tactic(auto, using(crate::proofs::Handed::kept_gives))]
+/// A heartbeat is answered.
+fn take_heartbeat(
+    me: NodeId,
+    up: UpNode,
+    from: NodeId,
+    session: Epoch,
+    member: bool,
+    out: &mut Vec<Output>,
+) -> Result<UpNode, Stop>
+    ensures { Gives (on_heartbeat me up from session member) out.old.items result out.new.items }
+{
+    let done = answer_heartbeat(me, &up, from, session, member, out);
+    hand_back(up, done)
+}
+
 /// The president answers a member of its session that is not one yet by Start.
 fn answer_heartbeat(
     me: NodeId,
@@ -226,14 +266,23 @@ fn answer_heartbeat(
     Ok(())
 }
 
+#[tactic(auto, using(crate::proofs::Handed::excluded_gives))]
 /// The attempt of the node's session leaves it out.
 fn take_excluded(up: UpNode, epoch: Epoch, newest: Epoch) -> Result<UpNode, Stop>
     ensures { (given : List Output) → Gives (on_excluded up epoch newest) given result given }
 {
-    if epoch != Epoch::zero() && up.seat.session() == epoch {
+    let done = excluded(&up.seat, epoch, newest);
+    hand_over(up, done)
+}
+
+/// A node of this seat goes down where it is in the session.
+fn excluded(seat: &Seat, epoch: Epoch, newest: Epoch) -> Result<(), Stop>
+    ensures value { Excludes seat.now epoch newest result }
+{
+    if epoch != Epoch::zero() && seat.session() == epoch {
         return Err(Stop::Down(DownCause::Panic(Panic::Excluded(newest))));
     }
-    Ok(up)
+    Ok(())
 }
 
 fn beat_in(body: &Body) -> Option<Beat>

@@ -1,6 +1,7 @@
 // A tick of a node.
 ghost use Rattle.std.specs.Prelude.{◌≡◌, ◌<◌, ◌/◌, ◌^◌, ◌++◌, ◌∷◌, [], map, true, OnOk, IfOk, IfSome};
 ghost use Rattle.cl_base.specs.Sets.{has};
+ghost use Rattle.cl_base.specs.declared.method.Outcome.{Outcome};
 ghost use Rattle.status_report.specs.declared.entry.Entry.TheVariants as trace;
 ghost use Rattle.status_report.specs.declared.node_entry.NodeEntry.TheVariants as note;
 ghost use Rattle.node_model.specs.declared.input.Input.TheVariants.{Tick};
@@ -8,12 +9,13 @@ ghost use Rattle.node_model.specs.declared.output.Output.TheVariants.{Sends, Tel
 ghost use Rattle.node_model.specs.Plans.{Follows};
 ghost use Rattle.node_model.specs.Ticks.{attempt_ticked, heartbeat_of, heartbeats_to, members_to_form, later, membership_of, ticked_output};
 ghost use Rattle.heartbeats.specs.Views.{receivers_of};
-ghost use Rattle.node.specs.Due.{MayBegin, going_on_with, rest_of};
+ghost use Rattle.node.specs.Due.{MayBegin, MayFollow, attempt_rest, going_on_with, rest_of};
+ghost use Rattle.node.specs.Ticks.{left_of};
 
-use crate::due::Due;
+use crate::due::{AttemptDue, Due};
 use cl_base::{NodeId, NodeSet};
 use heartbeats::Membership;
-use node_attempts::go_on;
+use node_attempts::{go_on, lead};
 use node_model::{Cluster, Output, Seat, Stop, UpNode};
 use node_updates::tick_requests;
 use record_disk::RecordDisk;
@@ -21,8 +23,9 @@ use status_report::{Entry, NodeEntry};
 use std::alloc::{AllocError, Global};
 use wire::Body;
 
-/// The node's clock ticks: it takes its view anew, sends its heartbeats, and sends again what is not
-/// answered. What is then due is told.
+/// The node's clock ticks: it takes its view anew, sends its heartbeats, and sends its oldest request
+/// again, if that is due. What is then left to do is told.
+#[tactic(auto, using(crate::proofs::Again::told_at_tick, crate::proofs::Left::governs_rest, crate::proofs::Left::attempts_rest))]
 pub(crate) fn tick(
     alloc: Global,
     cluster: &Cluster,
@@ -31,8 +34,8 @@ pub(crate) fn tick(
     out: &mut Vec<Output>,
 ) -> Result<Due, AllocError>
     ensures told { OnOk result (out.new.items ≡ (out.old.items ++ Tells (trace.Node me note.Ticked) ∷ []) ++ ticked_output cluster.now up.old (later cluster.now up.old)) }
-    ensures rest { IfOk result (λ due. attempt_ticked cluster.now me (later cluster.now up.old) up.old.attempt ≡ rest_of cluster.now me up.new Tick due) }
-    ensures ready { IfOk result (λ due. MayBegin me up.new due) }
+    ensures rest { IfOk result (λ due. (outcome : Outcome) → left_of cluster.now me outcome up.old up.old.presidency ≡ rest_of cluster.now me outcome up.new Tick due) }
+    ensures ready { IfOk result (λ due. MayFollow me up.new due) }
 {
     let entry = Entry::Node {
         node: me,
@@ -41,8 +44,11 @@ pub(crate) fn tick(
     out.push(Output::Tells(entry))?;
     up.beats.tick(cluster.configured);
     send_heartbeats(alloc, cluster, up, out)?;
-    tick_requests(alloc, up, out)?;
-    Ok(due(cluster, me, up))
+    let again = tick_requests(alloc, up, out)?;
+    if up.presidency.is_some() {
+        return Ok(Due::Govern(again));
+    }
+    Ok(Due::Attempt(attempt_due(cluster, me, up)))
 }
 
 /// A heartbeat goes to every other configured node, ascending.
@@ -85,25 +91,45 @@ fn heartbeat(up: &UpNode) -> Body
     }
 }
 
-/// What is due after the heartbeats. Without an attempt the node waits, or begins one.
-fn due(cluster: &Cluster, me: NodeId, up: &mut UpNode) -> Due
-    ensures rest { attempt_ticked cluster.now me up.old up.old.attempt ≡ rest_of cluster.now me up.new Tick result }
+/// What is due of attempts. Without one the node waits, or begins one.
+pub(crate) fn attempt_due(cluster: &Cluster, me: NodeId, up: &mut UpNode) -> AttemptDue
+    ensures rest { attempt_ticked cluster.now me up.old up.old.attempt ≡ attempt_rest cluster.now me up.new result }
     ensures ready { MayBegin me up.new result }
 {
     if up.attempt.get().is_some() {
-        return Due::Attempt;
+        return AttemptDue::GoesOn;
     }
     if up.beats.waits() {
-        return Due::Nothing;
+        return AttemptDue::Nothing;
     }
     match members_to_form(cluster, me, up) {
-        Some(members) => Due::Lead(members),
-        None => Due::Nothing,
+        Some(members) => AttemptDue::Begins(members),
+        None => AttemptDue::Nothing,
+    }
+}
+
+/// What is due of attempts is done.
+pub(crate) fn tick_attempt<K: RecordDisk>(
+    alloc: Global,
+    cluster: &Cluster,
+    me: NodeId,
+    disk: &mut K,
+    up: UpNode,
+    due: AttemptDue,
+    out: &mut Vec<Output>,
+) -> Result<UpNode, Stop>
+    requires ready { MayBegin me up due }
+    ensures { Follows K.saving (attempt_rest cluster.now me up due) out.old.items disk.old result out.new.items disk.new }
+{
+    match due {
+        AttemptDue::Nothing => Ok(up),
+        AttemptDue::GoesOn => go_on_with(alloc, cluster, me, disk, up, out),
+        AttemptDue::Begins(members) => lead(alloc, cluster, me, disk, up, members, out),
     }
 }
 
 /// The attempt that is under way has a tick.
-pub(crate) fn go_on_with<K: RecordDisk>(
+fn go_on_with<K: RecordDisk>(
     alloc: Global,
     cluster: &Cluster,
     me: NodeId,

@@ -2,15 +2,22 @@
 ghost use Rattle.std.specs.Prelude.{◌≡◌, IfOk};
 ghost use Rattle.node_model.specs.Attempts.{shown_in};
 ghost use Rattle.node_model.specs.Seats.{state_of};
+ghost use Rattle.rgm_member.specs.Flags.{has_flag};
 
 use cl_base::{Bytes, Epoch};
 use node_model::Seat;
+use rgm_member::Worker;
 use std::alloc::{AllocError, Global};
 use wire::{Body, Texts};
 
-/// The node's record, as it is shown in a Promise of p.
-pub fn promise_body(alloc: Global, seat: &Seat, p: Epoch) -> Result<Body, AllocError>
-    ensures body { IfOk result (λ body. body ≡ shown_in (state_of seat.now).saved p) }
+/// The node's record, as it is shown in a Promise of p, and whether a resource has a flag there.
+pub fn promise_body(
+    alloc: Global,
+    seat: &Seat,
+    worker: &Worker,
+    p: Epoch,
+) -> Result<Body, AllocError>
+    ensures body { IfOk result (λ body. body ≡ shown_in (state_of seat.now).saved (has_flag worker.now) p) }
 {
     let entries = seat.entries();
     let committed = copy_texts(alloc, entries.committed())?;
@@ -23,7 +30,7 @@ pub fn promise_body(alloc: Global, seat: &Seat, p: Epoch) -> Result<Body, AllocE
         installed: seat.installed(),
         members: seat.members(),
         valid: seat.valid(),
-        flagged: false,
+        flagged: worker.has_flag(),
         committed,
         pending,
     })

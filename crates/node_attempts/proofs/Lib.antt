@@ -1,2 +1,4 @@
 pub mod BaseLines
+pub mod StartLemmas
+pub mod StartSteps
 pub mod StepLemmas

@@ -1,15 +1,18 @@
 -- The steps of an attempt, carried out one after another.
-use Rattle.std.proofs.Common.{◌≡◌, ℕ, refl, sym, subst, List, [], ◌∷◌, ◌++◌, Result, Ok, Err}
+use Rattle.std.proofs.Common.{◌≡◌, ℕ, refl, subst, true, if◌then◌else◌, List, [], ◌∷◌, ◌++◌, Result, Ok, Err}
+use Rattle.cmm_attempt.specs.Calls.{starts_in}
 use Rattle.cmm_attempt.specs.declared.step.Step.{Step}
 use Rattle.cmm_member.specs.Records.{NodeRecord}
 use Rattle.node_model.specs.declared.cluster.Cluster.{Cluster}
 use Rattle.node_model.specs.declared.node.UpNode.{UpNode}
 use Rattle.node_model.specs.declared.output.Output.{Output}
 use Rattle.node_model.specs.declared.stop.Stop.{Stop}
-use Rattle.node_model.specs.Attempts.{performing, step_plan}
-use Rattle.node_model.specs.Plans.{Follows, IsDone}
+use Rattle.node_model.specs.Attempts.{performed_all, performing, step_plan}
+use Rattle.node_model.specs.Deciding.{deciding}
+use Rattle.node_model.specs.Plans.{Follows, Gives, IsDone}
+use Rattle.node_model.specs.Plans.Plan.{Stays}
 use Rattle.record_disk.specs.Savings.{Saving}
-use Rattle.node_model.proofs.Plans.{done_then, stopped_then, follows_as}
+use Rattle.node_model.proofs.Plans.{done_then, gives_follows, stopped_then, follows_as}
 
 -- some steps are done, and the others are followed
 goes_on : {K : Type 0} → (saving : K → NodeRecord → Saving K) (c : Cluster) (me : ℕ) (x : UpNode) (first rest : List Step) (given mid after : List Output) (disk between left : K) (up : UpNode) (r : Result UpNode Stop)
@@ -35,6 +38,13 @@ pub step_stopped : {K : Type 0} → (saving : K → NodeRecord → Saving K) (c 
 step_stopped saving c me x first s rest all given mid after disk between left up stop whole done stopped =
     subst (λ (steps : List Step). Follows saving (performing c me x steps) given disk (Err stop) after left) whole (goes_on saving c me x first (s ∷ rest) given mid after disk between left up (Err stop) done
     (stopped_then saving (step_plan c me up s) (λ y. performing c me y rest) mid after between left stop stopped))
+
+-- the steps are done, the membership has started in one of them, and the president decides
+pub decided_then : {K : Type 0} → (saving : K → NodeRecord → Saving K) (c : Cluster) (me : ℕ) (x : UpNode) (steps : List Step) (given mid after : List Output) (disk left : K) (up new : UpNode)
+    → starts_in steps ≡ true → IsDone saving (performing c me x steps) given disk up mid left → Gives (deciding c me up) mid (Ok new) after → IsDone saving (performed_all c me x steps) given disk new after left
+decided_then saving c me x steps given mid after disk left up new starts done gives =
+    done_then saving (performing c me x steps) (λ y. if starts_in steps then deciding c me y else Stays y) given mid after disk left left up (Ok new) done
+    (rw starts (gives_follows saving (deciding c me up) mid after (Ok new) left gives))
 
 -- one more is taken off the list
 pub one_more : {A : Type 0} (first rest left all : List A) (s : A) → first ++ rest ≡ all → rest ≡ s ∷ left → first ++ s ∷ left ≡ all

@@ -3,6 +3,7 @@
 #![tactic(auto)]
 
 mod ending;
+mod handing;
 mod installing;
 mod leading;
 mod performing;

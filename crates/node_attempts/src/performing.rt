@@ -1,17 +1,23 @@
 // The steps that an attempt gives are carried out, one after another.
-ghost use Rattle.std.specs.Prelude.{◌≡◌, IfOk, OnOk};
+ghost use Rattle.std.specs.Prelude.{◌≡◌, IfErr, IfOk, OnOk};
 ghost use Rattle.device_queue.specs.Queue.{after_seize};
 ghost use Rattle.cmm_attempt.specs.Attempts.{with_steps};
-ghost use Rattle.node_model.specs.Attempts.{begins_install, going_on, own_ready, performed, performing, seizing_here, step_plan};
+ghost use Rattle.cmm_attempt.specs.Calls.{starts_in};
+ghost use Rattle.node_model.specs.declared.stop.Stop.TheVariants.{NoMemory};
+ghost use Rattle.node_model.specs.Attempts.{begins_install, going_on, own_ready, performed, performed_all, performing, seizing_here, step_plan, under_way};
 ghost use Rattle.node_model.specs.Plans.{Follows};
+ghost use Rattle.node_attempts.specs.StartSteps.{is_start};
+ghost use Rattle.node_attempts.specs.Told.{readied, readied_steps, voted};
 
 use crate::ending::end_attempt;
+use crate::handing::hand_over;
 use crate::installing::install_here;
 use crate::starting::start_here;
 use crate::voting::newest_votes;
 use cl_base::{DevId, NodeId};
 use cmm_attempt::{Attempt, Step, Steps};
 use device_queue::DeviceQueue;
+use node_decisions::decide;
 use node_model::{Cluster, Output, Stop, UpNode, send};
 use record_disk::RecordDisk;
 use seize::{Seize, SeizeKind};
@@ -19,26 +25,45 @@ use std::alloc::{AllocError, Global};
 
 /// The attempt has taken a call, which gave these steps: they are carried out. Where the votes under
 /// the newest record are wanted, the attempt gets them and goes on.
+#[tactic(auto, using(crate::proofs::StartLemmas::goes, crate::proofs::StartLemmas::no_memory))]
 pub fn go_on<K: RecordDisk>(
     alloc: Global,
     cluster: &Cluster,
     me: NodeId,
     disk: &mut K,
     mut up: UpNode,
-    mut attempt: Attempt,
+    attempt: Attempt,
     steps: Steps,
     out: &mut Vec<Output>,
 ) -> Result<UpNode, Stop>
     ensures follows { Follows K.saving (going_on cluster.now me up (with_steps attempt steps)) out.old.items disk.old result out.new.items disk.new }
 {
+    match with_votes(alloc, cluster, &mut up, attempt, steps) {
+        Ok(steps) => perform(alloc, cluster, me, disk, up, steps, out),
+        Err(stop) => hand_over(up, Err(stop)),
+    }
+}
+
+/// The attempt is under way, with the votes where they are wanted: these are the steps to carry out.
+fn with_votes(
+    alloc: Global,
+    cluster: &Cluster,
+    up: &mut UpNode,
+    mut attempt: Attempt,
+    steps: Steps,
+) -> Result<Steps, Stop>
+    ensures after { OnOk result (up.new ≡ under_way up.old (voted cluster.now (with_steps attempt steps)).after) }
+    ensures steps { IfOk result (λ left. left ≡ (voted cluster.now (with_steps attempt steps)).steps) }
+    ensures only { IfErr result (λ e. e ≡ NoMemory) }
+{
     if !attempt.needs_votes() {
         up.attempt.put(alloc, attempt)?;
-        return perform(alloc, cluster, me, disk, up, steps, out);
+        return Ok(steps);
     }
     let (committed, pending) = newest_votes(alloc, cluster, &attempt)?;
     let steps = attempt.with_votes(committed, pending)?;
     up.attempt.put(alloc, attempt)?;
-    perform(alloc, cluster, me, disk, up, steps, out)
+    Ok(steps)
 }
 
 /// The steps are carried out, and the coordinator's own part of an install where nothing is to be joined.
@@ -55,7 +80,7 @@ fn perform<K: RecordDisk>(
     ensures { Follows K.saving (performed cluster.now me up steps) out.old.items disk.old result out.new.items disk.new }
 {
     let installs = begins_install(steps.items());
-    let up = do_steps(alloc, cluster, me, disk, up, steps, out)?;
+    let up = perform_all(alloc, cluster, me, disk, up, steps, out)?;
     if installs {
         own_ready(alloc, cluster, me, disk, up, out)
     } else {
@@ -84,12 +109,61 @@ pub fn own_ready<K: RecordDisk>(
     if up.tasks.joins() {
         return Ok(up);
     }
+    match own_turn(alloc, &mut up) {
+        Ok(Some(steps)) => perform_all(alloc, cluster, me, disk, up, steps, out),
+        Ok(None) => Ok(up),
+        Err(_) => hand_over(up, Err(Stop::NoMemory)),
+    }
+}
+
+/// The steps of the node's attempt, if it has one, as its own part is done.
+fn own_turn(alloc: Global, up: &mut UpNode) -> Result<Option<Steps>, AllocError>
+    ensures after { OnOk result (up.new ≡ readied up.old up.old.attempt) }
+    ensures steps { IfOk result (λ steps. steps ≡ readied_steps up.old.attempt) }
+{
     let Some(mut attempt) = up.attempt.take() else {
-        return Ok(up);
+        return Ok(None);
     };
     let steps = attempt.own_ready()?;
     up.attempt.put(alloc, attempt)?;
-    do_steps(alloc, cluster, me, disk, up, steps, out)
+    Ok(Some(steps))
+}
+
+/// The steps are carried out. Where the membership has started, the president decides.
+#[tactic(auto, using(crate::proofs::StepLemmas::decided_then, node_model::proofs::Plans::done_and_stays, node_model::proofs::Plans::stopped_then))]
+fn perform_all<K: RecordDisk>(
+    alloc: Global,
+    cluster: &Cluster,
+    me: NodeId,
+    disk: &mut K,
+    up: UpNode,
+    steps: Steps,
+    out: &mut Vec<Output>,
+) -> Result<UpNode, Stop>
+    ensures { Follows K.saving (performed_all cluster.now me up steps) out.old.items disk.old result out.new.items disk.new }
+{
+    let starts = starts_in(steps.items());
+    let mut up = do_steps(alloc, cluster, me, disk, up, steps, out)?;
+    if !starts {
+        return Ok(up);
+    }
+    match decide(alloc, cluster, me, &mut up, out) {
+        Ok(()) => Ok(up),
+        Err(_) => hand_over(up, Err(Stop::NoMemory)),
+    }
+}
+
+/// Whether the membership starts in one of these steps.
+fn starts_in(steps: &[Step]) -> bool
+    ensures { result ≡ starts_in steps.now }
+{
+    steps.iter().any(|step| is_start(step))
+}
+
+fn is_start(step: &Step) -> bool
+    ensures { result ≡ is_start step.now }
+{
+    matches!(step, Step::StartHere)
 }
 
 fn do_steps<K: RecordDisk>(
@@ -115,7 +189,7 @@ fn do_step<K: RecordDisk>(
     cluster: &Cluster,
     me: NodeId,
     disk: &mut K,
-    up: UpNode,
+    mut up: UpNode,
     step: Step,
     out: &mut Vec<Output>,
 ) -> Result<UpNode, Stop>
@@ -123,14 +197,20 @@ fn do_step<K: RecordDisk>(
 {
     match step {
         Step::Send { to, message } => {
-            send(out, to, message.body)?;
-            Ok(up)
+            let sent = send(out, to, message.body);
+            hand_over(up, sent)
         }
-        Step::SeizeHere { dev, kind } => Ok(seize_here(cluster, me, up, dev, kind)?),
+        Step::SeizeHere { dev, kind } => match seize_here(cluster, me, &mut up, dev, kind) {
+            Ok(()) => Ok(up),
+            Err(_) => hand_over(up, Err(Stop::NoMemory)),
+        },
         Step::NeedVotes { .. } => Ok(up),
         Step::InstallHere(i) => install_here(alloc, cluster, me, disk, up, i, out),
-        Step::StartHere => start_here(alloc, me, disk, up, out),
-        Step::Ended(end) => end_attempt(me, up, end, out),
+        Step::StartHere => start_here(alloc, cluster, me, disk, up, out),
+        Step::Ended(end) => {
+            let told = end_attempt(me, &mut up, end, out);
+            hand_over(up, told)
+        }
     }
 }
 
@@ -138,14 +218,14 @@ fn do_step<K: RecordDisk>(
 fn seize_here(
     cluster: &Cluster,
     me: NodeId,
-    mut up: UpNode,
+    up: &mut UpNode,
     dev: DevId,
     kind: SeizeKind,
-) -> Result<UpNode, AllocError>
-    ensures { IfOk result (λ after. after ≡ seizing_here cluster.now me up dev kind up.attempt) }
+) -> Result<(), AllocError>
+    ensures { OnOk result (up.new ≡ seizing_here cluster.now me up.old dev kind up.old.attempt) }
 {
     let Some(attempt) = up.attempt.get() else {
-        return Ok(up);
+        return Ok(());
     };
     let (epoch, members) = (attempt.epoch(), attempt.members());
     if members.has(me) {
@@ -153,7 +233,7 @@ fn seize_here(
         let seizing = Seize::begin(kind, epoch, members, me, cluster.id, valid);
         queue_seizing(&mut up.tasks, dev, seizing)?;
     }
-    Ok(up)
+    Ok(())
 }
 
 /// The queue has a seizing of the device after it: the one that it had, or this one.

@@ -10,7 +10,7 @@ use Rattle.cmm_attempt.specs.declared.step.AttemptEnd.{AttemptEnd}
 use Rattle.cmm_attempt.specs.declared.step.Step.{Step}
 use Rattle.cmm_attempt.specs.declared.step.Step.TheVariants as step
 use Rattle.cmm_attempt.specs.Attempts.{AttemptState, Turn, beginning, newest_installed, own_readying}
-use Rattle.cmm_attempt.specs.Calls.{Own_ready, With_votes, turn}
+use Rattle.cmm_attempt.specs.Calls.{Own_ready, With_votes, starts_in, turn}
 use Rattle.cmm_attempt.proofs.Basics.{false_true, if_either}
 use Rattle.attempt_laws.proofs.Walk.{if_with}
 use Rattle.device_queue.specs.Queue.{joins}
@@ -25,13 +25,17 @@ use Rattle.node_model.specs.declared.seat.Seat.{Seat}
 use Rattle.node_model.specs.declared.seat.Seat.TheVariants.{Forming, Member}
 use Rattle.node_model.specs.Attempts as attempts
 use Rattle.node_model.specs.Attempts.{begins_install, installing, is_choosing, left_out_by, own_promise, presiding, resting, start_lines, starting_as, under_way, votes_in}
+use Rattle.node_model.specs.Configurations.{in_force}
+use Rattle.node_model.specs.Deciding as deciding
 use Rattle.node_model.specs.Entries.{answering, telling_of, unknown_lines}
+use Rattle.node_model.specs.Plans.{Plan}
 use Rattle.node_model.specs.Plans.Plan.{Stays, Falls}
 use Rattle.node_model.specs.Seats.{promised_of, promising}
 use Rattle.status_report.specs.declared.node_entry.NodeEntry.TheVariants as note
 use Rattle.node_bounds.specs.Bounded.{AttemptIsBounded, OfficeIsBounded, UpIsBounded}
 use Rattle.node_bounds.proofs.Calls.{IsBrief, first_is_brief, turn_is_brief}
-use Rattle.node_bounds.proofs.Counts.{base_quiet, unknown_quiet}
+use Rattle.node_bounds.proofs.Counts.{adopted_quiet, base_quiet, unknown_quiet}
+use Rattle.node_bounds.proofs.Deciding.{decides}
 use Rattle.node_bounds.proofs.Plans.{Costs, answers, costs_less, either_costs, falls, keeps, stays, tells, then_costs}
 
 -- How it ended: one that is left out is told so.
@@ -63,23 +67,25 @@ installs_here c n x i (Forming s) h =
     either_costs (attempts.installs_now s i) (attempts.installed_so n y i.epoch (Stays y)) (Stays x) 1
     (keeps n y (telling_of n (note.Installed i.epoch) (Stays y)) 1 (tells _ (Stays y) 1 refl (stays y 1 k))) (stays x 1 h)
 
-presides : (a : AttemptState) → OfficeIsBounded (presiding a)
-presides a = (tt, none_wait)
+presides : (c : Cluster) (n : ℕ) (x : UpNode) (a : AttemptState) → OfficeIsBounded (presiding c n x a)
+presides c n x a = (tt, none_wait)
 
-starts_with : (n : ℕ) (x : UpNode) (a : AttemptState) (seat : Seat) → UpIsBounded x → Costs 1 (attempts.starting_with n x a seat)
-starts_with n x a (Member s) h = stays x 1 h
-starts_with n x a (Forming s) h =
-    let y : UpNode = starting_as x a s in
-    let k : UpIsBounded y = record { own = tt; few = h.few; presides = presides a } in
-    let member : Costs 1 (telling_of n (note.Member a.plan.epoch) (Stays y)) = tells _ (Stays y) 1 refl (stays y 1 k) in
-    let lines : Costs 1 (start_lines a s (telling_of n (note.Member a.plan.epoch) (Stays y))) =
-    tells _ _ 1 refl (tells _ (telling_of n (note.Member a.plan.epoch) (Stays y)) 1 (base_quiet a.plan.epoch 0 (all_committed s.saved.entries).committed) member) in
-    either_costs (attempts.starts_now s a.plan.epoch) (attempts.keeping_if (is_some s.saved.entries.pending) n y (start_lines a s (telling_of n (note.Member a.plan.epoch) (Stays y)))) (Stays x) 1
-    (either_costs (is_some s.saved.entries.pending) _ _ 1 (keeps n y (start_lines a s (telling_of n (note.Member a.plan.epoch) (Stays y))) 1 lines) lines) (stays x 1 h)
+starts_with : (c : Cluster) (n : ℕ) (x : UpNode) (a : AttemptState) (seat : Seat) → UpIsBounded x → Costs 1 (attempts.starting_with c n x a seat)
+starts_with c n x a (Member s) h = stays x 1 h
+starts_with c n x a (Forming s) h =
+    let y : UpNode = starting_as c n x a s in
+    let k : UpIsBounded y = record { own = tt; few = h.few; presides = presides c n x a } in
+    let last : Plan = telling_of n (note.Member a.plan.epoch) (Stays y) in
+    let member : Costs 1 last = tells _ (Stays y) 1 refl (stays y 1 k) in
+    let lines : Costs 1 (start_lines c a s y last) =
+    tells _ _ 1 refl
+    (tells _ _ 1 (base_quiet a.plan.epoch 0 (all_committed s.saved.entries).committed) (tells _ last 1 (adopted_quiet a.plan.epoch (in_force c y) y.presidency) member)) in
+    either_costs (attempts.starts_now s a.plan.epoch) (attempts.started_so c n a s y) (Stays x) 1
+    (either_costs (is_some s.saved.entries.pending) _ _ 1 (keeps n y (start_lines c a s y last) 1 lines) lines) (stays x 1 h)
 
-starts_here : (n : ℕ) (x : UpNode) (o : Option AttemptState) → UpIsBounded x → Costs 1 (attempts.starting_here n x o)
-starts_here n x None h = stays x 1 h
-starts_here n x (Some a) h = starts_with n x a x.seat h
+starts_here : (c : Cluster) (n : ℕ) (x : UpNode) (o : Option AttemptState) → UpIsBounded x → Costs 1 (attempts.starting_here c n x o)
+starts_here c n x None h = stays x 1 h
+starts_here c n x (Some a) h = starts_with c n x a x.seat h
 
 -- Step by step.
 
@@ -88,7 +94,7 @@ does_step c n x (step.Send to m) h = answers to m.body x 1 (omega arith) h
 does_step c n x (step.SeizeHere d kind) h = stays _ 1 (seizes_here c n x d kind x.attempt h)
 does_step c n x (step.NeedVotes m) h = stays x 1 h
 does_step c n x (step.InstallHere i) h = installs_here c n x i x.seat h
-does_step c n x step.StartHere h = starts_here n x x.attempt h
+does_step c n x step.StartHere h = starts_here c n x x.attempt h
 does_step c n x (step.Ended e) h = ends n x e x.attempt h
 
 does_steps : (c : Cluster) (n : ℕ) (x : UpNode) (steps : List Step) → UpIsBounded x → Costs (length steps) (attempts.performing c n x steps)
@@ -100,22 +106,24 @@ does_steps c n x (s ∷ steps) h =
 with_attempt : (x : UpNode) (a : AttemptState) → AttemptIsBounded a → UpIsBounded x → UpIsBounded (under_way x a)
 with_attempt x a f h = record { own = f; few = h.few; presides = h.presides }
 
--- the steps of a call
-call_costs : (c : Cluster) (n : ℕ) (x : UpNode) (t : Turn) → IsBrief t → UpIsBounded x → Costs 33 (attempts.performing c n (under_way x t.after) t.steps)
+-- the steps of a call, and a decision where the membership has started
+call_costs : (c : Cluster) (n : ℕ) (x : UpNode) (t : Turn) → IsBrief t → UpIsBounded x → Costs 65 (attempts.performed_all c n (under_way x t.after) t.steps)
 call_costs c n x t brief h =
-    costs_less (attempts.performing c n (under_way x t.after) t.steps) (length t.steps) 33 brief.1 (does_steps c n (under_way x t.after) t.steps (with_attempt x t.after brief.0 h))
+    then_costs (attempts.performing c n (under_way x t.after) t.steps) (λ y. if starts_in t.steps then deciding.deciding c n y else Stays y) 33 32
+    (costs_less (attempts.performing c n (under_way x t.after) t.steps) (length t.steps) 33 brief.1 (does_steps c n (under_way x t.after) t.steps (with_attempt x t.after brief.0 h)))
+    (λ y k. either_costs (starts_in t.steps) (deciding.deciding c n y) (Stays y) 32 (decides c n y k) (stays y 32 k))
 
-readied : (c : Cluster) (n : ℕ) (x : UpNode) (o : Option AttemptState) → IfSome o AttemptIsBounded → UpIsBounded x → Costs 33 (attempts.readied_by c n x o)
-readied c n x None f h = stays x 33 h
+readied : (c : Cluster) (n : ℕ) (x : UpNode) (o : Option AttemptState) → IfSome o AttemptIsBounded → UpIsBounded x → Costs 65 (attempts.readied_by c n x o)
+readied c n x None f h = stays x 65 h
 readied c n x (Some a) f h = call_costs c n x (own_readying a) (turn_is_brief a Own_ready tt f) h
 
-pub own_ready_costs : (c : Cluster) (n : ℕ) (x : UpNode) → UpIsBounded x → Costs 33 (attempts.own_ready c n x)
-own_ready_costs c n x h = either_costs (joins x.tasks) (Stays x) (attempts.readied_by c n x x.attempt) 33 (stays x 33 h) (readied c n x x.attempt h.own h)
+pub own_ready_costs : (c : Cluster) (n : ℕ) (x : UpNode) → UpIsBounded x → Costs 65 (attempts.own_ready c n x)
+own_ready_costs c n x h = either_costs (joins x.tasks) (Stays x) (attempts.readied_by c n x x.attempt) 65 (stays x 65 h) (readied c n x x.attempt h.own h)
 
-performed_costs : (c : Cluster) (n : ℕ) (x : UpNode) (t : Turn) → IsBrief t → UpIsBounded x → Costs 66 (attempts.performed c n (under_way x t.after) t.steps)
+performed_costs : (c : Cluster) (n : ℕ) (x : UpNode) (t : Turn) → IsBrief t → UpIsBounded x → Costs 130 (attempts.performed c n (under_way x t.after) t.steps)
 performed_costs c n x t brief h =
-    then_costs (attempts.performing c n (under_way x t.after) t.steps) (λ y. if begins_install t.steps then attempts.own_ready c n y else Stays y) 33 33 (call_costs c n x t brief h)
-    (λ y k. either_costs (begins_install t.steps) (attempts.own_ready c n y) (Stays y) 33 (own_ready_costs c n y k) (stays y 33 k))
+    then_costs (attempts.performed_all c n (under_way x t.after) t.steps) (λ y. if begins_install t.steps then attempts.own_ready c n y else Stays y) 65 65 (call_costs c n x t brief h)
+    (λ y k. either_costs (begins_install t.steps) (attempts.own_ready c n y) (Stays y) 65 (own_ready_costs c n y k) (stays y 65 k))
 
 choosing_is : (phase : Phase) → is_choosing phase ≡ true → phase ≡ Choosing
 choosing_is Collecting h = absurd (false_true h)
@@ -125,10 +133,10 @@ choosing_is SeizingOthers h = absurd (false_true h)
 choosing_is Installing h = absurd (false_true h)
 choosing_is Over h = absurd (false_true h)
 
-pub goes_on : (c : Cluster) (n : ℕ) (x : UpNode) (t : Turn) → IsBrief t → UpIsBounded x → Costs 66 (attempts.going_on c n x t)
+pub goes_on : (c : Cluster) (n : ℕ) (x : UpNode) (t : Turn) → IsBrief t → UpIsBounded x → Costs 130 (attempts.going_on c n x t)
 goes_on c n x t brief h =
     let u : Turn = turn t.after (With_votes (votes_in c t.after)) in
-    if_with (Costs 66) (is_choosing t.after.phase) (is_choosing t.after.phase) (attempts.performed c n (under_way x u.after) u.steps) (attempts.performed c n (under_way x t.after) t.steps) refl
+    if_with (Costs 130) (is_choosing t.after.phase) (is_choosing t.after.phase) (attempts.performed c n (under_way x u.after) u.steps) (attempts.performed c n (under_way x t.after) t.steps) refl
     (λ e. performed_costs c n x u (turn_is_brief t.after (With_votes (votes_in c t.after)) (choosing_is t.after.phase e) brief.0) h)
     (λ e. performed_costs c n x t brief h)
 
@@ -137,14 +145,14 @@ goes_on c n x t brief h =
 pub promises : (x : UpNode) (p : ℕ) → UpIsBounded (promising x p)
 promises x p = record { own = tt; few = omega arith; presides = tt }
 
-led_costs : (c : Cluster) (n : ℕ) (y : UpNode) (waiting : List Request) (p members : ℕ) → length c.attached ≤ 16 → UpIsBounded y → Costs 66 (attempts.led c n y waiting p members)
+led_costs : (c : Cluster) (n : ℕ) (y : UpNode) (waiting : List Request) (p members : ℕ) → length c.attached ≤ 16 → UpIsBounded y → Costs 130 (attempts.led c n y waiting p members)
 led_costs c n y waiting p members few h =
     let t : Turn = beginning p members (own_promise n y p) c.attached c.id in
-    keeps n y _ 66
-    (tells _ _ 66 refl (tells (unknown_lines n waiting) (attempts.going_on c n y t) 66 (unknown_quiet n waiting) (goes_on c n y t (first_is_brief p members (own_promise n y p) c.attached c.id few) h)))
+    keeps n y _ 130
+    (tells _ _ 130 refl (tells (unknown_lines n waiting) (attempts.going_on c n y t) 130 (unknown_quiet n waiting) (goes_on c n y t (first_is_brief p members (own_promise n y p) c.attached c.id few) h)))
 
-pub leads : (c : Cluster) (n : ℕ) (x : UpNode) (p members : ℕ) → length c.attached ≤ 16 → UpIsBounded x → Costs 66 (attempts.leading_to c n x p members)
+pub leads : (c : Cluster) (n : ℕ) (x : UpNode) (p members : ℕ) → length c.attached ≤ 16 → UpIsBounded x → Costs 130 (attempts.leading_to c n x p members)
 leads c n x p members few h =
     let y : UpNode = record (promising x p) { greatest = p } in
     let k : UpIsBounded y = record { own = tt; few = omega arith; presides = tt } in
-    either_costs (nat_lt (promised_of x) p) (attempts.led c n y x.requests.waiting p members) (Stays x) 66 (led_costs c n y x.requests.waiting p members few k) (stays x 66 h)
+    either_costs (nat_lt (promised_of x) p) (attempts.led c n y x.requests.waiting p members) (Stays x) 130 (led_costs c n y x.requests.waiting p members few k) (stays x 130 h)

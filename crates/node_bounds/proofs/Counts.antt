@@ -1,5 +1,5 @@
 -- How many messages lists of outputs hold.
-use Rattle.std.specs.Prelude.{ℕ, zero, suc, ◌+◌, ◌≡◌, ◌≤◌, ◌++◌, Bool, List, [], ◌∷◌, length, map, filter, Option, None, Some, if◌then◌else◌}
+use Rattle.std.specs.Prelude.{ℕ, zero, suc, ◌+◌, ◌≡◌, ◌≤◌, ◌++◌, Bool, List, [], ◌∷◌, length, flat_map, map, filter, Option, None, Some, if◌then◌else◌}
 use Rattle.std.specs.List.{cons_option, filter_map}
 use Rattle.std.proofs.Common.{refl, ap, ◌∙◌, arith}
 use Rattle.std.proofs.lemmas.List.{length-append}
@@ -8,14 +8,19 @@ use Rattle.cl_base.specs.Numbers.{numbers_to}
 use Rattle.cl_base.specs.Sets.{has}
 use Rattle.cl_base.proofs.SetLemmas.{none_of_zero}
 use Rattle.cmm_attempt.proofs.Basics.{if_either}
+use Rattle.ccr_tables.specs.State.{ConfigState}
 use Rattle.request_queue.specs.declared.request.Request.{Request}
+use Rattle.rg_props.specs.declared.group.Resource.{Resource}
+use Rattle.rg_view.specs.States as states
+use Rattle.rg_view.specs.declared.view.GroupView.{GroupView}
 use Rattle.status_report.specs.declared.command_entry.Answer.{Answer}
 use Rattle.status_report.specs.declared.status_entry.StatusEntry.{StatusEntry}
 use Rattle.wire.specs.declared.message.Body.{Body}
 use Rattle.node_model.specs.declared.node.UpNode.{UpNode}
 use Rattle.node_model.specs.declared.output.Output.{Output}
 use Rattle.node_model.specs.declared.output.Output.TheVariants.{Tells, Sends}
-use Rattle.node_model.specs.Attempts.{base_lines}
+use Rattle.node_model.specs.declared.presidency.Presidency.{Presidency}
+use Rattle.node_model.specs.Attempts.{adopted_line, adopted_lines, adopted_of, adopted_on, base_lines, is_adopted}
 use Rattle.node_model.specs.Entries.{unknown_line, unknown_lines}
 use Rattle.node_model.specs.Presidents.{own_line, sent_to, told_lines}
 use Rattle.node_model.specs.Ticks.{heartbeat_of, heartbeats_to}
@@ -88,6 +93,21 @@ heartbeats_few x receivers = same_bound _ _ 32 (each_sends (heartbeat_of x) (num
 pub base_quiet : (e before : ℕ) (texts : List (List ℕ)) → sends_of (base_lines e before texts) ≡ 0
 base_quiet e before [] = refl
 base_quiet e before (text ∷ texts) = base_quiet e (before + 1) texts
+
+each_quiet : {X : Type 0} (f : X → List Output) (xs : List X) → ((x : X) → sends_of (f x) ≡ 0) → sends_of (flat_map f xs) ≡ 0
+each_quiet f [] h = refl
+each_quiet f (x ∷ xs) h = omega (arith, sends_append (f x) (flat_map f xs), h x, each_quiet f xs h)
+
+lines_quiet : (e : ℕ) (v : GroupView) (resources : List (List ℕ × Resource)) → sends_of (adopted_lines e v resources) ≡ 0
+unfolding adopted_lines
+lines_quiet e v resources =
+    each_quiet (adopted_on e v resources) (numbers_to v.members most_nodes)
+    (λ n. each_quiet (λ x. adopted_line e n x.0 (states.state_of v.resources x.0 n)) resources
+    (λ x. if_either (λ os. sends_of os ≡ 0) (is_adopted (states.state_of v.resources x.0 n)) _ [] refl refl))
+
+pub adopted_quiet : (e : ℕ) (s : ConfigState) (o : Option Presidency) → sends_of (adopted_of e s o) ≡ 0
+adopted_quiet e s None = refl
+adopted_quiet e s (Some p) = lines_quiet e p.groups.view s.groups.resources
 
 unknown_one : (n : ℕ) (r : Request) → sends_of (unknown_line n r) ≡ 0
 unknown_one n r = if_either (λ os. sends_of os ≡ 0) r.told _ [] refl refl

@@ -1,9 +1,11 @@
 pub mod Counts
 pub mod Plans
 pub mod Calls
+pub mod Deciding
 pub mod Attempts
 pub mod Queues
 pub mod Presidents
 pub mod Requests
+pub mod Groups
 pub mod Handlers
 pub mod Steps

@@ -1,6 +1,7 @@
 -- A step of a node on any disk sends few messages, and leaves a bounded node.
 use Rattle.std.specs.Prelude.{ℕ, ◌+◌, ◌≤◌, ◌++◌, List, [], ◌∷◌, length, Option, None, Some}
 use Rattle.std.proofs.Common.{arith}
+use Rattle.cl_base.specs.declared.method.Outcome as method
 use Rattle.cmm_member.specs.Records.{NodeRecord}
 use Rattle.record_disk.specs.Savings.{Saving}
 use Rattle.record_disk.specs.declared.error.Loss.{Loss}
@@ -10,7 +11,8 @@ use Rattle.status_report.specs.declared.node_entry.NodeEntry.TheVariants as note
 use Rattle.wire.specs.Spelling.{IsNode}
 use Rattle.node_model.specs.declared.cluster.Cluster.{Cluster}
 use Rattle.node_model.specs.declared.input.Input.{Input}
-use Rattle.node_model.specs.declared.input.Input.TheVariants.{Boot, Crash, Tick, Packet, CommandDue, Answered, Wrote, Commanded}
+use Rattle.node_model.specs.declared.input.Input.TheVariants.{Boot, Crash, Tick, Packet, CommandDue, Answered, Wrote, Commanded, Reported}
+use Rattle.node_model.specs.declared.node.UpNode.{UpNode}
 use Rattle.node_model.specs.declared.node.Node.{Node}
 use Rattle.node_model.specs.declared.node.Node.TheVariants.{Down, Up}
 use Rattle.node_model.specs.declared.output.Output.{Output}
@@ -18,7 +20,7 @@ use Rattle.node_model.specs.declared.output.Output.TheVariants.{Tells}
 use Rattle.node_model.specs.Plans.{Plan, cause_of}
 use Rattle.node_model.specs.Plans.Plan.{Stays, Falls, Says, Saves}
 use Rattle.node_model.specs.Seats.{up_with}
-use Rattle.node_model.specs.Steps.{DiskRules, Outcome, carried, gone, plan_of, stepped, unless_lost}
+use Rattle.node_model.specs.Steps.{DiskRules, Outcome, at_second, carried, gone, plan_of, stepped, unless_lost}
 use Rattle.node_bounds.specs.Bounded.{IsFromNode, NodeIsBounded, UpIsBounded}
 use Rattle.node_bounds.specs.Laws.{EndsBounded}
 use Rattle.node_bounds.specs.Sends.{sends_in, sends_of}
@@ -48,18 +50,21 @@ carried_few saving n (Saves r rest) given disk k h few =
 boots : (n first_valid : ℕ) (r : NodeRecord) → UpIsBounded (up_with n first_valid r)
 boots n first_valid r = record { own = tt; few = omega arith; presides = tt }
 
-pub stepped_few : {K : Type 0} → (rules : DiskRules K) (c : Cluster) (n : ℕ) (node : Node) (disk : K) (i : Input) → length c.attached ≤ 16 → IsNode n → IsFromNode i → NodeIsBounded node
-    → StepIs 4096 (stepped rules c n node disk i)
-stepped_few rules c n (Up x) disk i few is from h =
-    carried_few rules.saving n (plan_of c n x i) [] disk 4096 (steps_stay_bounded c n x i few is from h) (omega (arith, steps_send_few c n x i few is from h))
-stepped_few rules c n Down disk Boot few is from h =
+pub stepped_few : {K : Type 0} → (rules : DiskRules K) (c : Cluster) (n now : ℕ) (outcome : method.Outcome) (node : Node) (disk : K) (i : Input) → length c.attached ≤ 16 → IsNode n → IsFromNode i
+    → NodeIsBounded node → StepIs 4096 (stepped rules c n now outcome node disk i)
+stepped_few rules c n now outcome (Up x) disk i few is from h =
+    let y : UpNode = at_second now x in
+    let k : UpIsBounded y = record { own = h.own; few = h.few; presides = h.presides } in
+    carried_few rules.saving n (plan_of c n outcome y i) [] disk 4096 (steps_stay_bounded c n outcome y i few is from k) (omega (arith, steps_send_few c n outcome y i few is from k))
+stepped_few rules c n now outcome Down disk Boot few is from h =
     unless_few n (Tells (entry.Node n note.Up) ∷ []) (rules.mounting disk).after (rules.mounting disk).lost
     (record { after = Up (up_with n c.first_valid (rules.kept disk)); given = Tells (entry.Node n note.Up) ∷ []; disk = (rules.mounting disk).after }) 4096 (omega arith)
     (omega arith, boots n c.first_valid (rules.kept disk))
-stepped_few rules c n Down disk Crash few is from h = (omega arith, tt)
-stepped_few rules c n Down disk Tick few is from h = (omega arith, tt)
-stepped_few rules c n Down disk (Packet sender m) few is from h = (omega arith, tt)
-stepped_few rules c n Down disk CommandDue few is from h = (omega arith, tt)
-stepped_few rules c n Down disk (Answered a) few is from h = (omega arith, tt)
-stepped_few rules c n Down disk (Wrote d value a) few is from h = (omega arith, tt)
-stepped_few rules c n Down disk (Commanded words) few is from h = (omega arith, tt)
+stepped_few rules c n now outcome Down disk Crash few is from h = (omega arith, tt)
+stepped_few rules c n now outcome Down disk Tick few is from h = (omega arith, tt)
+stepped_few rules c n now outcome Down disk (Packet sender m) few is from h = (omega arith, tt)
+stepped_few rules c n now outcome Down disk CommandDue few is from h = (omega arith, tt)
+stepped_few rules c n now outcome Down disk (Answered a) few is from h = (omega arith, tt)
+stepped_few rules c n now outcome Down disk (Wrote d value a) few is from h = (omega arith, tt)
+stepped_few rules c n now outcome Down disk (Commanded words) few is from h = (omega arith, tt)
+stepped_few rules c n now outcome Down disk (Reported r good) few is from h = (omega arith, tt)

@@ -1,11 +1,15 @@
 // The answers to the commands of a node's tasks.
-ghost use Rattle.std.specs.Prelude.{IfOk};
+ghost use Rattle.std.specs.Prelude.{◌≡◌, ◌++◌, ◌∷◌, [], OnOk, IfOk, IfErr};
+ghost use Rattle.wire.specs.declared.message.Body.TheVariants as body;
+ghost use Rattle.node_model.specs.declared.output.Output.TheVariants.{Sends};
+ghost use Rattle.node_model.specs.declared.stop.Stop.TheVariants.{NoMemory};
 ghost use Rattle.pgr_device.specs.Keys.{HasNoZeroKey};
 ghost use Rattle.node_model.specs.Devices.{joined_all, joined_here, on_answer_of_device, on_progress, seized_here};
 ghost use Rattle.node_model.specs.Plans.{Follows};
 
+use crate::handing::hand_over;
 use crate::told::{coordinator, greatest_of, told_answer, word_in};
-use cl_base::{DevId, NodeId};
+use cl_base::{DevId, Epoch, NodeId};
 use device_queue::Progress;
 use node_attempts::{go_on, own_ready};
 use node_members::{ready, send_seized};
@@ -38,7 +42,9 @@ pub fn take_device_answer<K: RecordDisk>(
         command,
         answer: told_answer(&answer),
     };
-    tell(out, Entry::Device(entry))?;
+    if let Err(stop) = tell(out, Entry::Device(entry)) {
+        return hand_over(up, Err(stop));
+    }
     up.greatest = greatest_of(up.greatest, word_in(&answer));
     let progress = up.tasks.take_answer(answer);
     take_progress(alloc, cluster, me, disk, up, progress, out)
@@ -86,15 +92,34 @@ fn take_seized<K: RecordDisk>(
         return Ok(up);
     };
     if coordinator != me {
-        let outcome = told_result(alloc, &ended)?;
-        send_seized(out, coordinator, epoch, device, outcome)?;
-        return Ok(up);
+        return match tell_seized(alloc, coordinator, epoch, device, &ended, out) {
+            Ok(()) => Ok(up),
+            Err(stop) => hand_over(up, Err(stop)),
+        };
     }
     let Some(mut attempt) = up.attempt.take() else {
         return Ok(up);
     };
-    let steps = attempt.own_seized(device, ended)?;
-    go_on(alloc, cluster, me, disk, up, attempt, steps, out)
+    match attempt.own_seized(device, ended) {
+        Ok(steps) => go_on(alloc, cluster, me, disk, up, attempt, steps, out),
+        Err(_) => hand_over(up, Err(Stop::NoMemory)),
+    }
+}
+
+/// The coordinator is told how the seizing has ended.
+fn tell_seized(
+    alloc: Global,
+    to: NodeId,
+    epoch: Epoch,
+    device: DevId,
+    ended: &SeizeResult,
+    out: &mut Vec<Output>,
+) -> Result<(), Stop>
+    ensures sent { OnOk result (out.new.items ≡ out.old.items ++ Sends to (body.Seized epoch device ended.now) ∷ []) }
+    ensures only { IfErr result (λ e. e ≡ NoMemory) }
+{
+    let outcome = told_result(alloc, ended)?;
+    send_seized(out, to, epoch, device, outcome)
 }
 
 /// A joining has ended: where the device is joined, the node saves that first.
@@ -114,12 +139,13 @@ fn take_joined<K: RecordDisk>(
         return joined_all(alloc, cluster, me, disk, up, out);
     };
     up.seat.joined(device);
-    keep(alloc, me, disk, &up.seat, out)?;
-    joined_all(alloc, cluster, me, disk, up, out)
+    match keep(alloc, me, disk, &up.seat, out) {
+        Ok(()) => joined_all(alloc, cluster, me, disk, up, out),
+        Err(stop) => hand_over(up, Err(stop)),
+    }
 }
 
 /// With the last joining the coordinator's own part is done, or a member is ready.
-#[tactic(auto, using(node_model::proofs::Plans::gives_follows))]
 fn joined_all<K: RecordDisk>(
     alloc: Global,
     cluster: &Cluster,
@@ -136,6 +162,6 @@ fn joined_all<K: RecordDisk>(
     if coordinator == me {
         own_ready(alloc, cluster, me, disk, up, out)
     } else {
-        ready(alloc, up, coordinator, out)
+        ready(alloc, cluster, up, coordinator, out)
     }
 }

@@ -2,6 +2,7 @@
 ghost use Rattle.node_model.specs.Devices.{before_command};
 ghost use Rattle.node_model.specs.Plans.{Follows};
 
+use crate::handing::hand_over;
 use cl_base::NodeId;
 use node_model::{Output, Stop, UpNode, keep};
 use record_disk::RecordDisk;
@@ -21,9 +22,12 @@ pub fn before_command<K: RecordDisk>(
     let Some(d) = up.tasks.begins_plainly() else {
         return Ok(up);
     };
-    if up.seat.valid().has(d) {
-        up.seat.invalidate(d);
-        keep(alloc, me, disk, &up.seat, out)?;
+    if !up.seat.valid().has(d) {
+        return Ok(up);
     }
-    Ok(up)
+    up.seat.invalidate(d);
+    match keep(alloc, me, disk, &up.seat, out) {
+        Ok(()) => Ok(up),
+        Err(stop) => hand_over(up, Err(stop)),
+    }
 }

@@ -4,6 +4,7 @@
 
 mod answers;
 mod before;
+mod handing;
 mod told;
 mod writes;
 

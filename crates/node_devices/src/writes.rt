@@ -4,7 +4,9 @@ ghost use Rattle.status_report.specs.declared.device_entry.DeviceEntry.TheVarian
 ghost use Rattle.status_report.specs.declared.entry.Entry.TheVariants as trace;
 ghost use Rattle.node_model.specs.Devices.{may_write_as, write_ended, wrote};
 ghost use Rattle.node_model.specs.Plans.{Gives};
+ghost use Rattle.node_devices.specs.Left.{left_so};
 
+use crate::handing::hand_over;
 use crate::told::told_answer;
 use cl_base::{DevId, Epoch, NodeId, Panic};
 use node_model::{Cluster, Output, Seat, Stop, UpNode, tell};
@@ -42,6 +44,21 @@ pub fn take_write_answer(
 ) -> Result<UpNode, Stop>
     ensures follows { Gives (wrote me up device value answer) out.old.items result out.new.items }
 {
+    let told = tell_write(me, &up, device, value, answer, out);
+    hand_over(up, told)
+}
+
+/// The answer is told, and what the write comes to.
+fn tell_write(
+    me: NodeId,
+    up: &UpNode,
+    device: DevId,
+    value: u64,
+    answer: Result<PrAnswer, Failed>,
+    out: &mut Vec<Output>,
+) -> Result<(), Stop>
+    ensures { Gives (wrote me up.now device value answer) out.old.items (left_so up.now result) out.new.items }
+{
     let told = DeviceEntry::Command {
         node: me,
         device,
@@ -54,13 +71,13 @@ pub fn take_write_answer(
 
 fn end_write(
     me: NodeId,
-    up: UpNode,
+    up: &UpNode,
     device: DevId,
     value: u64,
     answer: Result<PrAnswer, Failed>,
     out: &mut Vec<Output>,
-) -> Result<UpNode, Stop>
-    ensures { Gives (write_ended me up device value answer) out.old.items result out.new.items }
+) -> Result<(), Stop>
+    ensures { Gives (write_ended me up.now device value answer) out.old.items (left_so up.now result) out.new.items }
 {
     match answer {
         Ok(PrAnswer::Good) => {
@@ -70,17 +87,13 @@ fn end_write(
                 device,
                 value,
             };
-            tell(out, Entry::Device(entry))?;
-            Ok(up)
+            tell(out, Entry::Device(entry))
         }
         Ok(PrAnswer::Conflict) => {
             tell(out, refused(me, device, value, WriteRefusal::Fenced))?;
             Err(Stop::Down(DownCause::Panic(Panic::Fenced(device))))
         }
-        _ => {
-            tell(out, refused(me, device, value, WriteRefusal::Fault))?;
-            Ok(up)
-        }
+        _ => tell(out, refused(me, device, value, WriteRefusal::Fault)),
     }
 }
 

@@ -1,2 +1,5 @@
 pub mod Installs
+mod Names
+mod Promises
 pub mod Readings
+mod Requests

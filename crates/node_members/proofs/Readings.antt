@@ -1,5 +1,5 @@
 -- An Install is foreign for its readings, or for its list of updates.
-use Rattle.std.proofs.Common.{◌≡◌, ℕ, ◌||◌, not, Bool, true, false, refl, ap, ◌∙◌}
+use Rattle.std.proofs.Common.{◌≡◌, ℕ, ◌||◌, not, Bool, true, false, refl, ◌∙◌}
 use Rattle.std.specs.List.{list_all}
 use Rattle.cl_base.specs.Sets.{has}
 use Rattle.wire.specs.declared.message.Install.{Install}

@@ -1,11 +1,12 @@
 // Packets that no node of the cluster sends.
-ghost use Rattle.std.specs.Prelude.{◌≡◌, IfOk, IfErr};
+ghost use Rattle.std.specs.Prelude.{◌≡◌, IfOk, IfErr, is_some};
 ghost use Rattle.std.specs.List.{list_all};
 ghost use Rattle.node_model.specs.declared.stop.Stop.TheVariants.{NoMemory};
 ghost use Rattle.node_model.specs.Members.{has_many_keys, is_foreign, is_foreign_install, is_foreign_seizing, is_known_reading};
 ghost use Rattle.node_members.specs.Strangers.{names_strangers};
+ghost use Rattle.rg_props.specs.Words.{name_in};
 
-use cl_base::{DevId, NodeId, NodeSet};
+use cl_base::{DevId, Name, NodeId, NodeSet};
 use node_model::{Cluster, Stop, UpNode};
 use node_updates::{is_bad_answer, is_bad_log, is_bad_request, is_bad_update};
 use std::alloc::Global;
@@ -16,16 +17,18 @@ const MOST_KEYS: usize = 32;
 
 /// Whether the message is foreign to the node: it names a node or a device that is not there, asks it to
 /// seize for members that it is none of, tells more keys than a device has, or has a text that is no
-/// update, no request or no answer, or a list of updates that makes no configuration.
+/// update, no request, no answer or no name of a resource, or a list of updates that makes no
+/// configuration. Nothing is changed.
 pub fn is_foreign(
     alloc: Global,
     cluster: &Cluster,
     me: NodeId,
-    up: &UpNode,
+    up: &mut UpNode,
     body: &Body,
 ) -> Result<bool, Stop>
-    ensures value { IfOk result (λ foreign. foreign ≡ is_foreign cluster.now me up.now body.now) }
+    ensures value { IfOk result (λ foreign. foreign ≡ is_foreign cluster.now me up.old body.now) }
     ensures only { IfErr result (λ e. e ≡ NoMemory) }
+    ensures same { up.new ≡ up.old }
 {
     match body {
         Body::Promise {
@@ -46,9 +49,15 @@ pub fn is_foreign(
         }
         Body::Request { text, .. } => is_bad_request(alloc, cluster, text.items()),
         Body::Answer { text, .. } => is_bad_answer(alloc, text.items()),
-        Body::Order(_) => Ok(true),
+        Body::Order(order) => Ok(!is_name(order.resource.items())),
         _ => Ok(names_strangers(cluster, me, body)),
     }
+}
+
+fn is_name(text: &[u8]) -> bool
+    ensures { result ≡ is_some (name_in text.now) }
+{
+    Name::new(text).is_ok()
 }
 
 /// The same of messages without texts.

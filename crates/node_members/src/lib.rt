@@ -3,6 +3,7 @@
 
 mod collecting;
 mod foreign;
+mod handing;
 mod install;
 mod seizing;
 mod start;

@@ -6,7 +6,9 @@ ghost use Rattle.node_model.specs.declared.output.Output.TheVariants.{Sends};
 ghost use Rattle.node_model.specs.declared.stop.Stop.TheVariants.{NoMemory};
 ghost use Rattle.node_model.specs.Members.{on_request, on_seizing};
 ghost use Rattle.node_model.specs.Plans.{Gives};
+ghost use Rattle.node_members.specs.Left.{left_so};
 
+use crate::handing::hand_over;
 use cl_base::{DevId, Epoch, NodeId, NodeSet, SeizeEnd};
 use node_model::{Cluster, Output, Stop, UpNode, send};
 use seize::{Seize, SeizeKind, SeizeResult, told_result};
@@ -31,7 +33,7 @@ pub fn seize(
     alloc: Global,
     cluster: &Cluster,
     me: NodeId,
-    up: UpNode,
+    mut up: UpNode,
     from: NodeId,
     request: Request,
     out: &mut Vec<Output>,
@@ -44,7 +46,8 @@ pub fn seize(
         return Ok(up);
     }
     let kept = up.tasks.seized(device);
-    take_request(alloc, cluster, me, up, from, request, kept, out)
+    let taken = take_request(alloc, cluster, me, &mut up, from, request, kept, out);
+    hand_over(up, taken)
 }
 
 /// The same in its session, where this is kept of the device's seizing.
@@ -52,14 +55,14 @@ fn take_request(
     alloc: Global,
     cluster: &Cluster,
     me: NodeId,
-    mut up: UpNode,
+    up: &mut UpNode,
     from: NodeId,
     request: Request,
     kept: Option<SeizeResult>,
     out: &mut Vec<Output>,
-) -> Result<UpNode, Stop>
+) -> Result<(), Stop>
     requires member { has request.members me ≡ true }
-    ensures { Gives (on_request cluster.now me up from request.kind request.epoch request.members request.device kept) out.old.items result out.new.items }
+    ensures { Gives (on_request cluster.now me up.old from request.kind request.epoch request.members request.device kept) out.old.items (left_so up.new result) out.new.items }
 {
     let Request {
         kind,
@@ -69,17 +72,15 @@ fn take_request(
     } = request;
     if let Some(ended) = kept {
         let outcome = told_result(alloc, &ended)?;
-        send_seized(out, from, epoch, device, outcome)?;
-        return Ok(up);
+        return send_seized(out, from, epoch, device, outcome);
     }
     if up.seat.installed() == epoch {
-        send_seized(out, from, epoch, device, SeizeEnd::Fault)?;
-        return Ok(up);
+        return send_seized(out, from, epoch, device, SeizeEnd::Fault);
     }
     let valid = up.seat.valid().has(device);
     let seizing = Seize::begin(kind, epoch, members, me, cluster.id, valid);
     up.tasks.seize(device, seizing)?;
-    Ok(up)
+    Ok(())
 }
 
 /// The node tells the coordinator how its seizing of the device has ended.

@@ -77,7 +77,7 @@ seized_here c me x d result = seized_for c me x d result (coordinator_of x)
 
 abbrev pub joined_for : Cluster → ℕ → UpNode → Option ℕ → Plan
 joined_for c me x None = Stays x
-joined_for c me x (Some coordinator) = if coordinator == me then own_ready c me x else readying x coordinator
+joined_for c me x (Some coordinator) = if coordinator == me then own_ready c me x else readying c x coordinator
 
 abbrev pub joined_all : Cluster → ℕ → UpNode → Plan
 joined_all c me x = joined_for c me x (coordinator_of x)

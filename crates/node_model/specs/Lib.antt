@@ -2,12 +2,16 @@ pub mod Plans
 pub mod Seats
 pub mod Entries
 pub mod Clusters
+pub mod Configurations
+pub mod Deciding
 pub mod Presidents
 pub mod Requests
 pub mod Updates
+pub mod Groups
 pub mod Attempts
 pub mod Members
 pub mod Devices
 pub mod Ticks
 pub mod Steps
 pub mod Inputs
+pub mod Calls

@@ -6,6 +6,7 @@ use Rattle.answer_words.specs.Answers.{answer_in}
 use Rattle.ccr_commit.specs.Entries.{texts_of}
 use Rattle.cl_base.specs.Sets.{has}
 use Rattle.cl_base.specs.Seizings.{SeizeResult}
+use Rattle.cl_base.specs.declared.method.Outcome.{Outcome}
 use Rattle.cl_base.specs.declared.panic.Panic.TheVariants as panic
 use Rattle.cl_base.specs.declared.seizing.SeizeEnd.TheVariants as seized
 use Rattle.cmm_attempt.specs.declared.attached.AttachedDevice.{AttachedDevice}
@@ -16,6 +17,8 @@ use Rattle.device_queue.specs.declared.task.Task.{Task}
 use Rattle.device_queue.specs.Queue.{after_seize, joins, kept_of}
 use Rattle.heartbeats.specs.declared.peer.Beat.{Beat}
 use Rattle.heartbeats.specs.Peers.{heard}
+use Rattle.rg_props.specs.Words.{name_in}
+use Rattle.rgm_member.specs.Reports.{report_of}
 use Rattle.seize.specs.declared.kind.SeizeKind.{SeizeKind}
 use Rattle.seize.specs.declared.kind.SeizeKind.TheVariants.{Vote, Plain}
 use Rattle.seize.specs.Seizing as seizing
@@ -34,9 +37,11 @@ use Rattle.node_model.specs.declared.cluster.Cluster.{Cluster}
 use Rattle.node_model.specs.declared.node.UpNode.{UpNode}
 use Rattle.node_model.specs.declared.seat.Seat.{Seat}
 use Rattle.node_model.specs.declared.seat.Seat.TheVariants.{Forming, Member}
-use Rattle.node_model.specs.Attempts.{going_on, installed_so, installing, installs_now, keeping_if, promise_of, resting, starts_now}
+use Rattle.node_model.specs.Attempts.{entering, going_on, installed_so, installing, installs_now, keeping_if, promise_of, resting, starts_now}
 use Rattle.node_model.specs.Clusters.{is_within}
+use Rattle.node_model.specs.Configurations.{own_config}
 use Rattle.node_model.specs.Entries.{answering, keeping, sending, telling, telling_of, unknown_lines}
+use Rattle.node_model.specs.Groups.{on_done, on_order}
 use Rattle.node_model.specs.Plans.{Plan}
 use Rattle.node_model.specs.Plans.Plan.{Stays, Falls, Says}
 use Rattle.node_model.specs.Requests.{on_reply}
@@ -95,7 +100,7 @@ is_foreign c me x (body.Start e) = false
 is_foreign c me x (body.Prepare e place text) = is_bad_update c x e place text
 is_foreign c me x (body.Prepared e place) = false
 is_foreign c me x (body.Commit e place) = false
-is_foreign c me x (body.Order o) = true
+is_foreign c me x (body.Order o) = not (is_some (name_in o.resource))
 is_foreign c me x (body.Done e number outcome) = false
 is_foreign c me x (body.Request e number text) = not (is_ok (request_of (version_of c) text))
 is_foreign c me x (body.Answer e number text) = not (is_some (answer_in text))
@@ -148,17 +153,17 @@ on_seizing c me x from kind e members d = if is_in x e then on_request c me x fr
 
 -- Install: a member answers Ready once it has joined what it is to join.
 
-abbrev pub ready_of : UpNode → Body
-ready_of x = body.Ready (session_of x) (state_of x.seat).joined (record { resources = []; groups = [] })
+abbrev pub ready_of : Cluster → UpNode → Body
+ready_of c x = body.Ready (session_of x) (state_of x.seat).joined (report_of x.worker (own_config c x))
 
-abbrev pub readying : UpNode → ℕ → Plan
-readying x to = if joins x.tasks then Stays x else answering to (ready_of x) x
+abbrev pub readying : Cluster → UpNode → ℕ → Plan
+readying c x to = if joins x.tasks then Stays x else answering to (ready_of c x) x
 
 abbrev pub on_install_as : Cluster → ℕ → UpNode → ℕ → Install → Seat → Plan
-on_install_as c me x from i (Member s) = readying x from
+on_install_as c me x from i (Member s) = readying c x from
 on_install_as c me x from i (Forming s) =
-    if s.saved.installed == i.epoch then readying x from
-    else installed_so me (installing c me x s x.tasks i) i.epoch (readying (installing c me x s x.tasks i) from)
+    if s.saved.installed == i.epoch then readying c x from
+    else installed_so me (installing c me x s x.tasks i) i.epoch (readying c (installing c me x s x.tasks i) from)
 
 abbrev pub on_install : Cluster → ℕ → UpNode → ℕ → Install → Plan
 on_install c me x from i = if is_in x i.epoch then on_install_as c me x from i x.seat else answering from (body.Nack i.epoch (promised_of x)) x
@@ -166,7 +171,7 @@ on_install c me x from i = if is_in x i.epoch then on_install_as c me x from i x
 -- Start: what is pending is committed and saved, and the node is a member.
 
 abbrev pub sitting : UpNode → NodeState → UpNode
-sitting x s = record x { seat = Member (started s) }
+sitting x s = entering (record x { seat = Member (started s) }) s.session
 
 abbrev pub on_start_as : ℕ → UpNode → ℕ → Seat → Plan
 on_start_as me x e (Member s) = Stays x
@@ -186,29 +191,30 @@ abbrev pub on_answer : Cluster → ℕ → UpNode → ℕ → Message → Option
 on_answer c me x from m None = Stays x
 on_answer c me x from m (Some a) = going_on c me x (taking a from m)
 
-abbrev pub on_body : Cluster → ℕ → UpNode → ℕ → Message → Body → Plan
-on_body c me x from m (body.Heartbeat promised session member) = on_heartbeat me x from session member
-on_body c me x from m (body.Collect e members) = on_collect me x from e
-on_body c me x from m (body.Promise e installed members valid flagged committed pending) = on_answer c me x from m x.attempt
-on_body c me x from m (body.Nack e promised) = on_answer c me x from m x.attempt
-on_body c me x from m (body.SeizeQuorum e members d) = on_seizing c me x from Vote e members d
-on_body c me x from m (body.SeizeData e members d) = on_seizing c me x from Plain e members d
-on_body c me x from m (body.Seized e d outcome) = on_answer c me x from m x.attempt
-on_body c me x from m (body.Install i) = on_install c me x from i
-on_body c me x from m (body.Ready e joined report) = on_answer c me x from m x.attempt
-on_body c me x from m (body.Start e) = on_start_as me x e x.seat
-on_body c me x from m (body.Prepare e place text) = on_prepare_as me x from e place text x.seat
-on_body c me x from m (body.Prepared e place) = on_prepared c me x from e place
-on_body c me x from m (body.Commit e place) = on_commit_as me x e place x.seat
-on_body c me x from m (body.Order o) = Stays x
-on_body c me x from m (body.Done e number outcome) = Stays x
-on_body c me x from m (body.Request e number text) = on_asked c me x from e number text
-on_body c me x from m (body.Answer e number text) = on_reply c me x e number (answer_in text)
-on_body c me x from m (body.Excluded e newest) = on_excluded x e newest
+-- a method that it calls for an order ends so: that is given beside
+abbrev pub on_body : Cluster → ℕ → Outcome → UpNode → ℕ → Message → Body → Plan
+on_body c me outcome x from m (body.Heartbeat promised session member) = on_heartbeat me x from session member
+on_body c me outcome x from m (body.Collect e members) = on_collect me x from e
+on_body c me outcome x from m (body.Promise e installed members valid flagged committed pending) = on_answer c me x from m x.attempt
+on_body c me outcome x from m (body.Nack e promised) = on_answer c me x from m x.attempt
+on_body c me outcome x from m (body.SeizeQuorum e members d) = on_seizing c me x from Vote e members d
+on_body c me outcome x from m (body.SeizeData e members d) = on_seizing c me x from Plain e members d
+on_body c me outcome x from m (body.Seized e d result) = on_answer c me x from m x.attempt
+on_body c me outcome x from m (body.Install i) = on_install c me x from i
+on_body c me outcome x from m (body.Ready e joined report) = on_answer c me x from m x.attempt
+on_body c me outcome x from m (body.Start e) = on_start_as me x e x.seat
+on_body c me outcome x from m (body.Prepare e place text) = on_prepare_as c me x from e place text x.seat
+on_body c me outcome x from m (body.Prepared e place) = on_prepared c me x from e place
+on_body c me outcome x from m (body.Commit e place) = on_commit_as me x e place x.seat
+on_body c me outcome x from m (body.Order o) = on_order c me outcome x from o
+on_body c me outcome x from m (body.Done e number ended) = on_done c me x from e number ended
+on_body c me outcome x from m (body.Request e number text) = on_asked c me x from e number text
+on_body c me outcome x from m (body.Answer e number text) = on_reply c me x e number (answer_in text)
+on_body c me outcome x from m (body.Excluded e newest) = on_excluded x e newest
 
 -- a packet that was delivered: its sender is heard, and the epochs that it shows are seen
 abbrev pub hearing : UpNode → ℕ → Body → UpNode
 hearing x from b = seen (record x { beats = heard x.beats from (beat_in b) }) (greatest (epochs_shown b))
 
-abbrev pub on_packet : Cluster → ℕ → UpNode → ℕ → Message → Plan
-on_packet c me x from m = if is_foreign c me x m.body then Stays x else on_body c me (hearing x from m.body) from m m.body
+abbrev pub on_packet : Cluster → ℕ → Outcome → UpNode → ℕ → Message → Plan
+on_packet c me outcome x from m = if is_foreign c me x m.body then Stays x else on_body c me outcome (hearing x from m.body) from m m.body

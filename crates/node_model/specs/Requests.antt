@@ -43,7 +43,7 @@ asking c me x = asking_for c me x (oldest x.requests)
 -- A command's request waits behind the others. One that waits alone goes at once.
 
 abbrev pub waiting_with : UpNode → ℕ → List ℕ → UpNode
-waiting_with x number text = record x { requests = with_request x.requests (record { number = number; text = text; told = true }) }
+waiting_with x number text = record x { requests = with_request x.requests (record { number = number; text = text; told = true; second = x.second }) }
 
 abbrev pub asking_if : Bool → Cluster → ℕ → UpNode → Plan
 asking_if alone c me x = if alone then asking c me x else Stays x

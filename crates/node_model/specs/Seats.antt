@@ -7,6 +7,7 @@ use Rattle.cmm_member.specs.Nodes.{NodeState, DownState, booted, promised_to, wi
 use Rattle.cl_base.specs.declared.header.Version.{Version}
 use Rattle.heartbeats.specs.Peers.{at_boot}
 use Rattle.request_queue.specs.Queue.{ended, nothing_asked}
+use Rattle.rgm_member.specs.State.{new_worker}
 use Rattle.node_model.specs.declared.cluster.Cluster.{Cluster}
 use Rattle.node_model.specs.declared.node.UpNode.{UpNode}
 use Rattle.node_model.specs.declared.seat.Seat.{Seat}
@@ -76,5 +77,8 @@ up_with me first_valid r = record {
   tasks = [];
   attempt = None;
   requests = nothing_asked;
+  worker = new_worker me;
+  second = 0;
+  made = record {};
   presidency = None;
 }

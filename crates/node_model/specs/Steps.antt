@@ -1,5 +1,6 @@
 -- A step of a node as a function: the node after what happens to it, what it gives, and the disk that it leaves.
 use Rattle.std.specs.Prelude.{ℕ, List, [], ◌∷◌, ◌++◌, Option, None, Some}
+use Rattle.cl_base.specs.declared.method.Outcome as method
 use Rattle.cmm_member.specs.Records.{NodeRecord}
 use Rattle.record_disk.specs.Savings.{Saving}
 use Rattle.record_disk.specs.declared.error.Loss.{Loss}
@@ -11,12 +12,13 @@ use Rattle.status_report.specs.declared.node_entry.NodeEntry.TheVariants as note
 use Rattle.wire.specs.declared.message.Message.{Message}
 use Rattle.node_model.specs.declared.cluster.Cluster.{Cluster}
 use Rattle.node_model.specs.declared.input.Input.{Input}
-use Rattle.node_model.specs.declared.input.Input.TheVariants.{Boot, Crash, Tick, Packet, CommandDue, Answered, Wrote, Commanded}
+use Rattle.node_model.specs.declared.input.Input.TheVariants.{Boot, Crash, Tick, Packet, CommandDue, Answered, Wrote, Commanded, Reported}
 use Rattle.node_model.specs.declared.node.Node.{Node}
 use Rattle.node_model.specs.declared.node.Node.TheVariants as node
 use Rattle.node_model.specs.declared.node.UpNode.{UpNode}
 use Rattle.node_model.specs.declared.output.Output.{Output}
 use Rattle.node_model.specs.declared.output.Output.TheVariants.{Tells}
+use Rattle.node_model.specs.Groups.{on_report}
 use Rattle.node_model.specs.Devices.{before_command, on_answer_of_device, wrote}
 use Rattle.node_model.specs.Members.{on_packet}
 use Rattle.node_model.specs.Plans.{Plan, cause_of}
@@ -25,16 +27,21 @@ use Rattle.node_model.specs.Requests.{on_command}
 use Rattle.node_model.specs.Seats.{up_with}
 use Rattle.node_model.specs.Ticks.{on_tick}
 
--- what a node that is up does
-abbrev pub plan_of : Cluster → ℕ → UpNode → Input → Plan
-plan_of c me x Boot = Stays x
-plan_of c me x Crash = Falls down.Crash
-plan_of c me x Tick = on_tick c me x
-plan_of c me x (Packet from message) = on_packet c me x from message
-plan_of c me x CommandDue = before_command me x
-plan_of c me x (Answered a) = on_answer_of_device c me x a
-plan_of c me x (Wrote d value a) = wrote me x d value a
-plan_of c me x (Commanded words) = on_command c me x words
+-- what a node that is up does; where it calls a method, that ends so
+abbrev pub plan_of : Cluster → ℕ → method.Outcome → UpNode → Input → Plan
+plan_of c me outcome x Boot = Stays x
+plan_of c me outcome x Crash = Falls down.Crash
+plan_of c me outcome x Tick = on_tick c me outcome x
+plan_of c me outcome x (Packet from message) = on_packet c me outcome x from message
+plan_of c me outcome x CommandDue = before_command me x
+plan_of c me outcome x (Answered a) = on_answer_of_device c me x a
+plan_of c me outcome x (Wrote d value a) = wrote me x d value a
+plan_of c me outcome x (Commanded words) = on_command c me x words
+plan_of c me outcome x (Reported r good) = on_report c me x r good
+
+-- at this second of the clock
+abbrev pub at_second : ℕ → UpNode → UpNode
+at_second now x = record x { second = now }
 
 pub record Outcome (K : Type 0) : Type 0 where
   pub after : Node
@@ -75,7 +82,7 @@ abbrev pub down_stepped : {K : Type 0} → DiskRules K → Cluster → ℕ → K
 down_stepped rules c me disk Boot = booted_with me c.first_valid (rules.kept disk) (rules.mounting disk)
 down_stepped rules c me disk _ = stays_down disk
 
--- the step
-abbrev pub stepped : {K : Type 0} → DiskRules K → Cluster → ℕ → Node → K → Input → Outcome K
-stepped rules c me node.Down disk input = down_stepped rules c me disk input
-stepped rules c me (node.Up x) disk input = carried rules.saving me (plan_of c me x input) [] disk
+-- the step, at this second of the clock; a method that the node calls in it ends so
+abbrev pub stepped : {K : Type 0} → DiskRules K → Cluster → ℕ → ℕ → method.Outcome → Node → K → Input → Outcome K
+stepped rules c me now outcome node.Down disk input = down_stepped rules c me disk input
+stepped rules c me now outcome (node.Up x) disk input = carried rules.saving me (plan_of c me outcome (at_second now x) input) [] disk

@@ -3,6 +3,7 @@ use Rattle.std.specs.Prelude.{ℕ, zero, suc, ◌-◌, ◌==◌, ◌&&◌, nat_l
 use Rattle.cl_base.specs.Limits.{most_nodes}
 use Rattle.cl_base.specs.Numbers.{numbers_to}
 use Rattle.cl_base.specs.Sets.{has}
+use Rattle.cl_base.specs.declared.method.Outcome.{Outcome}
 use Rattle.cmm_attempt.specs.Attempts.{AttemptState, ticking}
 use Rattle.cmm_member.specs.Records.{NodeRecord}
 use Rattle.heartbeats.specs.declared.due.Membership.{Membership}
@@ -19,8 +20,10 @@ use Rattle.node_model.specs.declared.output.Output.TheVariants.{Sends}
 use Rattle.node_model.specs.declared.seat.Seat.{Seat}
 use Rattle.node_model.specs.declared.seat.Seat.TheVariants.{Forming, Member}
 use Rattle.node_model.specs.Attempts.{going_on, leading, may_count_on}
+use Rattle.node_model.specs.Deciding.{deciding}
 use Rattle.node_model.specs.Entries.{telling_of}
-use Rattle.node_model.specs.Plans.{Plan}
+use Rattle.node_model.specs.Groups.{orders_again, own_order, own_turn}
+use Rattle.node_model.specs.Plans.{Plan, and_then}
 use Rattle.node_model.specs.Plans.Plan.{Stays, Says}
 use Rattle.node_model.specs.Seats.{is_member, promised_of, record_of, session_of}
 use Rattle.node_model.specs.Updates.{prepares_again, request_again, with_later}
@@ -61,12 +64,23 @@ attempt_ticked c me x None =
 abbrev pub later : Cluster → UpNode → UpNode
 later c x = with_later (record x { beats = ticked x.beats c.configured })
 
--- what goes at a tick: heartbeats, and again what is not answered; whether it is due is read off the node before the tick
+-- What goes at a tick: heartbeats, and again a request that is not answered; whether it is due is read off the node before the tick.
 abbrev pub ticked_output : Cluster → UpNode → UpNode → List Output
-ticked_output c before x = heartbeats_to x (receivers_of x.beats c.configured) ++ request_again before ++ prepares_again before
+ticked_output c before x = heartbeats_to x (receivers_of x.beats c.configured) ++ request_again before
 
-abbrev pub beating : Cluster → ℕ → UpNode → UpNode → Plan
-beating c me before x = Says (ticked_output c before x) (attempt_ticked c me x x.attempt)
+-- A president goes on: its own order is carried out, what is not answered goes again, and it decides.
 
-abbrev pub on_tick : Cluster → ℕ → UpNode → Plan
-on_tick c me x = telling_of me node.Ticked (beating c me x (later c x))
+abbrev pub again_output : UpNode → UpNode → List Output
+again_output before x = prepares_again before ++ orders_again before x
+
+abbrev pub going_again : Cluster → ℕ → UpNode → UpNode → Plan
+going_again c me before x = Says (again_output before x) (deciding c me x)
+
+abbrev pub governing : Cluster → ℕ → Outcome → UpNode → UpNode → Plan
+governing c me outcome before x = and_then (own_turn c me outcome x (own_order me x)) (going_again c me before)
+
+abbrev pub beating : Cluster → ℕ → Outcome → UpNode → UpNode → Plan
+beating c me outcome before x = Says (ticked_output c before x) (and_then (governing c me outcome before x) (λ y. attempt_ticked c me y y.attempt))
+
+abbrev pub on_tick : Cluster → ℕ → Outcome → UpNode → Plan
+on_tick c me outcome x = telling_of me node.Ticked (beating c me outcome x (later c x))

@@ -10,6 +10,7 @@ use Rattle.proposals.specs.declared.arrived.Proposed.{Proposed}
 use Rattle.request_queue.specs.Queue as queue
 use Rattle.request_queue.specs.Queue.{Queue, oldest}
 use Rattle.request_queue.specs.declared.request.Request.{Request}
+use Rattle.sent_orders.specs.Ticks as sent
 use Rattle.wire.specs.declared.message.Body.TheVariants as body
 use Rattle.node_model.specs.declared.cluster.Cluster.{Cluster}
 use Rattle.node_model.specs.declared.node.UpNode.{UpNode}
@@ -21,7 +22,7 @@ use Rattle.node_model.specs.declared.seat.Seat.TheVariants.{Forming, Member}
 use Rattle.node_model.specs.Entries.{answering, keeping}
 use Rattle.node_model.specs.Plans.{Plan, and_then}
 use Rattle.node_model.specs.Plans.Plan.{Stays, Says}
-use Rattle.node_model.specs.Presidents.{acknowledging, arriving, handling, sent_to, with_proposals}
+use Rattle.node_model.specs.Presidents.{acknowledging, arriving, handling, sent_to, tidied, with_proposals}
 use Rattle.node_model.specs.Seats.{coordinator_of, is_in, is_member, record_of, session_of}
 
 -- A member of its membership asks the president.
@@ -36,24 +37,25 @@ is_of_member x from e = is_member x.seat && is_in x e && has (record_of x).membe
 abbrev pub on_asked : Cluster → ℕ → UpNode → ℕ → ℕ → ℕ → List ℕ → Plan
 on_asked c me x from e number text = if is_of_member x from e then requested c me x from number text x.presidency else Stays x
 
--- Prepare: a member saves the update as pending and says so. What it has already it says again.
+-- Prepare: a member saves the update as pending and says so; of what it deletes nothing is kept. What it has already it says again.
 
-abbrev pub preparing : ℕ → UpNode → ℕ → ℕ → ℕ → NodeState → List ℕ → Prepared → Plan
-preparing me x from e place s text Taken =
-    keeping me (record x { seat = Member (with_entries s (left_by Taken s.saved.entries text)) })
-    (answering from (body.Prepared e place) (record x { seat = Member (with_entries s (left_by Taken s.saved.entries text)) }))
-preparing me x from e place s text Already = answering from (body.Prepared e place) x
-preparing me x from e place s text (Gap k) = Stays x
+abbrev pub prepared_so : Cluster → UpNode → NodeState → List ℕ → UpNode
+prepared_so c x s text = tidied c (record x { seat = Member (with_entries s (left_by Taken s.saved.entries text)) })
 
-abbrev pub on_prepare_as : ℕ → UpNode → ℕ → ℕ → ℕ → List ℕ → Seat → Plan
-on_prepare_as me x from e place text (Forming s) = Stays x
-on_prepare_as me x from e place text (Member s) =
-    if is_in x e then preparing me x from e place s text (answer_for (length (texts_of s.saved.entries)) place) else Stays x
+abbrev pub preparing : Cluster → ℕ → UpNode → ℕ → ℕ → ℕ → NodeState → List ℕ → Prepared → Plan
+preparing c me x from e place s text Taken = keeping me (prepared_so c x s text) (answering from (body.Prepared e place) (prepared_so c x s text))
+preparing c me x from e place s text Already = answering from (body.Prepared e place) x
+preparing c me x from e place s text (Gap k) = Stays x
+
+abbrev pub on_prepare_as : Cluster → ℕ → UpNode → ℕ → ℕ → ℕ → List ℕ → Seat → Plan
+on_prepare_as c me x from e place text (Forming s) = Stays x
+on_prepare_as c me x from e place text (Member s) =
+    if is_in x e then preparing c me x from e place s text (answer_for (length (texts_of s.saved.entries)) place) else Stays x
 
 -- Prepared: with the last one the president acknowledges, and goes on with what waits.
 
 abbrev pub prepared_all : Cluster → ℕ → UpNode → Presidency → Plan
-prepared_all c me x p = if is_prepared p.proposals then and_then (acknowledging me x) (handling c me) else Stays x
+prepared_all c me x p = if is_prepared p.proposals then and_then (acknowledging c me x) (handling c me) else Stays x
 
 abbrev pub prepared_at : Cluster → ℕ → UpNode → ℕ → ℕ → Option Presidency → Plan
 prepared_at c me x from place None = Stays x
@@ -104,7 +106,7 @@ prepares_again x = prepares_again_by x x.presidency
 
 abbrev pub later_presidency : Option Presidency → Option Presidency
 later_presidency None = None
-later_presidency (Some p) = Some (record p { proposals = ticked p.proposals })
+later_presidency (Some p) = Some (record p { proposals = ticked p.proposals; sent = sent.ticked p.sent })
 
 -- a tick later
 abbrev pub with_later : UpNode → UpNode

@@ -1,4 +1,4 @@
-use cl_base::{Bytes, DevId, NodeId};
+use cl_base::{Bytes, DevId, Name, NodeId};
 use pgr_device::{Failed, PrAnswer};
 use wire::Message;
 
@@ -33,4 +33,11 @@ pub enum Input {
     },
     /// An administrator gives it a command, in these words.
     Commanded(Bytes),
+    /// The monitor of a resource reports.
+    Reported {
+        /// The resource.
+        resource: Name,
+        /// Whether it is well.
+        good: bool,
+    },
 }

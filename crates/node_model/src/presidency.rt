@@ -1,5 +1,7 @@
 use cl_base::DevSet;
 use proposals::Proposals;
+use rgm_president::President;
+use sent_orders::SentOrders;
 
 /// What a node has in hand as the president of its membership.
 #[derive(Drop)]
@@ -8,4 +10,8 @@ pub struct Presidency {
     pub proposals: Proposals,
     /// The devices that the membership holds.
     pub held: DevSet,
+    /// What it knows of groups, and the orders that it has given.
+    pub groups: President,
+    /// When orders to other members go again.
+    pub sent: SentOrders,
 }

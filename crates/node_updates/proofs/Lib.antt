@@ -1,7 +1,6 @@
-pub mod Sent
-pub mod Answering
-pub mod InForce
-pub mod Deciding
-pub mod Querying
-pub mod Acknowledging
-pub mod TurnLemmas
+pub mod Commanding
+pub mod Preparing
+pub mod Replying
+pub mod Memory
+pub mod Asking
+pub mod LastPrepared

@@ -1,3 +1,5 @@
--- what only the proofs need
-pub mod Presidents
-pub mod Queries
+pub mod Again
+pub mod Commands
+pub mod Keeping
+pub mod Replies
+pub mod Preparing

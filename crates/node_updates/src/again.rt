@@ -1,41 +1,55 @@
 // What is not answered goes again.
-ghost use Rattle.std.specs.Prelude.{◌≡◌, ◌++◌, OnOk};
-ghost use Rattle.node_model.specs.Updates.{prepares_of, prepares_again, request_again, request_again_to, with_later};
+ghost use Rattle.std.specs.Prelude.{◌≡◌, ◌++◌, OnOk, IfOk, [], if◌then◌else◌};
+ghost use Rattle.node_model.specs.Updates.{prepares_again, prepares_of, request_again, request_again_to, with_later};
 ghost use Rattle.node_model.specs.Seats.{coordinator_of, record_of};
+ghost use Rattle.node_updates.specs.Again.{orders_due};
 ghost use Rattle.request_queue.specs.Queue.{oldest};
 
-use crate::requests::coordinator;
-use crate::sending::send_prepares;
-use crate::telling::copied;
+use crate::queries::coordinator;
+use cl_base::NodeSet;
 use node_model::{Output, UpNode};
+use node_presidents::{copied, send_prepares};
 use proposals::Proposed;
 use std::alloc::{AllocError, Global};
 use wire::Body;
 
-/// A tick of the node: what was not answered for long goes again, the oldest request to the president and
-/// the Prepares to the members that are missing. All of it is a tick older.
+/// What a president sends again at a tick, once it has carried out its own order.
+#[derive(Drop)]
+pub struct Again {
+    /// The Prepares, to the members that are missing.
+    pub prepares: Vec<Output>,
+    /// The members to which their orders go again.
+    pub orders: NodeSet,
+}
+
+/// A tick of the node: the oldest request goes again to another president, if it was not answered for
+/// long. All that waits is a tick older. What a president is to send again is handed back.
 pub fn tick_requests(
     alloc: Global,
     up: &mut UpNode,
     out: &mut Vec<Output>,
-) -> Result<(), AllocError>
-    ensures told { OnOk result (out.new.items ≡ out.old.items ++ request_again up.old ++ prepares_again up.old) }
+) -> Result<Again, AllocError>
+    ensures told { OnOk result (out.new.items ≡ out.old.items ++ request_again up.old) }
     ensures after { OnOk result (up.new ≡ with_later up.old) }
+    ensures prepares { IfOk result (λ again. again.prepares.items ≡ prepares_again up.old) }
+    ensures orders { IfOk result (λ again. again.orders ≡ orders_due up.old.presidency) }
 {
     let request_is_due = up.requests.tick();
     let Some(mut presidency) = up.presidency.take() else {
         if request_is_due {
             send_request(alloc, up, out)?;
         }
-        return Ok(());
+        return Ok(Again {
+            prepares: Vec::new(alloc),
+            orders: NodeSet::empty(),
+        });
     };
     let prepares_are_due = presidency.proposals.tick();
     let proposed = presidency.proposals.proposed();
+    let orders = presidency.sent.tick();
     up.presidency = Some(presidency);
-    if prepares_are_due {
-        prepare_again(alloc, up, proposed, out)?;
-    }
-    Ok(())
+    let prepares = prepares_if(prepares_are_due, alloc, up, proposed)?;
+    Ok(Again { prepares, orders })
 }
 
 /// The oldest request goes to the president, which is another node.
@@ -57,7 +71,22 @@ fn send_request(alloc: Global, up: &UpNode, out: &mut Vec<Output>) -> Result<(),
     Ok(())
 }
 
-/// What is pending goes again to those that have not prepared it.
+/// What is pending goes again to those that have not prepared it, if that is due.
+fn prepares_if(
+    due: bool,
+    alloc: Global,
+    up: &UpNode,
+    proposed: Option<Proposed>,
+) -> Result<Vec<Output>, AllocError>
+    ensures value { IfOk result (λ prepares. prepares.items ≡ (if due then prepares_of up.now proposed (record_of up.now).entries.pending else [])) }
+{
+    let mut prepares = Vec::new(alloc);
+    if due {
+        prepare_again(alloc, up, proposed, &mut prepares)?;
+    }
+    Ok(prepares)
+}
+
 fn prepare_again(
     alloc: Global,
     up: &UpNode,

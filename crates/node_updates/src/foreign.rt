@@ -1,22 +1,21 @@
 // Texts that no node of the cluster sends.
-ghost use Rattle.std.specs.Prelude.{◌≡◌, ◌++◌, ◌∷◌, [], not, IfOk, IfErr};
+ghost use Rattle.std.specs.Prelude.{◌≡◌, not, IfOk, IfErr};
 ghost use Rattle.std.specs.Option.{is_some, option_map};
 ghost use Rattle.ccr_commit.specs.Entries.{texts_of};
 ghost use Rattle.admin_words.specs.Commands.{request_of};
 ghost use Rattle.answer_words.specs.Answers.{answer_in};
+ghost use Rattle.config_cache.specs.InForce.{may_follow};
 ghost use Rattle.node_model.specs.declared.stop.Stop.TheVariants.{NoMemory};
-ghost use Rattle.update_log.specs.Logs.{config_after, is_update};
+ghost use Rattle.update_log.specs.Logs.{is_update};
 ghost use Rattle.node_model.specs.Members.{is_bad_log, is_bad_update, is_next_of, is_ok};
-ghost use Rattle.node_model.specs.Seats.{record_of, version_of};
+ghost use Rattle.node_model.specs.Seats.{state_of, version_of};
 
-use crate::members::is_member_in;
-use crate::proposing::last_place;
-use crate::telling::copied;
 use admin_words::{WordError, parse_request};
 use answer_words::parse_answer;
-use ccr_commit::Entries;
 use cl_base::{Bytes, Epoch};
-use node_model::{Cluster, Stop, UpNode};
+use config_cache::ConfigCache;
+use node_model::{Cluster, Seat, Stop, UpNode};
+use node_presidents::{is_member_in, last_place};
 use std::alloc::{AllocError, Global};
 use update_log::{is_update, votes_after};
 
@@ -36,17 +35,18 @@ pub fn is_bad_log(
     }
 }
 
-/// Whether the text of a Prepare is no update, or one that may not come next.
+/// Whether the text of a Prepare is no update, or one that may not come next. Nothing is changed.
 pub fn is_bad_update(
     alloc: Global,
     cluster: &Cluster,
-    up: &UpNode,
+    up: &mut UpNode,
     epoch: Epoch,
     place: u64,
     text: &Bytes,
 ) -> Result<bool, Stop>
-    ensures value { IfOk result (λ bad. bad ≡ is_bad_update cluster.now up.now epoch place text.now) }
+    ensures value { IfOk result (λ bad. bad ≡ is_bad_update cluster.now up.old epoch place text.now) }
     ensures only { IfErr result (λ e. e ≡ NoMemory) }
+    ensures same { up.new ≡ up.old }
 {
     if is_no_update(alloc, cluster, text)? {
         return Ok(true);
@@ -54,7 +54,8 @@ pub fn is_bad_update(
     if !is_next_of(up, epoch, place) {
         return Ok(false);
     }
-    Ok(may_not_come(alloc, cluster, up, text)?)
+    let may_follow = may_follow(alloc, cluster, &mut up.made, &up.seat, text)?;
+    Ok(!may_follow)
 }
 
 fn is_no_update(alloc: Global, cluster: &Cluster, text: &Bytes) -> Result<bool, AllocError>
@@ -66,26 +67,19 @@ fn is_no_update(alloc: Global, cluster: &Cluster, text: &Bytes) -> Result<bool, 
     }
 }
 
-/// Whether the node's updates and then this one make no configuration.
-fn may_not_come(
+/// Whether the update may come behind those of the seat.
+fn may_follow(
     alloc: Global,
     cluster: &Cluster,
-    up: &UpNode,
+    made: &mut ConfigCache,
+    seat: &Seat,
     text: &Bytes,
 ) -> Result<bool, AllocError>
-    ensures { IfOk result (λ bad. bad ≡ not (is_some (config_after cluster.now.header (texts_of (record_of up.now).entries ++ text.now ∷ [])))) }
+    ensures value { IfOk result (λ so. so ≡ may_follow cluster.now.header (texts_of (state_of seat.now).saved.entries) text.now) }
+    ensures same { made.new ≡ made.old }
 {
-    let texts = texts_with(alloc, up.seat.entries(), text)?;
-    has_no_config(alloc, cluster, &texts)
-}
-
-// Where there are votes, there is a configuration.
-#[tactic(auto, using(crate::proofs::InForce::votes_or_none))]
-fn has_no_config(alloc: Global, cluster: &Cluster, texts: &[Bytes]) -> Result<bool, AllocError>
-    ensures { IfOk result (λ bad. bad ≡ not (is_some (config_after cluster.now.header texts.now))) }
-{
-    match votes_after(alloc, cluster.header.get(), texts, None) {
-        Ok(votes) => Ok(votes.is_none()),
+    match made.may_follow(alloc, cluster.header.get(), seat.entries(), text.items()) {
+        Ok(so) => Ok(so),
         Err(_) => Err(AllocError),
     }
 }
@@ -95,28 +89,6 @@ fn is_next_of(up: &UpNode, epoch: Epoch, place: u64) -> bool
     ensures { result ≡ is_next_of up.now epoch place }
 {
     is_member_in(up, epoch) && place == last_place(&up.seat) + 1
-}
-
-/// All the updates, and this one behind them.
-fn texts_with(alloc: Global, entries: &Entries, text: &Bytes) -> Result<Vec<Bytes>, AllocError>
-    ensures { IfOk result (λ texts. texts.items ≡ texts_of entries.now ++ text.now ∷ []) }
-{
-    let mut texts = copied_texts(alloc, entries.committed())?;
-    if let Some(pending) = entries.pending() {
-        texts.push(copied(alloc, pending)?)?;
-    }
-    texts.push(copied(alloc, text)?)?;
-    Ok(texts)
-}
-
-fn copied_texts(alloc: Global, texts: &[Bytes]) -> Result<Vec<Bytes>, AllocError>
-    ensures { IfOk result (λ copies. copies.items ≡ texts.now) }
-{
-    let mut copies = Vec::new(alloc);
-    for text in texts {
-        copies.push(copied(alloc, text)?)?;
-    }
-    Ok(copies)
 }
 
 /// Whether the text is no request.

@@ -1,24 +1,16 @@
-//! What a node does with an administrator's command, and what members and their president do for an
-//! update: requests, the president's answers, and updates that are proposed, prepared and committed.
+//! What a node does with an administrator's command, with its own requests, and what a member does for an
+//! update of its president's: it prepares it, and commits it.
 #![tactic(auto)]
 
 mod again;
-mod answers;
-mod arriving;
-mod checks;
 mod foreign;
 mod members;
-mod president;
-mod proposing;
+mod prepared;
 mod queries;
 mod requests;
-mod sending;
-mod telling;
-mod turns;
-mod verdict;
 
-pub use again::tick_requests;
+pub use again::{Again, tick_requests};
 pub use foreign::{is_bad_answer, is_bad_log, is_bad_request, is_bad_update};
 pub use members::{commit, prepare};
-pub use president::{take_prepared, take_request};
-pub use requests::{take_command, take_reply};
+pub use prepared::take_prepared;
+pub use requests::{ask, ask_if, is_idle, take_command, take_reply};

@@ -1,20 +1,27 @@
 // What a member does for its president.
-ghost use Rattle.std.specs.Prelude.{◌≡◌, ◌&&◌};
-ghost use Rattle.node_model.specs.Plans.{Follows};
-ghost use Rattle.node_model.specs.Seats.{is_in, is_member};
-ghost use Rattle.node_model.specs.Updates.{is_of_member, on_commit_as, on_prepare_as};
+ghost use Rattle.std.specs.Prelude.{◌≡◌, OnOk};
+ghost use Rattle.node_model.specs.Entries.{answering, keeping};
+ghost use Rattle.node_model.specs.Plans.{Follows, Gives};
+ghost use Rattle.node_model.specs.Plans.Plan.{Stays};
+ghost use Rattle.node_model.specs.Updates.{on_commit_as, on_prepare_as};
+ghost use Rattle.node_updates.specs.Keeping.{kept_tidy};
+ghost use Rattle.wire.specs.declared.message.Body.TheVariants as body;
 
 use ccr_commit::Prepared;
 use cl_base::{Bytes, Epoch, NodeId};
-use node_model::{Output, Seat, Stop, UpNode, keep, send};
+use node_decisions::tidy;
+use node_model::{Cluster, Output, Seat, Stop, UpNode, keep, send};
+use node_presidents::is_in;
 use record_disk::RecordDisk;
-use std::alloc::Global;
+use std::alloc::{AllocError, Global};
 use wire::Body;
 
-/// The president asks the member to prepare an update: the member saves it as pending and says so. What
-/// it has already it says again.
+#[tactic(auto, using(node_model::proofs::Plans::gives_follows, crate::proofs::Preparing::taken))]
+/// The president asks the member to prepare an update: the member saves it as pending and says so; of
+/// what it deletes nothing is kept. What it has already it says again.
 pub fn prepare<K: RecordDisk>(
     alloc: Global,
+    cluster: &Cluster,
     me: NodeId,
     disk: &mut K,
     mut up: UpNode,
@@ -24,7 +31,7 @@ pub fn prepare<K: RecordDisk>(
     text: &Bytes,
     out: &mut Vec<Output>,
 ) -> Result<UpNode, Stop>
-    ensures follows { Follows K.saving (on_prepare_as me up from epoch place text.now up.seat) out.old.items disk.old result out.new.items disk.new }
+    ensures follows { Follows K.saving (on_prepare_as cluster.now me up from epoch place text.now up.seat) out.old.items disk.old result out.new.items disk.new }
 {
     if !is_in(&up, epoch) {
         return Ok(up);
@@ -33,10 +40,49 @@ pub fn prepare<K: RecordDisk>(
         return Ok(up);
     };
     match node.prepare(place, text.items())? {
-        Prepared::Taken => keep(alloc, me, disk, &up.seat, out)?,
-        Prepared::Already => {}
-        Prepared::Gap(_) => return Ok(up),
+        Prepared::Taken => {
+            tidy_up(alloc, cluster, &mut up)?;
+            keep_next(alloc, me, disk, up, from, epoch, place, out)
+        }
+        Prepared::Already => answer(up, from, epoch, place, out),
+        Prepared::Gap(_) => Ok(up),
     }
+}
+
+/// Nothing is kept of what the update deletes.
+fn tidy_up(alloc: Global, cluster: &Cluster, up: &mut UpNode) -> Result<(), AllocError>
+    ensures after { OnOk result (up.new ≡ kept_tidy cluster.now up.old) }
+{
+    tidy(alloc, cluster, up)
+}
+
+/// The member saves what it has taken as pending, and then says so.
+fn keep_next<K: RecordDisk>(
+    alloc: Global,
+    me: NodeId,
+    disk: &mut K,
+    up: UpNode,
+    from: NodeId,
+    epoch: Epoch,
+    place: u64,
+    out: &mut Vec<Output>,
+) -> Result<UpNode, Stop>
+    ensures plan { Follows K.saving (keeping me up (answering from (body.Prepared epoch place) up)) out.old.items disk.old result out.new.items disk.new }
+{
+    keep(alloc, me, disk, &up.seat, out)?;
+    answer(up, from, epoch, place, out)
+}
+
+/// The member has prepared the update at this place.
+fn answer(
+    up: UpNode,
+    from: NodeId,
+    epoch: Epoch,
+    place: u64,
+    out: &mut Vec<Output>,
+) -> Result<UpNode, Stop>
+    ensures plan { Gives (answering from (body.Prepared epoch place) up) out.old.items result out.new.items }
+{
     send(out, from, Body::Prepared { epoch, place })?;
     Ok(up)
 }
@@ -60,28 +106,21 @@ pub fn commit<K: RecordDisk>(
         return Ok(up);
     };
     if node.commit(place) {
-        keep(alloc, me, disk, &up.seat, out)?;
+        return keep_as_is(alloc, me, disk, up, out);
     }
     Ok(up)
 }
 
-/// Whether the node is in the session of this epoch, which is one.
-pub fn is_in(up: &UpNode, epoch: Epoch) -> bool
-    ensures value { result ≡ is_in up.now epoch }
+/// The member saves its record as it is now.
+fn keep_as_is<K: RecordDisk>(
+    alloc: Global,
+    me: NodeId,
+    disk: &mut K,
+    up: UpNode,
+    out: &mut Vec<Output>,
+) -> Result<UpNode, Stop>
+    ensures plan { Follows K.saving (keeping me up (Stays up)) out.old.items disk.old result out.new.items disk.new }
 {
-    epoch != Epoch::zero() && up.seat.session() == epoch
-}
-
-/// Whether the node is a member, and what comes is of its own membership.
-pub fn is_member_in(up: &UpNode, epoch: Epoch) -> bool
-    ensures value { result ≡ (is_member up.now.seat && is_in up.now epoch) }
-{
-    up.seat.is_member() && is_in(up, epoch)
-}
-
-/// Whether the message is of a member of the node's own membership.
-pub fn is_of_member(up: &UpNode, from: NodeId, epoch: Epoch) -> bool
-    ensures value { result ≡ is_of_member up.now from epoch }
-{
-    is_member_in(up, epoch) && up.seat.members().has(from)
+    keep(alloc, me, disk, &up.seat, out)?;
+    Ok(up)
 }

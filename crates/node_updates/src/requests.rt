@@ -1,28 +1,31 @@
 // An administrator's command, and the node's requests for the president.
-ghost use Rattle.std.specs.Prelude.{◌≡◌, true, Some};
+ghost use Rattle.std.specs.Prelude.{◌≡◌, ◌++◌, ◌&&◌, true, IfOk, OnOk, Some};
+ghost use Rattle.admin_words.specs.Commands.{command_of};
 ghost use Rattle.answer_words.specs.Answers.{answer_in};
 ghost use Rattle.node_model.specs.Plans.{Follows};
-ghost use Rattle.node_model.specs.Requests.{asking, commanded, is_idle, on_command, on_reply, queued, replied_as};
-ghost use Rattle.node_model.specs.Seats.{coordinator_of, is_member};
+ghost use Rattle.node_model.specs.Requests.{asking, asking_if, commanded, is_idle, numbered, on_command, on_reply, queued, replied_as};
+ghost use Rattle.node_model.specs.Seats.{is_in, is_member, version_of};
+ghost use Rattle.node_updates.specs.Commands.{asked_line, obeyed, read_as, request_text};
+ghost use Rattle.node_updates.specs.Replies.{heard};
+ghost use Rattle.request_queue.specs.Queue.{next_number};
 
-use crate::arriving::arrive;
-use crate::members::is_member_in;
-use crate::queries::query;
-use crate::telling::{copied, reply, tell_own};
-use crate::verdict::word_answer;
+use crate::queries::{coordinator, query};
 use admin_words::parse;
 use answer_words::parse_answer;
 use ccr_tables::AdminCommand;
 use cl_base::{Bytes, Epoch, NodeId};
-use node_model::{Cluster, Output, Stop, UpNode, send, tell};
+use node_model::{Cluster, Output, Seat, Stop, UpNode, send};
+use node_presidents::{arrive, copied, is_member_in, tell_own, word_answer};
+use node_queries::reply;
 use proposals::Arrived;
 use record_disk::RecordDisk;
 use request_queue::{Request, RequestQueue};
 use status_report::{Answer, CommandEntry, Entry};
-use std::alloc::Global;
+use std::alloc::{AllocError, Global};
 use update_words::{ask_words, words};
 use wire::Body;
 
+#[tactic(auto, using(crate::proofs::Commanding::takes))]
 /// An administrator gives the node a command. It takes the next number, which is told first.
 pub fn take_command<K: RecordDisk>(
     alloc: Global,
@@ -35,21 +38,86 @@ pub fn take_command<K: RecordDisk>(
 ) -> Result<UpNode, Stop>
     ensures follows { Follows K.saving (on_command cluster.now me up words.now) out.old.items disk.old result out.new.items disk.new }
 {
+    let Begun { number, read } = begin_with(alloc, cluster, me, &mut up, words, out)?;
+    obey(alloc, cluster, me, disk, up, number, read, out)
+}
+
+/// A command that has its number, or what it is answered.
+#[derive(Drop)]
+struct Begun {
+    number: u64,
+    read: Result<AdminCommand, Answer>,
+}
+
+/// The command has its number, and is read.
+fn begin_with(
+    alloc: Global,
+    cluster: &Cluster,
+    me: NodeId,
+    up: &mut UpNode,
+    words: &[u8],
+    out: &mut Vec<Output>,
+) -> Result<Begun, AllocError>
+    ensures number { IfOk result (λ begun. begun.number ≡ next_number up.old.requests) }
+    ensures read { IfOk result (λ begun. begun.read ≡ read_as (is_member up.old.seat) (command_of (version_of cluster.now) words.now)) }
+    ensures after { up.new ≡ numbered up.old }
+    ensures told { OnOk result (out.new.items ≡ out.old.items ++ asked_line me (next_number up.old.requests)) }
+{
+    let number = begin(me, up, out)?;
+    let read = read_command(alloc, cluster, &up.seat, words)?;
+    Ok(Begun { number, read })
+}
+
+/// The command takes the next number, which is told.
+fn begin(me: NodeId, up: &mut UpNode, out: &mut Vec<Output>) -> Result<u64, AllocError>
+    ensures value { IfOk result (λ number. number ≡ next_number up.old.requests) }
+    ensures after { up.new ≡ numbered up.old }
+    ensures told { OnOk result (out.new.items ≡ out.old.items ++ asked_line me (next_number up.old.requests)) }
+{
     let number = up.requests.take_number();
-    tell(
-        out,
-        Entry::Command(CommandEntry::Asked { node: me, number }),
-    )?;
+    let asked = CommandEntry::Asked { node: me, number };
+    out.push(Output::Tells(Entry::Command(asked)))?;
+    Ok(number)
+}
+
+#[tactic(auto, using(crate::proofs::Commanding::reads_command, crate::proofs::Commanding::reads_other))]
+/// The command of the words, which a member carries out, or what they are answered.
+fn read_command(
+    alloc: Global,
+    cluster: &Cluster,
+    seat: &Seat,
+    words: &[u8],
+) -> Result<Result<AdminCommand, Answer>, AllocError>
+    ensures value { IfOk result (λ read. read ≡ read_as (is_member seat.now) (command_of (version_of cluster.now) words.now)) }
+{
     match parse(alloc, cluster.header.get().version, words) {
-        Ok(command) if up.seat.is_member() => {
-            carry_out(alloc, cluster, me, disk, up, number, command, out)
-        }
-        Ok(_) => reply(me, up, number, Answer::NotMember, out),
-        Err(e) => reply(me, up, number, word_answer(e)?, out),
+        Ok(command) if seat.is_member() => Ok(Ok(command)),
+        Ok(_) => Ok(Err(Answer::NotMember)),
+        Err(e) => Ok(Err(word_answer(e)?)),
     }
 }
 
-#[tactic(auto, using(node_model::proofs::Plans::gives_follows))]
+/// What has been read is carried out or answered.
+fn obey<K: RecordDisk>(
+    alloc: Global,
+    cluster: &Cluster,
+    me: NodeId,
+    disk: &mut K,
+    up: UpNode,
+    number: u64,
+    read: Result<AdminCommand, Answer>,
+    out: &mut Vec<Output>,
+) -> Result<UpNode, Stop>
+    requires member { IfOk read (λ _. is_member up.seat ≡ true) }
+    ensures { Follows K.saving (obeyed cluster.now me up number read) out.old.items disk.old result out.new.items disk.new }
+{
+    match read {
+        Ok(command) => carry_out(alloc, cluster, me, disk, up, number, command, out),
+        Err(answer) => reply(me, up, number, answer, out),
+    }
+}
+
+#[tactic(auto, using(crate::proofs::Commanding::makes_request, crate::proofs::Commanding::makes_none))]
 /// A member makes a request of what is to be done, and answers a query.
 fn carry_out<K: RecordDisk>(
     alloc: Global,
@@ -64,18 +132,20 @@ fn carry_out<K: RecordDisk>(
     requires member { is_member up.seat ≡ true }
     ensures { Follows K.saving (commanded cluster.now me up number command) out.old.items disk.old result out.new.items disk.new }
 {
+    match request_text(alloc, &command)? {
+        Some(text) => queue(alloc, cluster, me, disk, up, number, text, out),
+        None => query(alloc, cluster, me, up, number, command, out),
+    }
+}
+
+/// The text of the request that the command makes. A query makes none.
+fn request_text(alloc: Global, command: &AdminCommand) -> Result<Option<Bytes>, AllocError>
+    ensures value { IfOk result (λ text. text ≡ request_text command.now) }
+{
     match command {
-        AdminCommand::Change(u) => {
-            let text = Bytes::new(words(alloc, &u)?);
-            queue(alloc, cluster, me, disk, up, number, text, out)
-        }
-        AdminCommand::Act(ask) => {
-            let text = Bytes::new(ask_words(alloc, &ask)?);
-            queue(alloc, cluster, me, disk, up, number, text, out)
-        }
-        AdminCommand::Status(_) | AdminCommand::Rows(_) => {
-            query(alloc, cluster, me, up, number, command, out)
-        }
+        AdminCommand::Change(u) => Ok(Some(Bytes::new(words(alloc, u)?))),
+        AdminCommand::Act(ask) => Ok(Some(Bytes::new(ask_words(alloc, ask)?))),
+        AdminCommand::Status(_) | AdminCommand::Rows(_) => Ok(None),
     }
 }
 
@@ -101,22 +171,14 @@ fn queue<K: RecordDisk>(
         number,
         text,
         told: true,
+        second: up.second,
     })?;
-    if alone {
-        ask(alloc, cluster, me, disk, up, out)
-    } else {
-        Ok(up)
-    }
+    ask_if(alone, alloc, cluster, me, disk, up, out)
 }
 
-fn is_idle(requests: &RequestQueue) -> bool
-    ensures { result ≡ is_idle requests.now.waiting }
-{
-    requests.oldest().is_none()
-}
-
-/// The oldest request goes to the president, which may be the node itself.
-fn ask<K: RecordDisk>(
+/// A request that waits alone goes at once.
+pub fn ask_if<K: RecordDisk>(
+    alone: bool,
     alloc: Global,
     cluster: &Cluster,
     me: NodeId,
@@ -125,7 +187,33 @@ fn ask<K: RecordDisk>(
     out: &mut Vec<Output>,
 ) -> Result<UpNode, Stop>
     requires member { is_member up.seat ≡ true }
-    ensures { Follows K.saving (asking cluster.now me up) out.old.items disk.old result out.new.items disk.new }
+    ensures plan { Follows K.saving (asking_if alone cluster.now me up) out.old.items disk.old result out.new.items disk.new }
+{
+    if alone {
+        ask(alloc, cluster, me, disk, up, out)
+    } else {
+        Ok(up)
+    }
+}
+
+/// Whether no request waits.
+pub fn is_idle(requests: &RequestQueue) -> bool
+    ensures value { result ≡ is_idle requests.now.waiting }
+{
+    requests.oldest().is_none()
+}
+
+/// The oldest request goes to the president, which may be the node itself.
+pub fn ask<K: RecordDisk>(
+    alloc: Global,
+    cluster: &Cluster,
+    me: NodeId,
+    disk: &mut K,
+    up: UpNode,
+    out: &mut Vec<Output>,
+) -> Result<UpNode, Stop>
+    requires member { is_member up.seat ≡ true }
+    ensures plan { Follows K.saving (asking cluster.now me up) out.old.items disk.old result out.new.items disk.new }
 {
     let Some(oldest) = up.requests.oldest() else {
         return Ok(up);
@@ -152,13 +240,7 @@ fn ask<K: RecordDisk>(
     Ok(up)
 }
 
-/// The node that coordinates the session.
-pub fn coordinator(up: &UpNode) -> Option<NodeId>
-    ensures value { result ≡ coordinator_of up.now }
-{
-    NodeId::new(up.seat.session().number() % 64).ok()
-}
-
+#[tactic(auto, using(crate::proofs::Replying::takes_answer, crate::proofs::Replying::takes_none))]
 /// The president answers: the answer to the oldest request is told, and the next one goes.
 pub fn take_reply<K: RecordDisk>(
     alloc: Global,
@@ -173,13 +255,26 @@ pub fn take_reply<K: RecordDisk>(
 ) -> Result<UpNode, Stop>
     ensures follows { Follows K.saving (on_reply cluster.now me up epoch number (answer_in text.now)) out.old.items disk.old result out.new.items disk.new }
 {
-    if !is_member_in(&up, epoch) {
-        return Ok(up);
-    }
-    match parse_answer(alloc, text)? {
+    match read_answer(alloc, &up, epoch, text)? {
         Some(answer) => take_answer(alloc, cluster, me, disk, up, number, answer, out),
         None => Ok(up),
     }
+}
+
+#[tactic(auto, unfolding(crate::specs::Replies::heard))]
+/// The answer that the text is, where the node is a member of the membership that it comes from.
+fn read_answer(
+    alloc: Global,
+    up: &UpNode,
+    epoch: Epoch,
+    text: &[u8],
+) -> Result<Option<Answer>, AllocError>
+    ensures value { IfOk result (λ told. told ≡ heard (is_member up.now.seat && is_in up.now epoch) (answer_in text.now)) }
+{
+    if !is_member_in(up, epoch) {
+        return Ok(None);
+    }
+    parse_answer(alloc, text)
 }
 
 fn take_answer<K: RecordDisk>(

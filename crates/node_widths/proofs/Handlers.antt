@@ -1,11 +1,15 @@
 -- Whatever happens to a node, what it does has its widths.
-use Rattle.std.specs.Prelude.{ℕ, ◌≡◌, ◌≤◌, ◌<◌, ◌^◌, ◌+◌, ◌*◌, ◌/◌, ◌==◌, ◌&&◌, nat_le, nat_lt, Bool, true, false, List, [], ◌∷◌, ◌++◌, Option, None, Some, IfSome, Ok, find, is_some, if◌then◌else◌}
+use Rattle.std.specs.Prelude.{ℕ, ◌≡◌, ◌≤◌, ◌<◌, ◌^◌, ◌+◌, ◌*◌, ◌/◌, ◌==◌, ◌&&◌, nat_le, nat_lt, Bool, true, false, List, [], ◌∷◌, Option, None, Some, IfSome, Ok, find, flat_map, is_some, if◌then◌else◌}
 use Rattle.std.proofs.Common.{refl, subst, arith}
 use Rattle.std.specs.Option.{option_map, unwrap_or}
 use Rattle.answer_words.specs.Answers.{answer_in}
 use Rattle.cl_base.specs.Seizings.{SeizeResult}
+use Rattle.cl_base.specs.Limits.{most_nodes}
+use Rattle.cl_base.specs.Numbers.{numbers_to}
 use Rattle.cl_base.specs.Sets.{has, set_without}
+use Rattle.cl_base.specs.declared.method.Outcome.{Outcome}
 use Rattle.ccr_commit.specs.Entries.{all_committed}
+use Rattle.ccr_tables.specs.State.{ConfigState}
 use Rattle.cmm_attempt.specs.declared.phase.Phase.{Phase}
 use Rattle.cmm_attempt.specs.declared.phase.Phase.TheVariants.{Collecting, Choosing, SeizingVotes, SeizingOthers, Installing, Over}
 use Rattle.cmm_attempt.specs.declared.promised.Promised.{Promised}
@@ -14,9 +18,9 @@ use Rattle.cmm_attempt.specs.declared.step.AttemptEnd.TheVariants as ended
 use Rattle.cmm_attempt.specs.declared.step.Step.{Step}
 use Rattle.cmm_attempt.specs.declared.step.Step.TheVariants as step
 use Rattle.cmm_attempt.specs.Attempts.{AttemptState, Turn, beginning, newest_installed, own_readying}
-use Rattle.cmm_attempt.specs.Calls.{Own_ready, Own_seized, Take, Tick as Call_tick, With_votes, turn}
+use Rattle.cmm_attempt.specs.Calls.{Own_ready, Own_seized, Take, Tick as Call_tick, With_votes, starts_in, turn}
 use Rattle.cmm_attempt.specs.Promises.{is_from}
-use Rattle.cmm_attempt.proofs.Basics.{false_true, less, none_some, same_some}
+use Rattle.cmm_attempt.proofs.Basics.{false_true, if_either, less, none_some, same_some}
 use Rattle.attempt_laws.proofs.Walk.{if_with}
 use Rattle.device_queue.specs.declared.progress.Progress.{Progress}
 use Rattle.device_queue.specs.declared.progress.Progress.TheVariants as progress
@@ -26,6 +30,11 @@ use Rattle.heartbeats.specs.Views.{receivers_of}
 use Rattle.pgr_device.specs.declared.command.PrAnswer.TheVariants as given
 use Rattle.pgr_device.specs.declared.command.PrCommand.{PrCommand}
 use Rattle.request_queue.specs.declared.request.Request.{Request}
+use Rattle.rg_props.specs.declared.group.Resource.{Resource}
+use Rattle.rg_view.specs.States as states
+use Rattle.rg_view.specs.declared.view.GroupView.{GroupView}
+use Rattle.rgm_member.specs.Flags.{has_flag}
+use Rattle.rgm_member.specs.Reports.{report_of}
 use Rattle.seize.specs.Answers.{Answer}
 use Rattle.seize.specs.declared.kind.JoinResult.{JoinResult}
 use Rattle.seize.specs.declared.kind.JoinResult.TheVariants as join
@@ -43,15 +52,20 @@ use Rattle.wire.specs.Spelling.{FitsResult, IsDevice, IsNode, IsNodes, IsWord}
 use Rattle.node_model.specs.declared.cluster.Cluster.{Cluster}
 use Rattle.node_model.specs.declared.input.Input.TheVariants as input
 use Rattle.node_model.specs.declared.node.UpNode.{UpNode}
+use Rattle.node_model.specs.declared.output.Output.{Output}
+use Rattle.node_model.specs.declared.presidency.Presidency.{Presidency}
 use Rattle.node_model.specs.declared.seat.Seat.{Seat}
 use Rattle.node_model.specs.declared.seat.Seat.TheVariants.{Forming, Member}
 use Rattle.node_model.specs.Attempts as attempts
-use Rattle.node_model.specs.Attempts.{begins_install, installing, is_choosing, left_out_by, may_count_on, next_epoch, own_promise, presiding, promise_of, resting, start_lines, starting_as, under_way, votes_in}
+use Rattle.node_model.specs.Attempts.{adopted_line, adopted_lines, adopted_of, adopted_on, begins_install, installing, is_adopted, is_choosing, left_out_by, may_count_on, next_epoch, own_promise, presiding, promise_of, reports_of, resting, start_lines, starting_as, under_way, votes_in}
+use Rattle.node_model.specs.Configurations.{in_force, own_config}
+use Rattle.node_model.specs.Deciding as deciding
 use Rattle.node_model.specs.Devices as devices
 use Rattle.node_model.specs.Devices.{distrusting, joining_so}
 use Rattle.node_model.specs.Members as members
 use Rattle.node_model.specs.Members.{hearing, is_foreign, promised_so, ready_of, rested_by, sitting}
 use Rattle.node_model.specs.Entries.{answering, telling, telling_of, unknown_lines}
+use Rattle.node_model.specs.Groups.{orders_again, own_order, own_turn}
 use Rattle.node_model.specs.Plans.{Plan}
 use Rattle.node_model.specs.Plans.Plan.{Stays, Falls, Says}
 use Rattle.node_model.specs.Seats.{coordinator_of, installed_of, is_in, promised_of, promising, record_of, session_of, state_of}
@@ -60,13 +74,17 @@ use Rattle.node_model.specs.Ticks.{heartbeats_to, later, membership_of, members_
 use Rattle.node_model.specs.Updates.{prepares_again, request_again}
 use Rattle.node_widths.specs.Widths.{AllFit, AreDevices, AttemptFits, BodyFits, AnswerFits, PresidencyFits, PromisedFits, StateFits, UpFits}
 use Rattle.node_widths.specs.Plans.{PlanFits, StepsKeepWidths}
+use Rattle.node_widths.proofs.Deciding.{decides}
+use Rattle.node_widths.proofs.Groups.{done_so, order_so, orders_again_fits, own_turn_fits, report_so}
 use Rattle.node_widths.proofs.Nodes.{answers, base_fits, both_fit, committed_fits, coordinator_is_node, either_fits, first_read_fits, heartbeats_fit, installing_fits, joined_fits, keeps, later_fits, promised_fits, seizing_here_fits, shown_fits, then_fits, unknown_fit, valid_fits, with_attempt_fits, with_state_fits, with_tasks_fits}
+use Rattle.node_widths.proofs.Orders.{begun_fits}
 use Rattle.node_widths.proofs.Queues.{nothing_fits}
 use Rattle.node_widths.proofs.Requests.{command_so, reply_so}
 use Rattle.node_widths.proofs.Sets.{device_without, held_fits}
 use Rattle.node_widths.proofs.Tasks.{ProgressFits, answered_fit, found_fits, kept_fits, progress_fits, put_fits}
 use Rattle.node_widths.proofs.Turns.{AllSteps, EndFits, StepFits, first_fits, turn_fits}
-use Rattle.node_widths.proofs.Updates.{asked_so, commit_so, prepare_so, prepared_so, prepares_again_fits, request_again_fits}
+use Rattle.node_widths.proofs.Updates.{asked_so, commit_so, prepare_so, prepared_fits_so, prepares_again_fits, request_again_fits}
+use Rattle.node_widths.proofs.Workers.{report_fits}
 
 -- The steps of an attempt.
 
@@ -87,7 +105,7 @@ left_out_fits (ended.Foreign m) h = tt
 left_out_fits (ended.Excluded m) h = h
 
 rests : (c : Cluster) (n : ℕ) (x : UpNode) → UpFits c n x → UpFits c n (resting x)
-rests c n x h = record { state = h.state; all_tasks = h.all_tasks; own = tt; seen = h.seen; asked = h.asked; presides = h.presides }
+rests c n x h = record { state = h.state; all_tasks = h.all_tasks; own = tt; seen = h.seen; asked = h.asked; works = h.works; clock = h.clock; presides = h.presides }
 
 ends : (c : Cluster) (n : ℕ) (x : UpNode) (e : AttemptEnd) (o : Option AttemptState) → EndFits e → IfSome o AttemptFits → UpFits c n x → PlanFits c n (attempts.ending n x e o)
 ends c n x e None is f h = h
@@ -104,19 +122,47 @@ installs_here c n x i (Forming s) f state h =
     let k : UpFits c n y = installing_fits c n x s [] i f state tt h in
     either_fits c n (attempts.installs_now s i) (attempts.installed_so n y i.epoch (Stays y)) (Stays x) (keeps c n y (telling_of n (note.Installed i.epoch) (Stays y)) k (tt, k)) h
 
-presides : (a : AttemptState) → AttemptFits a → PresidencyFits (presiding a)
-presides a f = (nothing_fits, held_fits a.devices f.seizings)
+presides : (c : Cluster) (n : ℕ) (x : UpNode) (a : AttemptState) → AttemptFits a → PresidencyFits (presiding c n x a)
+presides c n x a f =
+    (nothing_fits, held_fits a.devices f.seizings, begun_fits (own_config c x) a.plan.epoch a.plan.members (reports_of n (report_of x.worker (own_config c x)) a) x.second f.epoch)
 
-started_with : (c : Cluster) (n : ℕ) (x : UpNode) (a : AttemptState) (seat : Seat) → AttemptFits a → StateFits (state_of seat) → UpFits c n x → PlanFits c n (attempts.starting_with n x a seat)
+-- Lines have no widths.
+
+each_fits : {X : Type 0} (f : X → List Output) (xs : List X) → ((x : X) → AllFit (f x)) → AllFit (flat_map f xs)
+each_fits f [] h = tt
+each_fits f (x ∷ xs) h = both_fit (f x) (flat_map f xs) (h x) (each_fits f xs h)
+
+adopted_fits : (e : ℕ) (v : GroupView) (resources : List (List ℕ × Resource)) → AllFit (adopted_lines e v resources)
+unfolding adopted_lines
+adopted_fits e v resources =
+    each_fits (adopted_on e v resources) (numbers_to v.members most_nodes)
+    (λ n. each_fits (λ x. adopted_line e n x.0 (states.state_of v.resources x.0 n)) resources (λ x. if_either AllFit (is_adopted (states.state_of v.resources x.0 n)) _ [] tt tt))
+
+adopted_of_fits : (e : ℕ) (s : ConfigState) (o : Option Presidency) → AllFit (adopted_of e s o)
+adopted_of_fits e s None = tt
+adopted_of_fits e s (Some p) = adopted_fits e p.groups.view s.groups.resources
+
+started_with : (c : Cluster) (n : ℕ) (x : UpNode) (a : AttemptState) (seat : Seat) → AttemptFits a → StateFits (state_of seat) → UpFits c n x → PlanFits c n (attempts.starting_with c n x a seat)
 started_with c n x a (Member s) f state h = h
 started_with c n x a (Forming s) f state h =
-    let y : UpNode = starting_as x a s in
-    let k : UpFits c n y = record { state = committed_fits s state; all_tasks = h.all_tasks; own = tt; seen = h.seen; asked = h.asked; presides = presides a f } in
-    let lines : PlanFits c n (start_lines a s (telling_of n (note.Member a.plan.epoch) (Stays y))) = (tt, (base_fits a.plan.epoch 0 (all_committed s.saved.entries).committed, (tt, k))) in
-    either_fits c n (attempts.starts_now s a.plan.epoch) (attempts.keeping_if (is_some s.saved.entries.pending) n y (start_lines a s (telling_of n (note.Member a.plan.epoch) (Stays y)))) (Stays x)
-    (either_fits c n (is_some s.saved.entries.pending) _ _ (keeps c n y (start_lines a s (telling_of n (note.Member a.plan.epoch) (Stays y))) k lines) lines) h
+    let y : UpNode = starting_as c n x a s in
+    let k : UpFits c n y = record {
+      state = committed_fits s state;
+      all_tasks = h.all_tasks;
+      own = tt;
+      seen = h.seen;
+      asked = h.asked;
+      works = (f.epoch, tt, h.works.2, h.works.3);
+      clock = h.clock;
+      presides = presides c n x a f;
+    } in
+    let last : Plan = telling_of n (note.Member a.plan.epoch) (Stays y) in
+    let lines : PlanFits c n (start_lines c a s y last) =
+    (tt, (base_fits a.plan.epoch 0 (all_committed s.saved.entries).committed, (adopted_of_fits a.plan.epoch (in_force c y) y.presidency, (tt, k)))) in
+    either_fits c n (attempts.starts_now s a.plan.epoch) (attempts.started_so c n a s y) (Stays x)
+    (either_fits c n (is_some s.saved.entries.pending) _ _ (keeps c n y (start_lines c a s y last) k lines) lines) h
 
-starts_here : (c : Cluster) (n : ℕ) (x : UpNode) (o : Option AttemptState) → IfSome o AttemptFits → UpFits c n x → PlanFits c n (attempts.starting_here n x o)
+starts_here : (c : Cluster) (n : ℕ) (x : UpNode) (o : Option AttemptState) → IfSome o AttemptFits → UpFits c n x → PlanFits c n (attempts.starting_here c n x o)
 starts_here c n x None f h = h
 starts_here c n x (Some a) f h = started_with c n x a x.seat f h.state h
 
@@ -133,18 +179,23 @@ does_steps c n x [] f h = h
 does_steps c n x (s ∷ steps) f h =
     then_fits c n (attempts.step_plan c n x s) (λ y. attempts.performing c n y steps) (does_step c n x s f.0 h) (λ y k. does_steps c n y steps f.1 k)
 
+does_all : (c : Cluster) (n : ℕ) (x : UpNode) (steps : List Step) → AllSteps steps → UpFits c n x → PlanFits c n (attempts.performed_all c n x steps)
+does_all c n x steps f h =
+    then_fits c n (attempts.performing c n x steps) (λ y. if starts_in steps then deciding.deciding c n y else Stays y) (does_steps c n x steps f h)
+    (λ y k. either_fits c n (starts_in steps) (deciding.deciding c n y) (Stays y) (decides c n y k) k)
+
 readied : (c : Cluster) (n : ℕ) (x : UpNode) (o : Option AttemptState) → IfSome o AttemptFits → UpFits c n x → PlanFits c n (attempts.readied_by c n x o)
 readied c n x None f h = h
 readied c n x (Some a) f h =
     let good : AttemptFits (turn a Own_ready).after × AllSteps (turn a Own_ready).steps = turn_fits a Own_ready tt tt f in
-    does_steps c n (under_way x (own_readying a).after) (own_readying a).steps good.1 (with_attempt_fits c n x (Some (own_readying a).after) good.0 h)
+    does_all c n (under_way x (own_readying a).after) (own_readying a).steps good.1 (with_attempt_fits c n x (Some (own_readying a).after) good.0 h)
 
 own_ready_fits : (c : Cluster) (n : ℕ) (x : UpNode) → UpFits c n x → PlanFits c n (attempts.own_ready c n x)
 own_ready_fits c n x h = either_fits c n (joins x.tasks) (Stays x) (attempts.readied_by c n x x.attempt) h (readied c n x x.attempt h.own h)
 
 performed_fits : (c : Cluster) (n : ℕ) (x : UpNode) (steps : List Step) → AllSteps steps → UpFits c n x → PlanFits c n (attempts.performed c n x steps)
 performed_fits c n x steps f h =
-    then_fits c n (attempts.performing c n x steps) (λ y. if begins_install steps then attempts.own_ready c n y else Stays y) (does_steps c n x steps f h)
+    then_fits c n (attempts.performed_all c n x steps) (λ y. if begins_install steps then attempts.own_ready c n y else Stays y) (does_all c n x steps f h)
     (λ y k. either_fits c n (begins_install steps) (attempts.own_ready c n y) (Stays y) (own_ready_fits c n y k) k)
 
 choosing_is : (phase : Phase) → is_choosing phase ≡ true → phase ≡ Choosing
@@ -177,12 +228,12 @@ led_fits c n y waiting p members are small set h =
       (
         unknown_fit n waiting,
         goes_on c n y (beginning p members (own_promise n y p) c.attached c.id)
-            (first_fits p members (own_promise n y p) c.attached c.id small set (shown_fits (record_of y) p h.state.record_fits small) are.few are.attached) h,
+            (first_fits p members (own_promise n y p) c.attached c.id small set (shown_fits (record_of y) (has_flag y.worker) p h.state.record_fits small) are.few are.attached) h,
       ),
     )
 
 promises_so : (c : Cluster) (n : ℕ) (x : UpNode) (p : ℕ) → IsWord p → UpFits c n x → UpFits c n (promising x p)
-promises_so c n x p small h = record { state = promised_fits (state_of x.seat) p small h.state; all_tasks = tt; own = tt; seen = h.seen; asked = (h.asked.0, tt); presides = tt }
+promises_so c n x p small h = record { state = promised_fits (state_of x.seat) p small h.state; all_tasks = tt; own = tt; seen = h.seen; asked = (h.asked.0, tt); works = h.works; clock = h.clock; presides = tt }
 
 leads : (c : Cluster) (n : ℕ) (x : UpNode) (p members : ℕ) → AreDevices c → IsWord p → IsNodes members → UpFits c n x → PlanFits c n (attempts.leading_to c n x p members)
 leads c n x p members are small set h =
@@ -220,15 +271,26 @@ ticks_by c n x None are is f h =
 
 ticked_fits : (c : Cluster) (n : ℕ) (before x : UpNode) → UpFits c n before → StateFits (state_of x.seat) → AllFit (ticks.ticked_output c before x)
 ticked_fits c n before x h state =
-    both_fit (heartbeats_to x (receivers_of x.beats c.configured) ++ request_again before) (prepares_again before)
-    (both_fit (heartbeats_to x (receivers_of x.beats c.configured)) (request_again before) (heartbeats_fit x (receivers_of x.beats c.configured) state) (request_again_fits c n before h))
-    (prepares_again_fits c n before h)
+    both_fit (heartbeats_to x (receivers_of x.beats c.configured)) (request_again before) (heartbeats_fit x (receivers_of x.beats c.configured) state) (request_again_fits c n before h)
 
-ticks_so : (c : Cluster) (n : ℕ) (x : UpNode) → AreDevices c → IsNode n → UpFits c n x → PlanFits c n (ticks.on_tick c n x)
-ticks_so c n x are is h =
+again_output_fits : (c : Cluster) (n : ℕ) (before x : UpNode) → UpFits c n before → UpFits c n x → AllFit (ticks.again_output before x)
+again_output_fits c n before x h k = both_fit (prepares_again before) (orders_again before x) (prepares_again_fits c n before h) (orders_again_fits c n before x k)
+
+governs : (c : Cluster) (n : ℕ) (outcome : Outcome) (before x : UpNode) → IsNode n → UpFits c n before → UpFits c n x → PlanFits c n (ticks.governing c n outcome before x)
+governs c n outcome before x is h k =
+    then_fits c n (own_turn c n outcome x (own_order n x)) (ticks.going_again c n before) (own_turn_fits c n outcome x is k)
+    (λ y l. (again_output_fits c n before y h l, decides c n y l))
+
+ticks_so : (c : Cluster) (n : ℕ) (outcome : Outcome) (x : UpNode) → AreDevices c → IsNode n → UpFits c n x → PlanFits c n (ticks.on_tick c n outcome x)
+ticks_so c n outcome x are is h =
     let y : UpNode = later c x in
-    let k : UpFits c n y = later_fits c n x h in
-    (tt, (ticked_fits c n x y h k.state, ticks_by c n y y.attempt are is k.own k))
+    let k : UpFits c n y = later_fits c n x h in (
+      tt,
+      (
+        ticked_fits c n x y h k.state,
+        then_fits c n (ticks.governing c n outcome x y) (λ z. ticks.attempt_ticked c n z z.attempt) (governs c n outcome x y is h k) (λ z l. ticks_by c n z z.attempt are is l.own l),
+      ),
+    )
 
 -- Messages.
 
@@ -245,7 +307,7 @@ superseded_fits c n x p None rest h = h
 superseded_fits c n x p (Some a) rest h = (tt, h)
 
 promise_answers : (c : Cluster) (n : ℕ) (x : UpNode) (from p : ℕ) → IsNode from → IsWord p → UpFits c n x → PlanFits c n (answering from (promise_of x p) x)
-promise_answers c n x from p is small h = answers c n from (promise_of x p) x is.0 (shown_fits (record_of x) p h.state.record_fits small) h
+promise_answers c n x from p is small h = answers c n from (promise_of x p) x is.0 (shown_fits (record_of x) (has_flag x.worker) p h.state.record_fits small) h
 
 collects_so : (c : Cluster) (n : ℕ) (x : UpNode) (from p : ℕ) → IsNode from → IsWord p → UpFits c n x → PlanFits c n (members.on_collect n x from p)
 collects_so c n x from p is small h =
@@ -266,10 +328,10 @@ seizes_so : (c : Cluster) (n : ℕ) (x : UpNode) (from : ℕ) (kind : SeizeKind)
 seizes_so c n x from kind e ms d is small device h =
     either_fits c n (is_in x e) _ (Stays x) (requests_so c n x from kind e ms d (kept_of x.tasks d) is small device (kept_fits c n x.tasks d h.all_tasks) h) h
 
-readies : (c : Cluster) (n : ℕ) (x : UpNode) (to : ℕ) → IsNode to → UpFits c n x → PlanFits c n (members.readying x to)
+readies : (c : Cluster) (n : ℕ) (x : UpNode) (to : ℕ) → IsNode to → UpFits c n x → PlanFits c n (members.readying c x to)
 readies c n x to is h =
-    either_fits c n (joins x.tasks) (Stays x) (answering to (ready_of x) x) h
-    (answers c n to (ready_of x) x is.0 (h.state.session, h.state.joined, ((omega arith, tt), (omega arith, tt))) h)
+    either_fits c n (joins x.tasks) (Stays x) (answering to (ready_of c x) x) h
+    (answers c n to (ready_of c x) x is.0 (h.state.session, h.state.joined, report_fits x.worker (own_config c x) h.works) h)
 
 installs_as : (c : Cluster) (n : ℕ) (x : UpNode) (from : ℕ) (i : Install) (seat : Seat) → IsNode from → BodyFits (body.Install i) → StateFits (state_of seat) → UpFits c n x
     → PlanFits c n (members.on_install_as c n x from i seat)
@@ -277,7 +339,7 @@ installs_as c n x from i (Member s) is f state h = readies c n x from is h
 installs_as c n x from i (Forming s) is f state h =
     let y : UpNode = installing c n x s x.tasks i in
     let k : UpFits c n y = installing_fits c n x s x.tasks i f state h.all_tasks h in
-    either_fits c n (s.saved.installed == i.epoch) (members.readying x from) _ (readies c n x from is h) (keeps c n y (telling_of n (note.Installed i.epoch) (members.readying y from)) k (tt, readies c n y from is k))
+    either_fits c n (s.saved.installed == i.epoch) (members.readying c x from) _ (readies c n x from is h) (keeps c n y (telling_of n (note.Installed i.epoch) (members.readying c y from)) k (tt, readies c n y from is k))
 
 installs_so : (c : Cluster) (n : ℕ) (x : UpNode) (from : ℕ) (i : Install) → IsNode from → BodyFits (body.Install i) → UpFits c n x → PlanFits c n (members.on_install c n x from i)
 installs_so c n x from i is f h =
@@ -288,38 +350,47 @@ sits_as : (c : Cluster) (n : ℕ) (x : UpNode) (e : ℕ) (seat : Seat) → State
 sits_as c n x e (Member s) state h = h
 sits_as c n x e (Forming s) state h =
     let y : UpNode = sitting x s in
-    let k : UpFits c n y = record { state = committed_fits s state; all_tasks = h.all_tasks; own = h.own; seen = h.seen; asked = h.asked; presides = h.presides } in
+    let k : UpFits c n y = record {
+      state = committed_fits s state;
+      all_tasks = h.all_tasks;
+      own = h.own;
+      seen = h.seen;
+      asked = h.asked;
+      works = (state.session, tt, h.works.2, h.works.3);
+      clock = h.clock;
+      presides = h.presides;
+    } in
     either_fits c n (attempts.starts_now s e) _ (Stays x) (either_fits c n (is_some s.saved.entries.pending) _ _ (keeps c n y (telling_of n (note.Member e) (Stays y)) k (tt, k)) (tt, k)) h
 
 takes_so : (c : Cluster) (n : ℕ) (x : UpNode) (from : ℕ) (m : Message) (o : Option AttemptState) → BodyFits m.body → IfSome o AttemptFits → UpFits c n x → PlanFits c n (members.on_answer c n x from m o)
 takes_so c n x from m None f g h = h
 takes_so c n x from m (Some a) f g h = goes_on c n x (turn a (Take from m)) (turn_fits a (Take from m) tt f g) h
 
-body_so : (c : Cluster) (n : ℕ) (x : UpNode) (from : ℕ) (m : Message) (b : Body) → m.body ≡ b → IsNode n → IsNode from → BodyFits m.body → BodyFits b → UpFits c n x
-    → PlanFits c n (members.on_body c n x from m b)
-body_so c n x from m (body.Heartbeat promised session member) e own is whole f h = beats_so c n x from session member is h
-body_so c n x from m (body.Collect p members) e own is whole f h = collects_so c n x from p is f.0 h
-body_so c n x from m (body.Promise p installed members valid flagged committed pending) e own is whole f h = takes_so c n x from m x.attempt whole h.own h
-body_so c n x from m (body.Nack p promised) e own is whole f h = takes_so c n x from m x.attempt whole h.own h
-body_so c n x from m (body.SeizeQuorum p members d) e own is whole f h = seizes_so c n x from Vote p members d is f.0 f.2 h
-body_so c n x from m (body.SeizeData p members d) e own is whole f h = seizes_so c n x from Plain p members d is f.0 f.2 h
-body_so c n x from m (body.Seized p d outcome) e own is whole f h = takes_so c n x from m x.attempt whole h.own h
-body_so c n x from m (body.Install i) e own is whole f h = installs_so c n x from i is f h
-body_so c n x from m (body.Ready p joined report) e own is whole f h = takes_so c n x from m x.attempt whole h.own h
-body_so c n x from m (body.Start p) e own is whole f h = sits_as c n x p x.seat h.state h
-body_so c n x from m (body.Prepare p place text) e own is whole f h = prepare_so c n x from p place text x.seat is f.0 f.1 h.state h
-body_so c n x from m (body.Prepared p place) e own is whole f h = prepared_so c n x from p place own h
-body_so c n x from m (body.Commit p place) e own is whole f h = commit_so c n x p place x.seat h.state h
-body_so c n x from m (body.Order o) e own is whole f h = h
-body_so c n x from m (body.Done p number outcome) e own is whole f h = h
-body_so c n x from m (body.Request p number text) e own is whole f h = asked_so c n x from p number text own is f.1 h
-body_so c n x from m (body.Answer p number text) e own is whole f h = reply_so c n x p number (answer_in text) own h
-body_so c n x from m (body.Excluded p newest) e own is whole f h = either_fits c n (is_in x p) (Falls _) (Stays x) tt h
+body_so : (c : Cluster) (n : ℕ) (outcome : Outcome) (x : UpNode) (from : ℕ) (m : Message) (b : Body) → m.body ≡ b → IsNode n → IsNode from → BodyFits m.body → BodyFits b → UpFits c n x
+    → PlanFits c n (members.on_body c n outcome x from m b)
+body_so c n outcome x from m (body.Heartbeat promised session member) e own is whole f h = beats_so c n x from session member is h
+body_so c n outcome x from m (body.Collect p members) e own is whole f h = collects_so c n x from p is f.0 h
+body_so c n outcome x from m (body.Promise p installed members valid flagged committed pending) e own is whole f h = takes_so c n x from m x.attempt whole h.own h
+body_so c n outcome x from m (body.Nack p promised) e own is whole f h = takes_so c n x from m x.attempt whole h.own h
+body_so c n outcome x from m (body.SeizeQuorum p members d) e own is whole f h = seizes_so c n x from Vote p members d is f.0 f.2 h
+body_so c n outcome x from m (body.SeizeData p members d) e own is whole f h = seizes_so c n x from Plain p members d is f.0 f.2 h
+body_so c n outcome x from m (body.Seized p d result) e own is whole f h = takes_so c n x from m x.attempt whole h.own h
+body_so c n outcome x from m (body.Install i) e own is whole f h = installs_so c n x from i is f h
+body_so c n outcome x from m (body.Ready p joined report) e own is whole f h = takes_so c n x from m x.attempt whole h.own h
+body_so c n outcome x from m (body.Start p) e own is whole f h = sits_as c n x p x.seat h.state h
+body_so c n outcome x from m (body.Prepare p place text) e own is whole f h = prepare_so c n x from p place text x.seat is f.0 f.1 h.state h
+body_so c n outcome x from m (body.Prepared p place) e own is whole f h = prepared_fits_so c n x from p place own h
+body_so c n outcome x from m (body.Commit p place) e own is whole f h = commit_so c n x p place x.seat h.state h
+body_so c n outcome x from m (body.Order o) e own is whole f h = order_so c n outcome x from o is f.0 f.1 h
+body_so c n outcome x from m (body.Done p number ended) e own is whole f h = done_so c n x from p number ended own h
+body_so c n outcome x from m (body.Request p number text) e own is whole f h = asked_so c n x from p number text own is f.1 h
+body_so c n outcome x from m (body.Answer p number text) e own is whole f h = reply_so c n x p number (answer_in text) own h
+body_so c n outcome x from m (body.Excluded p newest) e own is whole f h = either_fits c n (is_in x p) (Falls _) (Stays x) tt h
 
-packet_so : (c : Cluster) (n : ℕ) (x : UpNode) (from : ℕ) (m : Message) → IsNode n → IsNode from → BodyFits m.body → UpFits c n x → PlanFits c n (members.on_packet c n x from m)
-packet_so c n x from m own is f h =
-    either_fits c n (is_foreign c n x m.body) (Stays x) (members.on_body c n (hearing x from m.body) from m m.body) h
-    (body_so c n (hearing x from m.body) from m m.body refl own is f f h)
+packet_so : (c : Cluster) (n : ℕ) (outcome : Outcome) (x : UpNode) (from : ℕ) (m : Message) → IsNode n → IsNode from → BodyFits m.body → UpFits c n x → PlanFits c n (members.on_packet c n outcome x from m)
+packet_so c n outcome x from m own is f h =
+    either_fits c n (is_foreign c n x m.body) (Stays x) (members.on_body c n outcome (hearing x from m.body) from m m.body) h
+    (body_so c n outcome (hearing x from m.body) from m m.body refl own is f f h)
 
 -- Devices.
 
@@ -373,11 +444,12 @@ written c n x d value _ h = (tt, h)
 -- The law.
 
 pub steps_keep_widths : StepsKeepWidths
-steps_keep_widths c n x input.Boot are is h f = h
-steps_keep_widths c n x input.Crash are is h f = tt
-steps_keep_widths c n x input.Tick are is h f = ticks_so c n x are is h
-steps_keep_widths c n x (input.Packet from m) are is h f = packet_so c n x from m is f.0 f.1 h
-steps_keep_widths c n x input.CommandDue are is h f = distrusts c n x (begins_plainly x.tasks) h
-steps_keep_widths c n x (input.Answered a) are is h f = answered_so c n x a (due_device x.tasks) (next_of x.tasks) f h
-steps_keep_widths c n x (input.Wrote d value a) are is h f = (tt, written c n x d value a h)
-steps_keep_widths c n x (input.Commanded words) are is h f = command_so c n x words is h
+steps_keep_widths c n outcome x input.Boot are is h f = h
+steps_keep_widths c n outcome x input.Crash are is h f = tt
+steps_keep_widths c n outcome x input.Tick are is h f = ticks_so c n outcome x are is h
+steps_keep_widths c n outcome x (input.Packet from m) are is h f = packet_so c n outcome x from m is f.0 f.1 h
+steps_keep_widths c n outcome x input.CommandDue are is h f = distrusts c n x (begins_plainly x.tasks) h
+steps_keep_widths c n outcome x (input.Answered a) are is h f = answered_so c n x a (due_device x.tasks) (next_of x.tasks) f h
+steps_keep_widths c n outcome x (input.Wrote d value a) are is h f = (tt, written c n x d value a h)
+steps_keep_widths c n outcome x (input.Commanded words) are is h f = command_so c n x words is h
+steps_keep_widths c n outcome x (input.Reported r good) are is h f = report_so c n x r good is h

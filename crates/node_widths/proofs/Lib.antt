@@ -2,11 +2,17 @@ pub mod Sets
 pub mod Tasks
 pub mod Attempts
 pub mod Turns
+pub mod Workers
 pub mod Nodes
 pub mod Queues
 pub mod Rooms
+pub mod Names
+pub mod Orders
+pub mod Deciding
+pub mod Clears
 pub mod Presidents
 pub mod Requests
 pub mod Updates
+pub mod Groups
 pub mod Handlers
 pub mod Lengths

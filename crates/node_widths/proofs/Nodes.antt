@@ -18,6 +18,8 @@ use Rattle.heartbeats.specs.Peers.{older}
 use Rattle.heartbeats.specs.Views.{is_in_view, view_of}
 use Rattle.request_queue.specs.Queue.{Queue}
 use Rattle.request_queue.specs.declared.request.Request.{Request}
+use Rattle.rgm_member.specs.Keeping.{kept_under}
+use Rattle.rgm_member.specs.State.{WorkerState}
 use Rattle.seize.specs.declared.kind.SeizeKind.{SeizeKind}
 use Rattle.seize.specs.declared.kind.SeizeKind.TheVariants.{Vote, Plain}
 use Rattle.seize.specs.Seizing.{first_step}
@@ -34,19 +36,21 @@ use Rattle.node_model.specs.declared.output.Output.TheVariants.{Tells, Sends}
 use Rattle.node_model.specs.declared.presidency.Presidency.{Presidency}
 use Rattle.node_model.specs.declared.seat.Seat.{Seat}
 use Rattle.node_model.specs.declared.seat.Seat.TheVariants.{Forming, Member}
-use Rattle.node_model.specs.Attempts.{base_lines, installing, seizing_here, shown_in}
+use Rattle.node_model.specs.Attempts.{base_lines, installing, joining_from, seizing_here, shown_in}
 use Rattle.node_model.specs.Entries.{answering, keeping, replying, unknown_line, unknown_lines}
 use Rattle.node_model.specs.Plans.{Plan, and_then}
 use Rattle.node_model.specs.Plans.Plan.{Stays, Falls, Says, Saves}
-use Rattle.node_model.specs.Presidents.{sent_to}
+use Rattle.node_model.specs.Configurations.{own_config}
+use Rattle.node_model.specs.Presidents.{sent_to, tidied}
 use Rattle.node_model.specs.Seats.{coordinator_of, node_numbered, session_of, state_of, with_state}
 use Rattle.node_model.specs.Ticks.{heartbeat_of, heartbeats_to, later}
 use Rattle.node_model.specs.Updates.{later_presidency}
-use Rattle.node_widths.specs.Widths.{AllFit, AttemptFits, BodyFits, PresidencyFits, QueueFits, ReadFits, RecordFits, StateFits, UpFits}
+use Rattle.node_widths.specs.Widths.{AllFit, AttemptFits, BodyFits, PresidencyFits, QueueFits, ReadFits, RecordFits, StateFits, UpFits, WorkerFits}
 use Rattle.node_widths.specs.Plans.{PlanFits}
 use Rattle.node_widths.proofs.Sets.{device_with, device_without, nodes_where}
 use Rattle.node_widths.proofs.Tasks.{TasksFit, joinings_fit, put_fits}
 use Rattle.node_widths.proofs.Turns.{numbers_are_nodes}
+use Rattle.node_widths.proofs.Workers.{kept_fits}
 
 -- Plans, one after another.
 
@@ -89,8 +93,8 @@ heartbeats_fit x receivers f = each_fits (heartbeat_of x) (numbers_to receivers 
 
 -- Records and states.
 
-pub shown_fits : (r : NodeRecord) (p : ℕ) → RecordFits r → IsWord p → BodyFits (shown_in r p)
-shown_fits r p h small = (small, h.installed, h.members, h.valid, h.places)
+pub shown_fits : (r : NodeRecord) (flagged : Bool) (p : ℕ) → RecordFits r → IsWord p → BodyFits (shown_in r flagged p)
+shown_fits r flagged p h small = (small, h.installed, h.members, h.valid, h.places)
 
 pub promised_fits : (s : NodeState) (p : ℕ) → IsWord p → StateFits s → StateFits (promised_to s p)
 promised_fits s p small h = record {
@@ -155,6 +159,11 @@ pub next_entry_fits : (s : NodeState) (text : List ℕ) → IsWord (length (text
 next_entry_fits s text small h =
     entries_fit s (with_next s.saved.entries text) (subst IsWord (sym (length-append (texts_of s.saved.entries) (text ∷ []))) small) h
 
+-- A worker.
+
+pub with_worker_fits : (c : Cluster) (n : ℕ) (x : UpNode) (w : WorkerState) → WorkerFits w → UpFits c n x → UpFits c n (record x { worker = w })
+with_worker_fits c n x w f h = record { state = h.state; all_tasks = h.all_tasks; own = h.own; seen = h.seen; asked = h.asked; works = f; clock = h.clock; presides = h.presides }
+
 -- An install.
 
 abbrev pub TwoFit : Devices → Type 0
@@ -183,16 +192,22 @@ installed_fits s i f h =
       joined = two.1;
     }
 
+-- it keeps no more of resources and groups than its own configuration has
+pub tidied_fits : (c : Cluster) (n : ℕ) (x : UpNode) → UpFits c n x → UpFits c n (tidied c x)
+tidied_fits c n x h = with_worker_fits c n x (kept_under (own_config c x) x.worker) (kept_fits (own_config c x) x.worker h.works) h
+
 pub installing_fits : (c : Cluster) (n : ℕ) (x : UpNode) (s : NodeState) (tasks : List Task) (i : Install) → BodyFits (body.Install i) → StateFits s → TasksFit c n tasks → UpFits c n x
     → UpFits c n (installing c n x s tasks i)
-installing_fits c n x s tasks i f state all h = record {
+installing_fits c n x s tasks i f state all h = tidied_fits c n (record x { seat = Forming (installed_with s i); tasks = joining_from c n i.epoch (installed_with s i).joined tasks i.readings }) (record {
   state = installed_fits s i f state;
   all_tasks = joinings_fit c n i.epoch (installed_with s i).joined tasks i.readings f.3.1 all;
   own = h.own;
   seen = h.seen;
   asked = h.asked;
+  works = h.works;
+  clock = h.clock;
   presides = h.presides;
-}
+})
 
 -- The node with one of its parts changed.
 
@@ -201,17 +216,17 @@ state_with (Forming t) s = refl
 state_with (Member t) s = refl
 
 pub with_state_fits : (c : Cluster) (n : ℕ) (x : UpNode) (s : NodeState) → StateFits s → UpFits c n x → UpFits c n (record x { seat = with_state x.seat s })
-with_state_fits c n x s f h = record { state = subst StateFits (sym (state_with x.seat s)) f; all_tasks = h.all_tasks; own = h.own; seen = h.seen; asked = h.asked; presides = h.presides }
+with_state_fits c n x s f h = record { state = subst StateFits (sym (state_with x.seat s)) f; all_tasks = h.all_tasks; own = h.own; seen = h.seen; asked = h.asked; works = h.works; clock = h.clock; presides = h.presides }
 
 pub with_tasks_fits : (c : Cluster) (n : ℕ) (x : UpNode) (tasks : List Task) → TasksFit c n tasks → UpFits c n x → UpFits c n (record x { tasks = tasks })
-with_tasks_fits c n x tasks f h = record { state = h.state; all_tasks = f; own = h.own; seen = h.seen; asked = h.asked; presides = h.presides }
+with_tasks_fits c n x tasks f h = record { state = h.state; all_tasks = f; own = h.own; seen = h.seen; asked = h.asked; works = h.works; clock = h.clock; presides = h.presides }
 
 pub with_attempt_fits : (c : Cluster) (n : ℕ) (x : UpNode) (o : Option AttemptState) → IfSome o AttemptFits → UpFits c n x → UpFits c n (record x { attempt = o })
-with_attempt_fits c n x o f h = record { state = h.state; all_tasks = h.all_tasks; own = f; seen = h.seen; asked = h.asked; presides = h.presides }
+with_attempt_fits c n x o f h = record { state = h.state; all_tasks = h.all_tasks; own = f; seen = h.seen; asked = h.asked; works = h.works; clock = h.clock; presides = h.presides }
 
 pub with_requests_fits : (c : Cluster) (n : ℕ) (x : UpNode) (q : Queue) (o : Option Presidency) → QueueFits q → IfSome o PresidencyFits → UpFits c n x
     → UpFits c n (record x { requests = q; presidency = o })
-with_requests_fits c n x q o f k h = record { state = h.state; all_tasks = h.all_tasks; own = h.own; seen = h.seen; asked = f; presides = k }
+with_requests_fits c n x q o f k h = record { state = h.state; all_tasks = h.all_tasks; own = h.own; seen = h.seen; asked = f; works = h.works; clock = h.clock; presides = k }
 
 later_presides : (o : Option Presidency) → IfSome o PresidencyFits → IfSome (later_presidency o) PresidencyFits
 later_presides None h = tt
@@ -225,6 +240,8 @@ later_fits c n x h = record {
   own = h.own;
   seen = nodes_where (is_in_view x.beats.me (map older x.beats.peers) c.configured) 32 (omega arith);
   asked = h.asked;
+  works = h.works;
+  clock = h.clock;
   presides = later_presides x.presidency h.presides;
 }
 

@@ -62,7 +62,7 @@ with_arrival_fits s a Past f h = h
 
 pub with_own_fits : (n : ℕ) (s : State) (o : Option Request) → IsNode n → IfSome o RequestFits → ProposalsFit s → ProposalsFit (with_own n s o)
 with_own_fits n s None is f h = h
-with_own_fits n s (Some r) is f h = with_arrival_fits s (own_arrival n r) _ (is, f) h
+with_own_fits n s (Some r) is f h = with_arrival_fits s (own_arrival n r) _ (is, f.0) h
 
 answer_fits : (s : State) (arrived : List Arrived) (text : List ℕ) → AllByRecursion ArrivedFits arrived → ProposalsFit s → ProposalsFit (answer_first s arrived text)
 answer_fits s [] text f h = h

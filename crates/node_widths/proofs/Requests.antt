@@ -29,25 +29,25 @@ use Rattle.node_widths.proofs.Queues.{answered_queue_fits, numbered_fits, oldest
 
 goes_to : (c : Cluster) (n : ℕ) (x : UpNode) (r : Request) (o : Option ℕ) → RequestFits r → IfSome o IsNode → UpFits c n x → PlanFits c n (requests.request_to x r o)
 goes_to c n x r None f is h = h
-goes_to c n x r (Some president) f is h = answers c n president (body.Request (session_of x) r.number r.text) x is.0 (h.state.session, f) h
+goes_to c n x r (Some president) f is h = answers c n president (body.Request (session_of x) r.number r.text) x is.0 (h.state.session, f.0) h
 
 asks_of : (c : Cluster) (n : ℕ) (x : UpNode) (r : Request) (o : Option Presidency) → IsNode n → RequestFits r → IfSome o PresidencyFits → UpFits c n x → PlanFits c n (requests.asking_of c n x r o)
 asks_of c n x r None is f office h = goes_to c n x r (coordinator_of x) f (coordinator_is_node x) h
-asks_of c n x r (Some p) is f office h = arrives c n x p (own_arrival n r) is (is, f) office h
+asks_of c n x r (Some p) is f office h = arrives c n x p (own_arrival n r) is (is, f.0) office h
 
 asks_for : (c : Cluster) (n : ℕ) (x : UpNode) (o : Option Request) → IsNode n → IfSome o RequestFits → UpFits c n x → PlanFits c n (requests.asking_for c n x o)
 asks_for c n x None is f h = h
 asks_for c n x (Some r) is f h = asks_of c n x r x.presidency is f h.presides h
 
-asks : (c : Cluster) (n : ℕ) (x : UpNode) → IsNode n → UpFits c n x → PlanFits c n (requests.asking c n x)
+pub asks : (c : Cluster) (n : ℕ) (x : UpNode) → IsNode n → UpFits c n x → PlanFits c n (requests.asking c n x)
 asks c n x is h = asks_for c n x (oldest x.requests) is (oldest_fits x.requests.waiting h.asked.1) h
 
 -- A request waits.
 
 waits : (c : Cluster) (n : ℕ) (x : UpNode) (number : ℕ) (text : List ℕ) → IsWord number → UpFits c n x → UpFits c n (waiting_with x number text)
 waits c n x number text small h =
-    let r : Request = record { number = number; text = text; told = true } in
-    with_requests_fits c n x (with_request x.requests r) x.presidency (with_request_fits x.requests r small h.asked) h.presides h
+    let r : Request = record { number = number; text = text; told = true; second = x.second } in
+    with_requests_fits c n x (with_request x.requests r) x.presidency (with_request_fits x.requests r (small, h.clock) h.asked) h.presides h
 
 queues : (c : Cluster) (n : ℕ) (x : UpNode) (number : ℕ) (text : List ℕ) → IsNode n → IsWord number → UpFits c n x → PlanFits c n (requests.queued c n x number text)
 queues c n x number text is small h =

@@ -36,7 +36,8 @@ use Rattle.wire.specs.Spelling.{IsWord}
 use Rattle.node_model.specs.declared.cluster.Cluster.{Cluster}
 use Rattle.node_model.specs.declared.node.UpNode.{UpNode}
 use Rattle.node_model.specs.declared.presidency.Presidency.{Presidency}
-use Rattle.node_model.specs.Presidents.{checked, in_force, length_of, next_place, nothing_up}
+use Rattle.node_model.specs.Configurations.{in_force}
+use Rattle.node_model.specs.Presidents.{checked, length_of, next_place}
 use Rattle.node_model.specs.Seats.{record_of}
 
 -- Refusals, one behind the other.
@@ -126,11 +127,11 @@ has_place c x p (Change u) h =
     let texts : List (List ℕ) = texts_of (record_of x).entries in
     let members : ℕ = (record_of x).members in
     let s : ConfigState = in_force c x in
-    let allowed : refusal_in s (nothing_up members) members p.held (length_of c x) u ≡ None = change_allowed (refusal_in s (nothing_up members) members p.held (length_of c x) u) u h in
-    let room : length_with s (length_of c x) u ≤ most_bytes = has_room s (length_of c x) u (room_none s (nothing_up members) members p.held (length_of c x) u allowed) in
+    let allowed : refusal_in s p.groups.view members p.held (length_of c x) u ≡ None = change_allowed (refusal_in s p.groups.view members p.held (length_of c x) u) u h in
+    let room : length_with s (length_of c x) u ≤ most_bytes = has_room s (length_of c x) u (room_none s p.groups.view members p.held (length_of c x) u allowed) in
     fewer (length texts) (full_length c.nodes c.devices texts) (length (decimal (updates_in s.generations + 1))) (length (words_of u)) (report_length (changed s u).groups)
     (updates_many c.nodes c.devices texts) room
-has_place c x p (Act ask) h = absurd (no_change (refusal_of_ask (in_force c x) (nothing_up (record_of x).members) ask) ask h)
+has_place c x p (Act ask) h = absurd (no_change (refusal_of_ask (in_force c x) p.groups.view ask) ask h)
 has_place c x p (Status query) h = absurd h
 has_place c x p (Rows name) h = absurd (no_rows (table_named (in_force c x).groups.version name) name h)
 

@@ -25,10 +25,10 @@ use Rattle.node_model.specs.Presidents as presidents
 use Rattle.node_model.specs.Presidents.{with_proposals}
 use Rattle.node_model.specs.Seats.{coordinator_of, is_in, record_of, session_of, state_of}
 use Rattle.node_model.specs.Updates as updates
-use Rattle.node_model.specs.Updates.{commits_now, committed_so, is_of_member}
+use Rattle.node_model.specs.Updates.{commits_now, committed_so, is_of_member, prepared_so}
 use Rattle.node_widths.specs.Widths.{AllFit, PresidencyFits, ProposedFits, RequestFits, StateFits, UpFits}
 use Rattle.node_widths.specs.Plans.{PlanFits}
-use Rattle.node_widths.proofs.Nodes.{answers, committed_fits, coordinator_is_node, either_fits, keeps, next_entry_fits, sent_to_fits, then_fits}
+use Rattle.node_widths.proofs.Nodes.{answers, committed_fits, coordinator_is_node, either_fits, keeps, next_entry_fits, sent_to_fits, then_fits, tidied_fits}
 use Rattle.node_widths.proofs.Presidents.{acknowledges_so, arrives, handles, with_proposals_fits}
 use Rattle.node_widths.proofs.Queues.{oldest_fits, prepared_fits}
 
@@ -59,23 +59,25 @@ taken_place count place h = by_tests (nat_le place count) (place == count + 1) r
     by_tests false false is f = absurd f
 
 prepares : (c : Cluster) (n : ℕ) (x : UpNode) (from e place : ℕ) (s : NodeState) (text : List ℕ) (a : Prepared) → IsNode from → IsWord e → IsWord place
-    → (IsTaken a → place ≡ length (texts_of s.saved.entries) + 1) → StateFits s → UpFits c n x → PlanFits c n (updates.preparing n x from e place s text a)
+    → (IsTaken a → place ≡ length (texts_of s.saved.entries) + 1) → StateFits s → UpFits c n x → PlanFits c n (updates.preparing c n x from e place s text a)
 prepares c n x from e place s text Taken who epoch small next state h =
-    let y : UpNode = record x { seat = Member (with_entries s (with_next s.saved.entries text)) } in
-    let k : UpFits c n y = record {
+    let y : UpNode = prepared_so c x s text in
+    let k : UpFits c n y = tidied_fits c n (record x { seat = Member (with_entries s (with_next s.saved.entries text)) }) (record {
       state = next_entry_fits s text (subst IsWord (next tt) small) state;
       all_tasks = h.all_tasks;
       own = h.own;
       seen = h.seen;
       asked = h.asked;
+      works = h.works;
+      clock = h.clock;
       presides = h.presides;
-    } in
+    }) in
     keeps c n y (answering from (body.Prepared e place) y) k (answers c n from (body.Prepared e place) y who.0 (epoch, small) k)
 prepares c n x from e place s text Already who epoch small next state h = answers c n from (body.Prepared e place) x who.0 (epoch, small) h
 prepares c n x from e place s text (Gap k) who epoch small next state h = h
 
 pub prepare_so : (c : Cluster) (n : ℕ) (x : UpNode) (from e place : ℕ) (text : List ℕ) (seat : Seat) → IsNode from → IsWord e → IsWord place → StateFits (state_of seat) → UpFits c n x
-    → PlanFits c n (updates.on_prepare_as n x from e place text seat)
+    → PlanFits c n (updates.on_prepare_as c n x from e place text seat)
 prepare_so c n x from e place text (Forming s) who epoch small state h = h
 prepare_so c n x from e place text (Member s) who epoch small state h =
     either_fits c n (is_in x e) _ (Stays x)
@@ -85,7 +87,7 @@ prepare_so c n x from e place text (Member s) who epoch small state h =
 
 prepared_all_fits : (c : Cluster) (n : ℕ) (x : UpNode) (p : Presidency) → IsNode n → UpFits c n x → PlanFits c n (updates.prepared_all c n x p)
 prepared_all_fits c n x p is h =
-    either_fits c n (is_prepared p.proposals) _ (Stays x) (then_fits c n (presidents.acknowledging n x) (presidents.handling c n) (acknowledges_so c n x is h) (λ y k. handles c n y is k)) h
+    either_fits c n (is_prepared p.proposals) _ (Stays x) (then_fits c n (presidents.acknowledging c n x) (presidents.handling c n) (acknowledges_so c n x is h) (λ y k. handles c n y is k)) h
 
 prepared_at_fits : (c : Cluster) (n : ℕ) (x : UpNode) (from place : ℕ) (o : Option Presidency) → IsNode n → IfSome o PresidencyFits → UpFits c n x → PlanFits c n (updates.prepared_at c n x from place o)
 prepared_at_fits c n x from place None is office h = h
@@ -93,8 +95,8 @@ prepared_at_fits c n x from place (Some p) is office h =
     let s : State = prepared_by p.proposals from place in
     prepared_all_fits c n (with_proposals x p s) (record p { proposals = s }) is (with_proposals_fits c n x p s (prepared_fits p.proposals from place office.0) office h)
 
-pub prepared_so : (c : Cluster) (n : ℕ) (x : UpNode) (from e place : ℕ) → IsNode n → UpFits c n x → PlanFits c n (updates.on_prepared c n x from e place)
-prepared_so c n x from e place is h = either_fits c n (is_of_member x from e) _ (Stays x) (prepared_at_fits c n x from place x.presidency is h.presides h) h
+pub prepared_fits_so : (c : Cluster) (n : ℕ) (x : UpNode) (from e place : ℕ) → IsNode n → UpFits c n x → PlanFits c n (updates.on_prepared c n x from e place)
+prepared_fits_so c n x from e place is h = either_fits c n (is_of_member x from e) _ (Stays x) (prepared_at_fits c n x from place x.presidency is h.presides h) h
 
 -- Commit.
 
@@ -108,6 +110,8 @@ commit_so c n x e place (Member s) state h =
       own = h.own;
       seen = h.seen;
       asked = h.asked;
+      works = h.works;
+      clock = h.clock;
       presides = h.presides;
     } in
     either_fits c n (is_in x e && commits_now s place) _ (Stays x) (keeps c n y (Stays y) k k) h
@@ -115,7 +119,7 @@ commit_so c n x e place (Member s) state h =
 -- What goes again at a tick.
 
 again_to_fits : (c : Cluster) (n : ℕ) (x : UpNode) (r : Option Request) (o : Option ℕ) → IfSome r RequestFits → IfSome o IsNode → UpFits c n x → AllFit (updates.request_again_to x r o)
-again_to_fits c n x (Some r) (Some president) f is h = (is.0, (h.state.session, f), tt)
+again_to_fits c n x (Some r) (Some president) f is h = (is.0, (h.state.session, f.0), tt)
 again_to_fits c n x None president f is h = tt
 again_to_fits c n x (Some r) None f is h = tt
 

@@ -1,5 +1,6 @@
--- What a node does in one step keeps widths, whatever comes of its saves.
+-- What a node does in one step keeps widths, whatever comes of its saves, and however a method ends that it calls.
 use Rattle.std.specs.Prelude.{ℕ}
+use Rattle.cl_base.specs.declared.method.Outcome.{Outcome}
 use Rattle.wire.specs.Spelling.{IsNode}
 use Rattle.node_model.specs.declared.cluster.Cluster.{Cluster}
 use Rattle.node_model.specs.declared.input.Input.{Input}
@@ -18,4 +19,5 @@ PlanFits c n (Saves r rest) = RecordFits r × PlanFits c n rest
 
 -- The law.
 abbrev pub StepsKeepWidths : Type 0
-StepsKeepWidths = (c : Cluster) (n : ℕ) (x : UpNode) (i : Input) → AreDevices c → IsNode n → UpFits c n x → InputFits i → PlanFits c n (plan_of c n x i)
+StepsKeepWidths =
+    (c : Cluster) (n : ℕ) (outcome : Outcome) (x : UpNode) (i : Input) → AreDevices c → IsNode n → UpFits c n x → InputFits i → PlanFits c n (plan_of c n outcome x i)

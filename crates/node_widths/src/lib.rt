@@ -8,8 +8,9 @@
 ghost use Rattle.node_widths.specs.Plans.{StepsKeepWidths};
 ghost use Rattle.node_widths.specs.Widths.{SentMessagesFit};
 
-/// Where a node has its widths, and what happens to it too, each message that it sends goes to a node from number 1 on and has its
-/// widths; so do the records that it saves, and the node after the step. The cluster has at most 16 devices.
+/// Where a node has its widths, its second of the clock too, and what happens to it has its own, each message that it sends goes to a
+/// node from number 1 on and has its widths, and each order is for a name; so do the records that it saves, and the node after the
+/// step. The cluster has at most 16 devices.
 pub fn steps_keep_widths()
     ensures { StepsKeepWidths }
 {}

@@ -49,7 +49,8 @@ use Rattle.node_model.specs.declared.cluster.Cluster.{Cluster}
 use Rattle.node_model.specs.declared.node.UpNode.{UpNode}
 use Rattle.node_model.specs.declared.presidency.Presidency.{Presidency}
 use Rattle.node_model.specs.declared.seat.Seat.TheVariants.{Member}
-use Rattle.node_model.specs.Presidents.{in_force, length_of, nothing_up}
+use Rattle.node_model.specs.Configurations.{in_force}
+use Rattle.node_model.specs.Presidents.{length_of}
 use Rattle.node_model.specs.Seats.{record_of, state_of, version_of}
 use Rattle.refinement.specs.Guards.{IsAccepted}
 use Rattle.refinement.specs.Ties.{HasLog, IsLog}
@@ -210,10 +211,10 @@ accepted_comes : (c : Cluster) (x : UpNode) (p : Presidency) (text : List ℕ) (
     → with_text s text ≡ Some (applied s a.update)
 accepted_comes c x p text s is version a =
     let same : a.request ≡ a.update =
-    accepted_is (refusal_in (in_force c x) (nothing_up (record_of x).members) (record_of x).members p.held (length_of c x) a.request) a.request a.update a.checked_so in
-    let holds : command.Holds (in_force c x) (nothing_up (record_of x).members) (record_of x).members p.held (length_of c x) a.update =
-    accepting (in_force c x) (nothing_up (record_of x).members) (record_of x).members p.held (length_of c x) a.update
-    (subst (λ u. unless_refused (refusal_in (in_force c x) (nothing_up (record_of x).members) (record_of x).members p.held (length_of c x) u) (accepted.Change u) ≡ Ok (accepted.Change a.update)) same a.checked_so) in
+    accepted_is (refusal_in (in_force c x) p.groups.view (record_of x).members p.held (length_of c x) a.request) a.request a.update a.checked_so in
+    let holds : command.Holds (in_force c x) p.groups.view (record_of x).members p.held (length_of c x) a.update =
+    accepting (in_force c x) p.groups.view (record_of x).members p.held (length_of c x) a.update
+    (subst (λ u. unless_refused (refusal_in (in_force c x) p.groups.view (record_of x).members p.held (length_of c x) u) (accepted.Change u) ≡ Ok (accepted.Change a.update)) same a.checked_so) in
     let read : command_of (version_of c) (words_of a.update) ≡ Ok (wish.Change a.update) =
     read_again (version_of c) a.asked_for a.update (a.read ∙ ap (λ u. Ok (asked.Change u)) same) in
     subst (λ t. with_text s t ≡ Some (applied s a.update)) (sym a.words)

@@ -1,11 +1,12 @@
 -- What is done in memory, and sent, keeps the tie, and what is sent is true.
-use Rattle.std.specs.Prelude.{ℕ, ◌-◌, ◌≡◌, ◌<◌, ◌≤◌, ◌⊎◌, ◌++◌, ◌+◌, true, false, List, [], ◌∷◌, length, map, slice_get, take, Option, None, Some, IsSome, Ok, Err}
+use Rattle.std.specs.Prelude.{ℕ, ◌-◌, ◌≡◌, ◌<◌, ◌≤◌, ◌⊎◌, ◌++◌, ◌+◌, true, false, List, [], ◌∷◌, flat_map, length, map, slice_get, take, Option, None, Some, IsSome, Ok, Err}
 use Rattle.std.proofs.Common.{refl, sym, ap, subst, ◌∙◌, inl, inr, arith}
 use Rattle.ccr_commit.specs.Entries.{texts_of}
 use Rattle.cl_base.specs.Limits.{most_nodes}
 use Rattle.cl_base.specs.Numbers.{numbers_to}
 use Rattle.cl_base.specs.Sets.{has}
 use Rattle.pgr_device.specs.declared.command.PrAnswer.TheVariants as given
+use Rattle.rg_view.specs.States as states
 use Rattle.seize.specs.Answers.{Answer}
 use Rattle.wire.specs.declared.message.Body.{Body}
 use Rattle.wire.specs.declared.message.Body.TheVariants as body
@@ -32,12 +33,11 @@ use Rattle.node_model.specs.declared.output.Output.TheVariants.{Sends, Tells}
 use Rattle.node_model.specs.declared.presidency.Presidency.{Presidency}
 use Rattle.node_model.specs.declared.seat.Seat.{Seat}
 use Rattle.node_model.specs.declared.seat.Seat.TheVariants.{Forming, Member}
-use Rattle.node_model.specs.Attempts.{base_lines, seizing_here}
+use Rattle.node_model.specs.Attempts.{adopted_line, adopted_lines, adopted_of, adopted_on, base_lines, is_adopted, seizing_here, starting_as}
+use Rattle.node_model.specs.Configurations.{in_force}
 use Rattle.node_model.specs.Entries.{unknown_line, unknown_lines}
 use Rattle.node_model.specs.Presidents.{last_place, sent_to}
-use Rattle.node_model.specs.Updates.{later_presidency, prepares_again, prepares_again_by, prepares_of, request_again, request_again_by, request_again_to}
-use Rattle.proposals.specs.Proposing.{goes_again as proposals_again}
-use Rattle.proposals.specs.declared.arrived.Proposed.{Proposed}
+use Rattle.node_model.specs.Updates.{later_presidency, request_again, request_again_by, request_again_to}
 use Rattle.request_queue.specs.Queue.{goes_again, oldest}
 use Rattle.request_queue.specs.declared.request.Request.{Request}
 use Rattle.node_model.specs.Seats as seats
@@ -46,8 +46,8 @@ use Rattle.node_model.specs.Ticks.{heartbeat_of, heartbeats_to, later, ticked_ou
 use Rattle.heartbeats.specs.Views.{receivers_of}
 use Rattle.cmm_attempt.specs.Calls.{IsDevice}
 use Rattle.std.specs.Prelude.{All}
-use Rattle.refinement.specs.Doings.{Act, Change, Doing, Site, acted, changed, effect, first_lines, gives, going, gone_line, last_lines, minded, said, saved_lines, site, start_lines, superseded_lines, write_lines}
-use Rattle.refinement.specs.Doings.Act.{Accepts, Ends, Gives, Goes_on, Hears, Makes, Minds, Notes, Queues, Spreads, Stores, Takes, Ticks, Waits, Writes}
+use Rattle.refinement.specs.Doings.{Act, Change, Doing, Site, acted, adopted_by, changed, effect, first_lines, gives, going, gone_line, last_lines, minded, said, saved_lines, site, start_lines, superseded_lines, write_lines}
+use Rattle.refinement.specs.Doings.Act.{Accepts, Dates, Ends, Gives, Goes_on, Hears, Makes, Minds, Notes, Queues, Spreads, Stores, Takes, Ticks, Waits, Works, Writes}
 use Rattle.refinement.specs.Doings.Change.{Acks, Admits, Commits, Counts, Distrusts, Installs, Leads, Prepares, Promises, Proposes, Sits, Starts}
 use Rattle.refinement.specs.Doings.Doing.{Comes_up, Does, Forgets, Goes_down, Loses, Saves}
 use Rattle.refinement.specs.Events.{of_act, of_change, of_doing, of_forgotten}
@@ -91,22 +91,56 @@ told_unknown M n (r ∷ rs) = told_append M n (unknown_line n r) (unknown_lines 
     one_unknown : (q : Request) → AllTold M n (unknown_line n q)
     one_unknown q = if_either (λ os. AllTold M n os) q.told _ [] (tt, tt) tt
 
-last_told : (M : Memberships) (n : ℕ) (x : UpNode) (ch : Change) → AllTold M n (last_lines n x ch)
-last_told M n x (Promises p) = told_append M n (superseded_lines p x.attempt) (unknown_lines n x.requests.waiting) (told_superseded M n p x.attempt) (told_unknown M n x.requests.waiting)
-last_told M n x (Leads p members) = (tt, told_unknown M n x.requests.waiting)
-last_told M n x (Counts a k s i) = (tt, tt)
-last_told M n x (Installs s i) = (tt, tt)
-last_told M n x (Starts a k s) = told_append M n (start_lines (turn a k).after s) _ (tt, told_base M n _ 0 _) (tt, tt)
-last_told M n x (Sits s e) = (tt, tt)
-last_told M n x (Distrusts d) = tt
-last_told M n x (Admits at command a d) = tt
-last_told M n x (Proposes s p text) = tt
-last_told M n x (Acks s p q left text) = (tt, tt)
-last_told M n x (Prepares s text) = tt
-last_told M n x (Commits s) = tt
+-- nothing but lines
+abbrev AllTell : List Output → Type 0
+AllTell [] = Unit {0}
+AllTell (Tells e ∷ os) = AllTell os
+AllTell (Sends to b ∷ os) = ⊥
 
-saved_told : (M : Memberships) (n : ℕ) (x : UpNode) (ch : Change) → AllTold M n (first_lines n ch ++ saved_lines n x ch)
-saved_told M n x ch = told_append M n (first_lines n ch) (saved_lines n x ch) (first_told M n ch) (tt, last_told M n x ch)
+told_lines : (M : Memberships) (n : ℕ) (os : List Output) → AllTell os → AllTold M n os
+told_lines M n [] h = tt
+told_lines M n (Tells e ∷ os) h = (tt, told_lines M n os h)
+told_lines M n (Sends to b ∷ os) h = absurd h
+
+tell_append : (os more : List Output) → AllTell os → AllTell more → AllTell (os ++ more)
+tell_append [] more h k = k
+tell_append (Tells e ∷ os) more h k = tell_append os more h k
+tell_append (Sends to b ∷ os) more h k = absurd h
+
+tell_each : {X : Type 0} → (f : X → List Output) (xs : List X) → ((x : X) → AllTell (f x)) → AllTell (flat_map f xs)
+tell_each f [] h = tt
+tell_each f (x ∷ xs) h = tell_append (f x) (flat_map f xs) (h x) (tell_each f xs h)
+
+adopted_lines_tell : (c : Cluster) (a : AttemptState) (y : UpNode) → AllTell (adopted_by c a y)
+unfolding adopted_lines
+adopted_lines_tell c a y = by_presidency y.presidency
+  where
+    by_presidency : (o : Option Presidency) → AllTell (adopted_of a.plan.epoch (in_force c y) o)
+    by_presidency None = tt
+    by_presidency (Some p) =
+        tell_each (adopted_on a.plan.epoch p.groups.view (in_force c y).groups.resources) (numbers_to p.groups.view.members most_nodes)
+        (λ m. tell_each (λ r. adopted_line a.plan.epoch m r.0 (states.state_of p.groups.view.resources r.0 m)) (in_force c y).groups.resources
+        (λ r. if_either AllTell (is_adopted (states.state_of p.groups.view.resources r.0 m)) _ [] tt tt))
+
+last_told : (c : Cluster) (M : Memberships) (n : ℕ) (x : UpNode) (ch : Change) → AllTold M n (last_lines c n x ch)
+last_told c M n x (Promises p) = told_append M n (superseded_lines p x.attempt) (unknown_lines n x.requests.waiting) (told_superseded M n p x.attempt) (told_unknown M n x.requests.waiting)
+last_told c M n x (Leads p members) = (tt, told_unknown M n x.requests.waiting)
+last_told c M n x (Counts a k s i) = (tt, tt)
+last_told c M n x (Installs s i) = (tt, tt)
+last_told c M n x (Starts a k s) =
+    let t : AttemptState = (turn a k).after in
+    let adopted : List Output = adopted_by c t (starting_as c n x t s) in
+    told_append M n (start_lines t s) (adopted ++ _) (tt, told_base M n _ 0 _) (told_append M n adopted _ (told_lines M n adopted (adopted_lines_tell c t (starting_as c n x t s))) (tt, tt))
+last_told c M n x (Sits s e) = (tt, tt)
+last_told c M n x (Distrusts d) = tt
+last_told c M n x (Admits at command a d) = tt
+last_told c M n x (Proposes s p text) = tt
+last_told c M n x (Acks s p q left text) = (tt, tt)
+last_told c M n x (Prepares s text) = tt
+last_told c M n x (Commits s) = tt
+
+saved_told : (c : Cluster) (M : Memberships) (n : ℕ) (x : UpNode) (ch : Change) → AllTold M n (first_lines n ch ++ saved_lines c n x ch)
+saved_told c M n x ch = told_append M n (first_lines n ch) (saved_lines c n x ch) (first_told M n ch) (tt, last_told c M n x ch)
 
 lost_told : (M : Memberships) (n : ℕ) (ch : Change) (more : List Output) → AllTold M n more → AllTold M n (first_lines n ch ++ more)
 lost_told M n ch more h = told_append M n (first_lines n ch) more (first_told M n ch) h
@@ -335,7 +369,7 @@ told_one M n to (body.Start e) h = absurd h
 told_one M n to (body.Prepare e place text) h = absurd h
 told_one M n to (body.Prepared e place) h = absurd h
 told_one M n to (body.Commit e place) h = absurd h
-told_one M n to (body.Order o) h = absurd h
+told_one M n to (body.Order o) h = tt
 told_one M n to (body.Done e number outcome) h = absurd h
 told_one M n to (body.Excluded e newest) h = absurd h
 
@@ -355,29 +389,10 @@ told_request_by : (M : Memberships) (n : ℕ) (x : UpNode) (o : Option Presidenc
 told_request_by M n x None = if_either (λ os. AllTold M n os) (goes_again x.requests) (request_again_to x (oldest x.requests) (coordinator_of x)) [] (told_request M n x (oldest x.requests) (coordinator_of x)) tt
 told_request_by M n x (Some p) = tt
 
--- what is proposed is pending at the last place
-told_proposed : (c : Cluster) (M : Memberships) (n : ℕ) (x : UpNode) (s : NodeState) (o : Option Proposed) (pending : Option (List ℕ)) → Holds (setting_of c) M → x.seat ≡ Member s → MemberTied c M n x s
-    → ProposedTied M n s o → (record_of x).entries.pending ≡ pending → AllTold M n (prepares_of x o pending)
-told_proposed c M n x s None pending i at m h is = tt
-told_proposed c M n x s (Some p) None i at m h is = tt
-told_proposed c M n x s (Some p) (Some text) i at m h is =
-    told_sent M n p.missing (body.Prepare (session_of x) p.place text)
-    (prepare_told c M n x s (session_of x) p.place text i at m refl (h.0 ∙ ap (λ z. length (texts_of (state_of z).saved.entries)) (sym at)) is)
-
-told_prepares : (c : Cluster) (M : Memberships) (n : ℕ) (disk : NodeRecord) (x : UpNode) (o : Option Presidency) (seat : Seat) → Holds (setting_of c) M → NodeTied c M n disk (Up x) → x.seat ≡ seat
-    → PresidentTied M n o seat → AllTold M n (prepares_again_by x o)
-told_prepares c M n disk x None seat i tied at h = tt
-told_prepares c M n disk x (Some p) (Forming s) i tied at h = absurd h
-told_prepares c M n disk x (Some p) (Member s) i tied at h =
-    if_either (λ os. AllTold M n os) (proposals_again p.proposals) (prepares_of x p.proposals.proposed (record_of x).entries.pending) []
-    (told_proposed c M n x s p.proposals.proposed (record_of x).entries.pending i at (member_tied c M n x disk s tied at) h.proposed refl) tt
-
-told_tick : (c : Cluster) (M : Memberships) (n : ℕ) (disk : NodeRecord) (x : UpNode) → Holds (setting_of c) M → NodeTied c M n disk (Up x) → AllTold M n (ticked_output c x (later c x))
-told_tick c M n disk x i tied =
+told_tick : (c : Cluster) (M : Memberships) (n : ℕ) (x : UpNode) → AllTold M n (ticked_output c x (later c x))
+told_tick c M n x =
     let beats : List Output = heartbeats_to (later c x) (receivers_of (later c x).beats c.configured) in
-    told_append M n (beats ++ request_again x) (prepares_again x)
-    (told_append M n beats (request_again x) (told_heartbeats M n (later c x) (receivers_of (later c x).beats c.configured)) (told_request_by M n x x.presidency))
-    (told_prepares c M n disk x x.presidency x.seat i tied refl tied.1)
+    told_append M n beats (request_again x) (told_heartbeats M n (later c x) (receivers_of (later c x).beats c.configured)) (told_request_by M n x x.presidency)
 
 -- A president with something else in hand.
 
@@ -399,7 +414,7 @@ pub act_goes : (c : Cluster) (M : Memberships) (n : ℕ) (told : Delivered) (x :
     → NodeTied c M n disk (Up x) → MayAct c n told x a → GoesOn c M n (site (Up (acted c n x a)) disk) (said c n x a) (of_act n a)
 act_goes c M n told x disk (Hears from b) fits i known tied may = no_event c M n _ [] i tied tt
 act_goes c M n told x disk Ticks fits i known tied may =
-    no_event c M n (site (Up (later c x)) disk) _ i (tied.0, later_president M n x.presidency x.seat tied.1, tied.2) (tt, told_tick c M n disk x i tied)
+    no_event c M n (site (Up (later c x)) disk) _ i (tied.0, later_president M n x.presidency x.seat tied.1, tied.2) (tt, told_tick c M n x)
 act_goes c M n told x disk Waits fits i known tied may = no_event c M n _ [] i tied tt
 act_goes c M n told x disk (Goes_on a k) fits i known tied may =
     no_event c M n (site (Up (going x a k)) disk) [] i
@@ -417,11 +432,13 @@ act_goes c M n told x disk (Minds q p) fits i known tied may =
     no_event c M n (site (Up (minded x q p)) disk) [] i (tied.0, minded_president M n x.presidency p x.seat may tied.1, tied.2) tt
 act_goes c M n told x disk (Notes from place p) fits i known tied may =
     no_event c M n (site (Up (acted c n x (Notes from place p))) disk) [] i (notes c M n told x disk from place p i known tied may.0 may.1) tt
+act_goes c M n told x disk (Dates now) fits i known tied may = no_event c M n _ [] i tied tt
+act_goes c M n told x disk (Works w) fits i known tied may = no_event c M n _ [] i tied tt
 act_goes c M n told x disk (Makes ch) fits i known tied may =
     let e : Sees M n disk (state_of x.seat) = sees c M n disk x.attempt x.seat tied.0 in
-    with_lines c M n (site (Up (changed c n x ch)) disk) (first_lines n ch ++ last_lines n x ch) (of_change n ch)
+    with_lines c M n (site (Up (changed c n x ch)) disk) (first_lines n ch ++ last_lines c n x ch) (of_change n ch)
     (subst (λ r. GoesOn c M n (site (Up (changed c n x ch)) r) [] (of_change n ch)) (may.1 ∙ sym e.disk_so) (change_goes c M n told x disk ch fits i known tied may.0))
-    (λ N. told_append N n (first_lines n ch) (last_lines n x ch) (first_told N n ch) (last_told N n x ch))
+    (λ N. told_append N n (first_lines n ch) (last_lines c n x ch) (first_told N n ch) (last_told c N n x ch))
 
 -- Each small step.
 
@@ -448,7 +465,7 @@ does_up c M n told x disk (Goes_down why) fits i known tied may =
     with_lines c M n (site Down disk) (gone_line n why) (Crash n ∷ []) (goes_down c M n (site (Up x) disk) i tied) (λ N. (tt, tt))
 does_up c M n told x disk (Does a) fits i known tied may = act_goes c M n told x disk a fits i known tied may
 does_up c M n told x disk (Saves ch) fits i known tied may =
-    with_lines c M n _ (first_lines n ch ++ saved_lines n x ch) (of_change n ch) (change_goes c M n told x disk ch fits i known tied may) (λ N. saved_told N n x ch)
+    with_lines c M n _ (first_lines n ch ++ saved_lines c n x ch) (of_change n ch) (change_goes c M n told x disk ch fits i known tied may) (λ N. saved_told c N n x ch)
 does_up c M n told x disk (Loses ch why) fits i known tied may =
     with_lines c M n _ (first_lines n ch ++ gone_line n why) (of_change n ch ++ Crash n ∷ [])
     (and_down c M n (site (Up (changed c n x ch)) (record_of (changed c n x ch))) (of_change n ch) (change_goes c M n told x disk ch fits i known tied may))

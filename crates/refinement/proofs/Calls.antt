@@ -1,5 +1,5 @@
 -- A call on an attempt, with all that its steps ask for, may be made.
-use Rattle.std.specs.Prelude.{ℕ, ◌≡◌, ◌<◌, ◌⊎◌, ◌++◌, ◌==◌, ◌&&◌, nat_le, not, Bool, true, false, List, [], ◌∷◌, Option, None, Some, is_some, if◌then◌else◌}
+use Rattle.std.specs.Prelude.{ℕ, ◌≡◌, ◌<◌, ◌⊎◌, ◌++◌, ◌==◌, ◌&&◌, nat_le, not, Bool, true, false, List, [], ◌∷◌, Option, None, Some, is_some, flat_map, if◌then◌else◌}
 use Rattle.std.proofs.Common.{refl, sym, ap, subst, ◌∙◌, inl, inr, arith}
 use Rattle.std.proofs.lemmas.List.{append-nil}
 use Rattle.std.specs.Option.{unwrap_or}
@@ -11,6 +11,7 @@ use Rattle.status_report.specs.declared.node_entry.DownCause.TheVariants as down
 use Rattle.wire.specs.declared.message.Body.{Body}
 use Rattle.wire.specs.declared.message.Body.TheVariants as body
 use Rattle.wire.specs.declared.message.Install.{Install}
+use Rattle.wire.specs.declared.message.Order.{Order}
 use Rattle.cmm_attempt.specs.declared.phase.Phase.{Phase}
 use Rattle.cmm_attempt.specs.declared.phase.Phase.TheVariants.{Collecting, Choosing, SeizingVotes, SeizingOthers, Installing, Over}
 use Rattle.cmm_attempt.specs.declared.step.AttemptEnd.{AttemptEnd}
@@ -28,19 +29,24 @@ use Rattle.attempt_laws.proofs.Starts.{ends_once}
 use Rattle.attempt_laws.proofs.Walk.{if_with}
 use Rattle.node_model.specs.declared.cluster.Cluster.{Cluster}
 use Rattle.node_model.specs.declared.node.UpNode.{UpNode}
+use Rattle.node_model.specs.declared.output.Output.{Output}
+use Rattle.node_model.specs.declared.presidency.Presidency.{Presidency}
 use Rattle.node_model.specs.declared.seat.Seat.TheVariants.{Forming}
 use Rattle.node_model.specs.Attempts.{begins_install, installs_now, is_choosing, left_out_by, resting, starts_now, votes_in}
+use Rattle.node_model.specs.Configurations.{in_force}
+use Rattle.node_model.specs.Deciding.{is_held_up, may_order, order_sent, orders_sent, with_turn}
 use Rattle.node_model.specs.Seats as seats
 use Rattle.node_model.specs.Seats.{record_of, session_of, state_of}
 use Rattle.device_queue.specs.Queue.{joins}
-use Rattle.refinement.specs.Doings.{acted, changed, going}
+use Rattle.rgm_president.specs.Decisions as decisions
+use Rattle.refinement.specs.Doings.{acted, changed, going, minded}
 use Rattle.refinement.specs.Doings.Act.{Goes_on, Makes}
 use Rattle.refinement.specs.Doings.Change.{Counts, Starts}
 use Rattle.refinement.specs.Courses.{Course, joined}
 use Rattle.refinement.specs.Courses.Course.{Acts, Falls as Course_falls, Keeps, Stops}
-use Rattle.refinement.specs.Cuts.{called, counted, ended_course, excluded_course, going_course, gone_on, if_installed, kept_if, own_ready_course, queued_course, readied_course, started as started_course, steps_course, turned, turned_by, writing}
+use Rattle.refinement.specs.Cuts.{called, counted, decided_course, deciding_by_course, deciding_course, ended_course, excluded_course, going_course, gone_on, if_installed, if_started, kept_if, own_ready_course, queued_course, readied_course, started as started_course, steps_course, turned, turned_all, turned_by, writing}
 use Rattle.refinement.specs.Facts.{AttemptFacts}
-use Rattle.refinement.specs.Guards.{MayAct, MayCall, MayChange, MayGo, MayWrite, OfAttempt}
+use Rattle.refinement.specs.Guards.{MayAct, MayCall, MayChange, MayGo, MayWrite, OfAttempt, SameProposed, TellNothing}
 use Rattle.refinement.specs.Ties.{Delivered}
 use Rattle.refinement.proofs.Attempts.{install_epoch, may_be_called, reached_more}
 use Rattle.refinement.proofs.Fits.{AllFit, AllSent, AllStart, FitsBody, FitsTurn, StartsBody, turn_fits}
@@ -67,6 +73,35 @@ joined_to c me told P Q x Stops next h f = f x h
 joined_to c me told P Q x (Acts a rest) next h f = (h.0, joined_to c me told P Q (acted c me x a) rest next h.1 f)
 joined_to c me told P Q x (Keeps change rest) next h f = (h.0, joined_to c me told P Q (changed c me x change) rest next h.1 f)
 joined_to c me told P Q x (Course_falls why) next h f = tt
+
+-- The president decides: it sends orders, and what is proposed is the same.
+
+pub nothing_append : (os more : List Output) → TellNothing os → TellNothing more → TellNothing (os ++ more)
+nothing_append [] more h k = k
+nothing_append (o ∷ os) more h k = (h.0, nothing_append os more h.1 k)
+
+pub nothing_of : {X : Type 0} → (f : X → List Output) (xs : List X) → ((x : X) → TellNothing (f x)) → TellNothing (flat_map f xs)
+nothing_of f [] h = tt
+nothing_of f (x ∷ xs) h = nothing_append (f x) (flat_map f xs) (h x) (nothing_of f xs h)
+
+pub orders_nothing : (me : ℕ) (orders : List (ℕ × Order)) → TellNothing (orders_sent me orders)
+unfolding orders_sent
+orders_nothing me orders = nothing_of (order_sent me) orders (λ e. if_either TellNothing (e.0 == me) [] _ tt (tt, tt))
+
+pub same_of : (o : Option Presidency) (p q : Presidency) → o ≡ Some p → q.proposals.proposed ≡ p.proposals.proposed → SameProposed o (Some q)
+same_of o p q is same = subst (λ z. SameProposed z (Some q)) (sym is) same
+
+pub deciding_to : (c : Cluster) (me : ℕ) (told : Delivered) (P : UpNode → Type 0) (x : UpNode) → P x
+    → ((q : Presidency) → SameProposed x.presidency (Some q) → P (minded x x.requests (Some q))) → MayTo c me told P x (deciding_course c me x)
+deciding_to c me told P x h more = by_presidency x.presidency refl
+  where
+    by_presidency : (o : Option Presidency) → x.presidency ≡ o → MayTo c me told P x (deciding_by_course c me x o)
+    by_presidency None is = h
+    by_presidency (Some p) is =
+        let t : decisions.Turn = decisions.decision (in_force c x) x.second (is_held_up p) p.groups in
+        let q : Presidency = with_turn me p t in
+        let same : SameProposed x.presidency (Some q) = same_of x.presidency p q is refl in
+        if_either (MayTo c me told P x) (may_order p.groups) (decided_course me x p t) Stops (orders_nothing me t.orders, (same, more q same)) h
 
 -- The steps.
 
@@ -293,20 +328,40 @@ pub turned_to : (c : Cluster) (me : ℕ) (told : Delivered) (P : UpNode → Type
 turned_to c me told P x a k s attempt seat f call other so_installed =
     turned_by_to c me told P x a k s (turn a k).steps attempt seat f call other so_installed refl (turn_fits a k)
 
+-- .. and where it has started, the president decides
+turned_all_to : (c : Cluster) (me : ℕ) (told : Delivered) (P : UpNode → Type 0) (x : UpNode) (a : AttemptState) (k : Call) (s : NodeState)
+    → x.attempt ≡ Some a → x.seat ≡ Forming s → AttemptFacts s a → MayCall c told a k → (begins_install (turn a k).steps ≡ false → (z : UpNode) → P z)
+    → ((z : UpNode) (s' : NodeState) → z.seat ≡ Forming s' → z.attempt ≡ Some (turn a k).after → AttemptFacts s' (turn a k).after → P z)
+    → MayTo c me told P x (turned_all c me x a k)
+turned_all_to c me told P x a k s attempt seat f call other so_installed =
+    joined_to c me told Next P x (turned c me x a k) (if_started c me steps)
+    (turned_to c me told Next x a k s attempt seat f call (λ none z. decides z (other none z) (λ q. other none (minded z z.requests (Some q))))
+    (λ z s' e g h. decides z (so_installed z s' e g h) (λ q. so_installed (minded z z.requests (Some q)) s' e g h)))
+    (λ y h. h)
+  where
+    steps : List Step
+    steps = (turn a k).steps
+
+    Next : UpNode → Type 0
+    Next z = MayTo c me told P z (if_started c me steps z)
+
+    decides : (z : UpNode) → P z → ((q : Presidency) → P (minded z z.requests (Some q))) → Next z
+    decides z h more = if_either (MayTo c me told P z) (starts_in steps) (deciding_course c me z) Stops (deciding_to c me told P z h (λ q same. more q)) h
+
 -- the own part of an attempt that is installed
 pub readied_to : (c : Cluster) (me : ℕ) (told : Delivered) (x : UpNode) (a : AttemptState) (s : NodeState) → x.attempt ≡ Some a → x.seat ≡ Forming s → AttemptFacts s a
     → MayTo c me told Any x (own_ready_course c me x)
 readied_to c me told x a s attempt seat f =
     if_either (MayTo c me told Any x) (joins x.tasks) Stops (readied_course c me x x.attempt) tt
     (subst (λ o. MayTo c me told Any x (readied_course c me x o)) (sym attempt)
-    (turned_to c me told Any x a Own_ready s attempt seat f tt (λ h z. tt) (λ z s' e g h. tt)))
+    (turned_all_to c me told Any x a Own_ready s attempt seat f tt (λ h z. tt) (λ z s' e g h. tt)))
 
 pub called_to : (c : Cluster) (me : ℕ) (told : Delivered) (x : UpNode) (a : AttemptState) (k : Call) (s : NodeState) → x.attempt ≡ Some a → x.seat ≡ Forming s → AttemptFacts s a → MayCall c told a k
     → MayTo c me told Any x (called c me x a k)
 called_to c me told x a k s attempt seat f call =
     let steps : List Step = (turn a k).steps in
-    joined_to c me told (λ y. MayTo c me told Any y (if_installed c me steps y)) Any x (turned c me x a k) (if_installed c me steps)
-    (turned_to c me told (λ y. MayTo c me told Any y (if_installed c me steps y)) x a k s attempt seat f call
+    joined_to c me told (λ y. MayTo c me told Any y (if_installed c me steps y)) Any x (turned_all c me x a k) (if_installed c me steps)
+    (turned_all_to c me told (λ y. MayTo c me told Any y (if_installed c me steps y)) x a k s attempt seat f call
     (λ none z. subst (λ b. MayTo c me told Any z (if b then own_ready_course c me z else Stops)) (sym none) tt)
     (λ z s' e g h. if_either (MayTo c me told Any z) (begins_install steps) (own_ready_course c me z) Stops (readied_to c me told z (turn a k).after s' g e h) tt))
     (λ y h. h)

@@ -14,7 +14,7 @@ use Rattle.record_disk.specs.Disks.{DiskState, armed}
 use Rattle.wire.specs.declared.message.Body.{Body}
 use Rattle.node_model.specs.declared.cluster.Cluster.{Cluster}
 use Rattle.node_model.specs.declared.input.Input.{Input}
-use Rattle.node_model.specs.declared.input.Input.TheVariants.{Boot, Crash, Tick, Packet, CommandDue, Answered, Wrote, Commanded}
+use Rattle.node_model.specs.declared.input.Input.TheVariants.{Boot, Crash, Tick, Packet, CommandDue, Answered, Wrote, Commanded, Reported}
 use Rattle.node_model.specs.declared.node.Node.{Node}
 use Rattle.node_model.specs.declared.output.Output.{Output}
 use Rattle.node_model.specs.declared.output.Output.TheVariants.{Tells, Sends}
@@ -56,6 +56,7 @@ is_true M w CommandDue h all = tt
 is_true M w (Answered a) h all = tt
 is_true M w (Wrote d value a) h all = tt
 is_true M w (Commanded words) h all = tt
+is_true M w (Reported r good) h all = tt
 
 stands_stay : (c : Cluster) (M N : Memberships) (n : ℕ) (node : Node) (disk : NodeRecord) → Holds (setting_of c) M → Grows M N → N.node n ≡ M.node n → Stands c M n node disk → Stands c N n node disk
 stands_stay c M N n node disk i g same h = record { tied = node_stays c M N n disk node i g same h.tied; joins = h.joins }
@@ -85,12 +86,12 @@ arm_stands c M w n disk same all k = go (same_or_not k n)
     go (inr ne) = subst (λ (d : DiskState). Stands c M k (w.node k) d.kept) (sym (put_there w.disk n disk k ne)) (all k)
 
 one_move : (c : Cluster) (w : Nodes) (m : Move) → All IsDevice c.attached → IsRun c w → MayMove w m → IsRun c (moved c w m)
-one_move c w (Takes n i) fits h may =
+one_move c w (Takes n now ends i) fits h may =
     let M : Memberships = h.machine in
     let holds : Holds (setting_of c) M = holds_of (setting_of c) h.events M h.run in
-    let o : Outcome DiskState = stepped disk_rules c n (w.node n) (w.disk n) i in
+    let o : Outcome DiskState = stepped disk_rules c n now ends (w.node n) (w.disk n) i in
     let g : StepGoes c M n o.after o.disk.kept o.given =
-    steps_go disk_rules disks_keep_rules c M n (w.node n) (w.disk n) i may.1 fits holds (is_true M w i may.2 h.sent) (h.stands n) in
+    steps_go disk_rules disks_keep_rules c M n now ends (w.node n) (w.disk n) i may.1 fits holds (is_true M w i may.2 h.sent) (h.stands n) in
     record {
       events = h.events ++ g.events;
       machine = g.machine;

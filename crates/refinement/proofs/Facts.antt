@@ -3,6 +3,7 @@ use Rattle.std.specs.Prelude.{ℕ, ◌≡◌, ◌<◌, ◌≤◌, true, false, L
 use Rattle.std.proofs.Common.{sym, ap, subst, ◌∙◌}
 use Rattle.ccr_commit.specs.Entries.{all_committed, with_next}
 use Rattle.cl_base.specs.Sets.{has, set_without}
+use Rattle.cl_base.specs.declared.method.Outcome as method
 use Rattle.cmm_attempt.specs.Attempts.{AttemptState}
 use Rattle.cmm_attempt.specs.Calls.{IsDevice, May as MayTake, turn}
 use Rattle.cmm_attempt.proofs.Basics.{false_true, if_either, none_some}
@@ -14,7 +15,7 @@ use Rattle.attempt_laws.proofs.Goes.{chosen_reached, goes_by_call}
 use Rattle.attempt_laws.proofs.Stays.{plan_stays}
 use Rattle.node_model.specs.declared.cluster.Cluster.{Cluster}
 use Rattle.node_model.specs.declared.input.Input.{Input}
-use Rattle.node_model.specs.declared.input.Input.TheVariants.{Boot, Crash, Tick, Packet, CommandDue, Answered, Wrote, Commanded}
+use Rattle.node_model.specs.declared.input.Input.TheVariants.{Boot, Crash, Tick, Packet, CommandDue, Answered, Wrote, Commanded, Reported}
 use Rattle.node_model.specs.declared.node.Node.{Node}
 use Rattle.node_model.specs.declared.node.Node.TheVariants.{Down, Up}
 use Rattle.node_model.specs.declared.node.UpNode.{UpNode}
@@ -26,12 +27,12 @@ use Rattle.node_model.specs.Seats.{installed_of, promising, record_of, state_of}
 use Rattle.node_model.specs.Steps.{DiskRules, Outcome, stepped}
 use Rattle.proposals.specs.declared.arrived.Proposed.{Proposed}
 use Rattle.refinement.specs.Doings.{Act, Change, Doing, Site, acted, after_all, changed, effect, given_all, gives, site}
-use Rattle.refinement.specs.Doings.Act.{Accepts, Ends, Gives, Goes_on, Hears, Makes, Minds, Notes, Queues, Spreads, Stores, Takes, Ticks, Waits, Writes}
+use Rattle.refinement.specs.Doings.Act.{Accepts, Dates, Ends, Gives, Goes_on, Hears, Makes, Minds, Notes, Queues, Spreads, Stores, Takes, Ticks, Waits, Works, Writes}
 use Rattle.refinement.specs.Doings.Change.{Acks, Admits, Commits, Counts, Distrusts, Installs, Leads, Prepares, Promises, Proposes, Sits, Starts}
 use Rattle.refinement.specs.Doings.Doing.{Comes_up, Does, Forgets, Goes_down, Loses, Saves}
 use Rattle.refinement.specs.Courses.{Reply}
 use Rattle.refinement.specs.Courses.Reply.{Done, Lost_new, Lost_old}
-use Rattle.refinement.specs.Cuts.{boot_doings, course_of, doings}
+use Rattle.refinement.specs.Cuts.{boot_doings, course_at, doings}
 use Rattle.refinement.specs.Events.{of_doing, of_doings}
 use Rattle.refinement.specs.Facts.{AttemptFacts, Facts, JoinsFit, JoinsIn, OfMember, OfPresident, OfProposed, OfSeat}
 use Rattle.refinement.specs.Guards.{May, MayAct, MayAll, MayChange}
@@ -138,6 +139,8 @@ joins_act c n told x (Gives os) f may = f.joins
 joins_act c n told x (Spreads receivers b) f may = f.joins
 joins_act c n told x (Minds q p) f may = f.joins
 joins_act c n told x (Notes from place p) f may = f.joins
+joins_act c n told x (Dates now) f may = f.joins
+joins_act c n told x (Works w) f may = f.joins
 joins_act c n told x (Makes ch) f may = joins_change c n told x ch f may.0
 
 pub joins_one : (c : Cluster) (M : Memberships) (n : ℕ) (told : Delivered) (node : Node) (disk : NodeRecord) (d : Doing) → Holds (setting_of c) M → NodeTied c M n disk node → JoinsIn node
@@ -170,18 +173,19 @@ boot_may c n disk (Done ∷ replies) = (tt, tt)
 boot_may c n disk (Lost_new why ∷ replies) = (tt, (tt, tt))
 boot_may c n disk (Lost_old why ∷ replies) = (tt, (tt, tt))
 
-pub step_may : (c : Cluster) (M : Memberships) (n : ℕ) (node : Node) (disk : NodeRecord) (i : Input) (replies : List Reply) → n ≤ 32 → All IsDevice c.attached → Holds (setting_of c) M
-    → NodeTied c M n disk node → JoinsIn node → MayAll c n (delivered_by i) (site node disk) (doings c n replies i node)
-step_may c M n (Up x) disk i replies low fits holds tied joins =
-    may_under c n (delivered_by i) x disk replies (course_of c n x i) (step_may_go c n x i low fits (facts_of c M n disk x holds tied joins))
-step_may c M n Down disk Boot replies low fits holds tied joins = boot_may c n disk replies
-step_may c M n Down disk Crash replies low fits holds tied joins = tt
-step_may c M n Down disk Tick replies low fits holds tied joins = tt
-step_may c M n Down disk (Packet from m) replies low fits holds tied joins = tt
-step_may c M n Down disk CommandDue replies low fits holds tied joins = tt
-step_may c M n Down disk (Answered a) replies low fits holds tied joins = tt
-step_may c M n Down disk (Wrote d value a) replies low fits holds tied joins = tt
-step_may c M n Down disk (Commanded words) replies low fits holds tied joins = tt
+pub step_may : (c : Cluster) (M : Memberships) (n now : ℕ) (ends : method.Outcome) (node : Node) (disk : NodeRecord) (i : Input) (replies : List Reply) → n ≤ 32 → All IsDevice c.attached → Holds (setting_of c) M
+    → NodeTied c M n disk node → JoinsIn node → MayAll c n (delivered_by i) (site node disk) (doings c n now ends replies i node)
+step_may c M n now ends (Up x) disk i replies low fits holds tied joins =
+    may_under c n (delivered_by i) x disk replies (course_at c n now ends x i) (step_may_go c n now ends x i low fits (facts_of c M n disk x holds tied joins))
+step_may c M n now ends Down disk Boot replies low fits holds tied joins = boot_may c n disk replies
+step_may c M n now ends Down disk Crash replies low fits holds tied joins = tt
+step_may c M n now ends Down disk Tick replies low fits holds tied joins = tt
+step_may c M n now ends Down disk (Packet from m) replies low fits holds tied joins = tt
+step_may c M n now ends Down disk CommandDue replies low fits holds tied joins = tt
+step_may c M n now ends Down disk (Answered a) replies low fits holds tied joins = tt
+step_may c M n now ends Down disk (Wrote d value a) replies low fits holds tied joins = tt
+step_may c M n now ends Down disk (Commanded words) replies low fits holds tied joins = tt
+step_may c M n now ends Down disk (Reported r good) replies low fits holds tied joins = tt
 
 pub known_by : (M : Memberships) (i : Input) → IsTrue M i → Known M (delivered_by i)
 known_by M (Packet from m) h = h
@@ -192,16 +196,17 @@ known_by M CommandDue h = tt
 known_by M (Answered a) h = tt
 known_by M (Wrote d value a) h = tt
 known_by M (Commanded words) h = tt
+known_by M (Reported r good) h = tt
 
 pub steps_go : {K : Type 0} → (rules : DiskRules K) → IsDisk rules → StepsGo rules
-steps_go {K} rules good c M n node disk i low fits holds is_true stands =
-    let cut : IsCut rules c n node disk i [] (stepped rules c n node disk i) = steps_are_cut rules good c n node disk i in
-    let o : Outcome K = stepped rules c n node disk i in
+steps_go {K} rules good c M n now ends node disk i low fits holds is_true stands =
+    let cut : IsCut rules c n now ends node disk i [] (stepped rules c n now ends node disk i) = steps_are_cut rules good c n now ends node disk i in
+    let o : Outcome K = stepped rules c n now ends node disk i in
     let told : Delivered = delivered_by i in
     let known : Known M told = known_by M i is_true in
     let x : Site = site node (rules.kept disk) in
-    let ds : List Doing = doings c n cut.replies i node in
-    let may : MayAll c n told x ds = step_may c M n node (rules.kept disk) i cut.replies low fits holds stands.tied stands.joins in
+    let ds : List Doing = doings c n now ends cut.replies i node in
+    let may : MayAll c n told x ds = step_may c M n now ends node (rules.kept disk) i cut.replies low fits holds stands.tied stands.joins in
     let g : GoesOn c M n (after_all c n x ds) (given_all c n x ds) (of_doings n ds) = does_all c M n told x ds fits holds known stands.tied may in
     record {
       events = of_doings n ds;

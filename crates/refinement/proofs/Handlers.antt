@@ -6,6 +6,7 @@ use Rattle.std.specs.List.{find}
 use Rattle.answer_words.specs.Answers.{answer_in}
 use Rattle.cl_base.specs.Sets.{has}
 use Rattle.cl_base.specs.Seizings.{SeizeResult}
+use Rattle.cl_base.specs.declared.method.Outcome.{Outcome}
 use Rattle.cl_base.specs.declared.panic.Panic.TheVariants as panic
 use Rattle.cl_base.specs.declared.seizing.SeizeEnd.TheVariants as seized
 use Rattle.device_queue.specs.declared.progress.Progress.{Progress}
@@ -39,7 +40,7 @@ use Rattle.attempt_laws.proofs.Walk.{if_with}
 use Rattle.heartbeats.specs.Due.{begins}
 use Rattle.node_model.specs.declared.cluster.Cluster.{Cluster}
 use Rattle.node_model.specs.declared.input.Input.{Input}
-use Rattle.node_model.specs.declared.input.Input.TheVariants.{Boot, Crash, Tick, Packet, CommandDue, Answered, Wrote, Commanded}
+use Rattle.node_model.specs.declared.input.Input.TheVariants.{Boot, Crash, Tick, Packet, CommandDue, Answered, Wrote, Commanded, Reported}
 use Rattle.node_model.specs.declared.node.UpNode.{UpNode}
 use Rattle.node_model.specs.declared.presidency.Presidency.{Presidency}
 use Rattle.node_model.specs.declared.seat.Seat.{Seat}
@@ -49,6 +50,7 @@ use Rattle.node_model.specs.Devices.{joining_so}
 use Rattle.node_model.specs.Members.{are_devices, awaits_start, hearing, is_bad_log, is_bad_update, is_foreign, is_foreign_install, is_strange, promised_so, ready_of, rested_by}
 use Rattle.node_model.specs.Seats as seats
 use Rattle.node_model.specs.Seats.{coordinator_of, installed_of, is_in, promised_of, promising, record_of, session_of, state_of}
+use Rattle.node_model.specs.Steps.{at_second}
 use Rattle.node_model.specs.Ticks.{later, members_to_form, membership_of, to_form_in, waiting_less}
 use Rattle.node_model.specs.Updates.{later_presidency}
 use Rattle.proposals.specs.declared.arrived.Proposed.{Proposed}
@@ -57,19 +59,19 @@ use Rattle.refinement.specs.Doings.Act.{Accepts, Hears, Makes, Waits}
 use Rattle.refinement.specs.Doings.Change.{Distrusts, Installs, Leads, Promises, Sits}
 use Rattle.refinement.specs.Courses.Course.{Acts, Falls as Course_falls, Keeps, Stops}
 use Rattle.refinement.specs.Cuts as cuts
-use Rattle.refinement.specs.Cuts.{begun_course, called, course_of, going_course, kept_if, own_ready_course, readied_course, steps_course, writing}
+use Rattle.refinement.specs.Cuts.{begun_course, called, course_at, course_of, going_course, kept_if, own_ready_course, readied_course, steps_course, writing}
 use Rattle.refinement.specs.Facts.{AttemptFacts, Facts, OfMember, OfPresident, OfProposed, OfSeat, has_join}
-use Rattle.refinement.specs.Guards.{Asks, MayChange, MayGo}
+use Rattle.refinement.specs.Guards.{Asks, MayChange, MayGo, SameProposed}
 use Rattle.refinement.specs.Ties.{Delivered, IsLog, ShowsLog}
-use Rattle.refinement.proofs.Calls.{Any, MayTo, called_to, choosing_is, fit_to, go, going_to, readied_to, started_same}
+use Rattle.refinement.proofs.Calls.{Any, MayTo, called_to, choosing_is, fit_to, go, going_to, joined_to as then_to, readied_to, started_same}
 use Rattle.refinement.proofs.Changes.{first_not_installing}
 use Rattle.refinement.proofs.Fits.{first_fits}
-use Rattle.refinement.proofs.Requests.{President, any, asked_to, command_to, commit_to, in_session, or_second, prepare_to, prepared_to, reply_to}
+use Rattle.refinement.proofs.Requests.{President, any, asked_to, command_to, commit_to, done_to, facts_of, governing_to, in_session, or_second, order_to, prepare_to, prepared_to, president_of, reply_to, report_to}
 use Rattle.refinement.proofs.Texts.{state_with}
 
 -- The same facts, of a node with another view of the others, or other tasks.
 
-pub facts_same : (x y : UpNode) → y.seat ≡ x.seat → y.attempt ≡ x.attempt → (has_join y.tasks ≡ true → has_join x.tasks ≡ true) → (President x → President y) → Facts x → Facts y
+pub facts_same : (x y : UpNode) → y.seat ≡ x.seat → y.attempt ≡ x.attempt → (has_join y.tasks ≡ true → has_join x.tasks ≡ true) → (OfPresident x.presidency x.seat → OfPresident y.presidency y.seat) → Facts x → Facts y
 facts_same x y seat attempt tasks president f = record {
   attempt = subst (λ s. OfSeat y.attempt s) (sym seat) (subst (λ o. OfSeat o x.seat) (sym attempt) f.attempt);
   member = subst OfMember (sym seat) f.member;
@@ -196,10 +198,19 @@ later_facts None seat h = tt
 later_facts (Some p) (Forming s) h = absurd h
 later_facts (Some p) (Member s) h = h
 
-pub tick_to : (c : Cluster) (me : ℕ) (told : Delivered) (x : UpNode) → me ≤ 32 → All IsDevice c.attached → Facts x → MayTo c me told Any x (cuts.tick_course c me x)
-tick_to c me told x low fits f =
+later_same : (o : Option Presidency) → SameProposed o (later_presidency o)
+later_same None = tt
+later_same (Some p) = refl
+
+pub tick_to : (c : Cluster) (me : ℕ) (told : Delivered) (outcome : Outcome) (x : UpNode) → me ≤ 32 → All IsDevice c.attached → Facts x → MayTo c me told Any x (cuts.tick_course c me outcome x)
+tick_to c me told outcome x low fits f =
     let y : UpNode = later c x in
-    (tt, ticked_to c me told y y.attempt low fits (facts_same x y refl refl (λ h. h) (later_facts x.presidency x.seat) f) refl)
+    let g : Facts y = facts_same x y refl refl (λ h. h) (later_facts x.presidency x.seat) f in (
+      tt,
+      then_to c me told President Any y (cuts.governing_course c me outcome x y) (λ z. cuts.ticked_course c me z z.attempt)
+          (governing_to c me told outcome x y refl (later_same x.presidency) (president_of x f) (president_of y g))
+          (λ z h. ticked_to c me told z z.attempt low fits (facts_of z h) refl),
+    )
 
 -- Messages.
 
@@ -242,9 +253,9 @@ seizing_to c me told x from kind e members d =
 Ready : UpNode → Type 0
 Ready x = (0 < session_of x) × (session_of x ≡ installed_of x)
 
-readying_to : (c : Cluster) (me : ℕ) (told : Delivered) (x : UpNode) (to : ℕ) → Ready x → MayTo c me told Any x (cuts.readying_course x to)
+readying_to : (c : Cluster) (me : ℕ) (told : Delivered) (x : UpNode) (to : ℕ) → Ready x → MayTo c me told Any x (cuts.readying_course c x to)
 unfolding Ready
-readying_to c me told x to h = if_either (MayTo c me told Any x) (joins x.tasks) Stops (writing to (ready_of x)) tt ((h.0, refl, h.1), tt)
+readying_to c me told x to h = if_either (MayTo c me told Any x) (joins x.tasks) Stops (writing to (ready_of c x)) tt ((h.0, refl, h.1), tt)
 
 or_false : (a b : Bool) → (a || b) ≡ false → a ≡ false
 or_false true b h = h
@@ -277,8 +288,8 @@ installed_to c me x from m i (Forming s) low is known here f at =
     let some : 0 < i.epoch = (in_session x i.epoch here).0 in
     let own : s.session ≡ i.epoch = ap (λ z. (state_of z).session) (sym at) ∙ sym session in
     let y : UpNode = changed c me x (Installs s i) in
-    if_with (MayTo c me (Some (from, m)) Any x) (s.saved.installed == i.epoch) (s.saved.installed == i.epoch) (cuts.readying_course x from)
-    (Keeps (Installs s i) (cuts.readying_course y from)) refl
+    if_with (MayTo c me (Some (from, m)) Any x) (s.saved.installed == i.epoch) (s.saved.installed == i.epoch) (cuts.readying_course c x from)
+    (Keeps (Installs s i) (cuts.readying_course c y from)) refl
     (λ e. readying_to c me (Some (from, m)) x from
     (subst (λ q. 0 < q) session some, sym session ∙ (sym (same_number s.saved.installed i.epoch e) ∙ ap (λ z. (state_of z).saved.installed) (sym at))))
     (λ e. (
@@ -317,36 +328,37 @@ bad_update_same : (c : Cluster) (x z : UpNode) (e place : ℕ) (text : List ℕ)
 bad_update_same c x z e place text same h = subst (λ seat. is_bad_update c (record x { seat = seat }) e place text ≡ false) (sym same) h
 
 -- z is the node before the packet was heard
-body_to : (c : Cluster) (me : ℕ) (x z : UpNode) (from : ℕ) (m : Message) (b : Body) → me ≤ 32 → m.body ≡ b → x.seat ≡ z.seat → is_foreign c me z b ≡ false → Facts x
-    → MayTo c me (Some (from, m)) Any x (cuts.body_course c me x from m b)
-body_to c me x z from m (body.Heartbeat promised session member) low is same known f = heartbeat_to c me (Some (from, m)) x from session member
-body_to c me x z from m (body.Collect e members) low is same known f = collect_to c me x from e members m is
-body_to c me x z from m (body.Promise e installed members valid flagged committed pending) low is same known f =
+body_to : (c : Cluster) (me : ℕ) (outcome : Outcome) (x z : UpNode) (from : ℕ) (m : Message) (b : Body) → me ≤ 32 → m.body ≡ b → x.seat ≡ z.seat → is_foreign c me z b ≡ false → Facts x
+    → MayTo c me (Some (from, m)) Any x (cuts.body_course c me outcome x from m b)
+body_to c me outcome x z from m (body.Heartbeat promised session member) low is same known f = heartbeat_to c me (Some (from, m)) x from session member
+body_to c me outcome x z from m (body.Collect e members) low is same known f = collect_to c me x from e members m is
+body_to c me outcome x z from m (body.Promise e installed members valid flagged committed pending) low is same known f =
     answer_to c me x from m x.attempt (subst (ShowsLog c) (sym is) (good_promise c members valid committed pending known)) f refl
-body_to c me x z from m (body.Nack e promised) low is same known f = answer_to c me x from m x.attempt (subst (ShowsLog c) (sym is) tt) f refl
-body_to c me x z from m (body.SeizeQuorum e members d) low is same known f = seizing_to c me (Some (from, m)) x from Vote e members d
-body_to c me x z from m (body.SeizeData e members d) low is same known f = seizing_to c me (Some (from, m)) x from Plain e members d
-body_to c me x z from m (body.Seized e d outcome) low is same known f = answer_to c me x from m x.attempt (subst (ShowsLog c) (sym is) tt) f refl
-body_to c me x z from m (body.Install i) low is same known f = install_to c me x from m i low is known f
-body_to c me x z from m (body.Ready e devices report) low is same known f = answer_to c me x from m x.attempt (subst (ShowsLog c) (sym is) tt) f refl
-body_to c me x z from m (body.Start e) low is same known f = start_to c me x from e m x.seat is refl
-body_to c me x z from m (body.Excluded e newest) low is same known f = notice_to c me (Some (from, m)) x e newest
-body_to c me x z from m (body.Prepare e place text) low is same known f =
+body_to c me outcome x z from m (body.Nack e promised) low is same known f = answer_to c me x from m x.attempt (subst (ShowsLog c) (sym is) tt) f refl
+body_to c me outcome x z from m (body.SeizeQuorum e members d) low is same known f = seizing_to c me (Some (from, m)) x from Vote e members d
+body_to c me outcome x z from m (body.SeizeData e members d) low is same known f = seizing_to c me (Some (from, m)) x from Plain e members d
+body_to c me outcome x z from m (body.Seized e d ended) low is same known f = answer_to c me x from m x.attempt (subst (ShowsLog c) (sym is) tt) f refl
+body_to c me outcome x z from m (body.Install i) low is same known f = install_to c me x from m i low is known f
+body_to c me outcome x z from m (body.Ready e devices report) low is same known f = answer_to c me x from m x.attempt (subst (ShowsLog c) (sym is) tt) f refl
+body_to c me outcome x z from m (body.Start e) low is same known f = start_to c me x from e m x.seat is refl
+body_to c me outcome x z from m (body.Excluded e newest) low is same known f = notice_to c me (Some (from, m)) x e newest
+body_to c me outcome x z from m (body.Prepare e place text) low is same known f =
     prepare_to c me x from e place m text x.seat is refl f.member (bad_update_same c x z e place text same known)
-body_to c me x z from m (body.Prepared e place) low is same known f = any c me (Some (from, m)) President x (cuts.prepared_course c me x from e place) (prepared_to c me x from e place m is f.president)
-body_to c me x z from m (body.Commit e place) low is same known f = commit_to c me x from e place m x.seat is refl
-body_to c me x z from m (body.Order o) low is same known f = tt
-body_to c me x z from m (body.Done e number outcome) low is same known f = tt
-body_to c me x z from m (body.Request e number text) low is same known f =
-    any c me (Some (from, m)) President x (cuts.asked_course c me x from e number text) (asked_to c me (Some (from, m)) x from e number text f.president)
-body_to c me x z from m (body.Answer e number text) low is same known f =
-    any c me (Some (from, m)) President x (cuts.reply_course c me x e number (answer_in text)) (reply_to c me (Some (from, m)) x e number (answer_in text) f.president)
+body_to c me outcome x z from m (body.Prepared e place) low is same known f = any c me (Some (from, m)) President x (cuts.prepared_course c me x from e place) (prepared_to c me x from e place m is (president_of x f))
+body_to c me outcome x z from m (body.Commit e place) low is same known f = commit_to c me x from e place m x.seat is refl
+body_to c me outcome x z from m (body.Order o) low is same known f = order_to c me (Some (from, m)) outcome x from o
+body_to c me outcome x z from m (body.Done e number ended) low is same known f =
+    any c me (Some (from, m)) President x (cuts.done_course c me x from e number ended) (done_to c me (Some (from, m)) x from e number ended (president_of x f))
+body_to c me outcome x z from m (body.Request e number text) low is same known f =
+    any c me (Some (from, m)) President x (cuts.asked_course c me x from e number text) (asked_to c me (Some (from, m)) x from e number text (president_of x f))
+body_to c me outcome x z from m (body.Answer e number text) low is same known f =
+    any c me (Some (from, m)) President x (cuts.reply_course c me x e number (answer_in text)) (reply_to c me (Some (from, m)) x e number (answer_in text) (president_of x f))
 
-pub packet_to : (c : Cluster) (me : ℕ) (x : UpNode) (from : ℕ) (m : Message) → me ≤ 32 → Facts x → MayTo c me (Some (from, m)) Any x (cuts.packet_course c me x from m)
-packet_to c me x from m low f =
+pub packet_to : (c : Cluster) (me : ℕ) (outcome : Outcome) (x : UpNode) (from : ℕ) (m : Message) → me ≤ 32 → Facts x → MayTo c me (Some (from, m)) Any x (cuts.packet_course c me outcome x from m)
+packet_to c me outcome x from m low f =
     let y : UpNode = hearing x from m.body in
-    if_with (MayTo c me (Some (from, m)) Any x) (is_foreign c me x m.body) (is_foreign c me x m.body) Stops (Acts (Hears from m.body) (cuts.body_course c me y from m m.body)) refl
-    (λ e. tt) (λ e. (tt, body_to c me y x from m m.body low refl refl e (facts_same x y refl refl (λ h. h) (λ h. h) f)))
+    if_with (MayTo c me (Some (from, m)) Any x) (is_foreign c me x m.body) (is_foreign c me x m.body) Stops (Acts (Hears from m.body) (cuts.body_course c me outcome y from m m.body)) refl
+    (λ e. tt) (λ e. (tt, body_to c me outcome y x from m m.body low refl refl e (facts_same x y refl refl (λ h. h) (λ h. h) f)))
 
 -- Devices.
 
@@ -421,7 +433,7 @@ seized_to c me told x d result (Some k) f =
 joined_to : (c : Cluster) (me : ℕ) (told : Delivered) (x : UpNode) (o : Option ℕ) → Facts x → Ready x → MayTo c me told Any x (cuts.joined_course c me x o)
 joined_to c me told x None f ready = tt
 joined_to c me told x (Some k) f ready =
-    if_either (MayTo c me told Any x) (k == me) (own_ready_course c me x) (cuts.readying_course x k) (own_ready_to c me told x f) (readying_to c me told x k ready)
+    if_either (MayTo c me told Any x) (k == me) (own_ready_course c me x) (cuts.readying_course c x k) (own_ready_to c me told x f) (readying_to c me told x k ready)
 
 answered_facts : (x : UpNode) (a : Answer) → Facts x → Facts (answered_so x a)
 answered_facts x a f = facts_same x (answered_so x a) refl refl (λ h. sym (joins_answered x.tasks a) ∙ h) (λ h. h) f
@@ -496,15 +508,20 @@ abbrev pub delivered_by : Input → Delivered
 delivered_by (Packet from m) = Some (from, m)
 delivered_by _ = None
 
-step_to : (c : Cluster) (me : ℕ) (x : UpNode) (i : Input) → me ≤ 32 → All IsDevice c.attached → Facts x → MayTo c me (delivered_by i) Any x (course_of c me x i)
-step_to c me x Boot low fits f = tt
-step_to c me x Crash low fits f = tt
-step_to c me x Tick low fits f = tick_to c me None x low fits f
-step_to c me x (Packet from m) low fits f = packet_to c me x from m low f
-step_to c me x CommandDue low fits f = distrusting_to c me None x (begins_plainly x.tasks)
-step_to c me x (Answered a) low fits f = answered_to c me None x a (due_device x.tasks) (next_of x.tasks) f
-step_to c me x (Commanded words) low fits f = any c me None President x (cuts.command_course c me x words) (command_to c me None x words f.president)
-step_to c me x (Wrote d value a) low fits f = (tt, fenced_to c me None x d a)
+step_to : (c : Cluster) (me : ℕ) (outcome : Outcome) (x : UpNode) (i : Input) → me ≤ 32 → All IsDevice c.attached → Facts x
+    → MayTo c me (delivered_by i) Any x (course_of c me outcome x i)
+step_to c me outcome x Boot low fits f = tt
+step_to c me outcome x Crash low fits f = tt
+step_to c me outcome x Tick low fits f = tick_to c me None outcome x low fits f
+step_to c me outcome x (Packet from m) low fits f = packet_to c me outcome x from m low f
+step_to c me outcome x CommandDue low fits f = distrusting_to c me None x (begins_plainly x.tasks)
+step_to c me outcome x (Answered a) low fits f = answered_to c me None x a (due_device x.tasks) (next_of x.tasks) f
+step_to c me outcome x (Commanded words) low fits f = any c me None President x (cuts.command_course c me x words) (command_to c me None x words (president_of x f))
+step_to c me outcome x (Wrote d value a) low fits f = (tt, fenced_to c me None x d a)
+step_to c me outcome x (Reported r good) low fits f = any c me None President x (cuts.report_course c me x r good) (report_to c me None x r good (president_of x f))
 
-pub step_may_go : (c : Cluster) (me : ℕ) (x : UpNode) (i : Input) → me ≤ 32 → All IsDevice c.attached → Facts x → MayGo c me (delivered_by i) x (course_of c me x i)
-step_may_go c me x i low fits f = go c me (delivered_by i) Any x (course_of c me x i) (step_to c me x i low fits f)
+pub step_may_go : (c : Cluster) (me now : ℕ) (outcome : Outcome) (x : UpNode) (i : Input) → me ≤ 32 → All IsDevice c.attached → Facts x
+    → MayGo c me (delivered_by i) x (course_at c me now outcome x i)
+step_may_go c me now outcome x i low fits f =
+    let y : UpNode = at_second now x in
+    (tt, go c me (delivered_by i) Any y (course_of c me outcome y i) (step_to c me outcome y i low fits (facts_same x y refl refl (λ h. h) (λ h. h) f)))

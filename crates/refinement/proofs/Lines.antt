@@ -5,6 +5,7 @@ use Rattle.std.specs.List.{AllByRecursion}
 use Rattle.std.proofs.lemmas.List.{get_or-replicate, length-replicate}
 use Rattle.std.proofs.lemmas.List.Elements.{All-nil, All-cons}
 use Rattle.std.proofs.lemmas.Option.{get_or_from_slice_get, slice_get_within}
+use Rattle.agents.specs.Calls.{AgentState}
 use Rattle.cl_base.specs.Limits.{most_nodes}
 use Rattle.cl_base.specs.Numbers.{numbers_to}
 use Rattle.cl_base.specs.Sets.{has}
@@ -49,9 +50,9 @@ use Rattle.world_model.specs.Packets.{copying, delivering, delivering_as, losing
 use Rattle.world_model.specs.Devices.{Commanded, Executed, commanded, commanded_at, doing_command, doing_due, due, executed, fault_at, on_disk, on_disk_due, with_fault, writing_at, writing_if}
 use Rattle.world_model.specs.Rounds.{bringing, bringing_all, bringing_below, doing_all, doing_one, doing_some, for_each, is_between, round_of, rounds, rounds_of, ticking_one}
 use Rattle.world_model.specs.First.{attached_from, first_cluster, first_device, first_world, quorum_devices, quorum_from, with_quorum}
-use Rattle.world_model.specs.Lines.{giving_up, left_by, line_on, on_packets, with_stop_at}
+use Rattle.world_model.specs.Lines.{giving_up, left_by, line_on, monitors, on_packets, probing, probing_up, with_stop_at}
 use Rattle.node_widths.specs.Widths.{AnswerFits}
-use Rattle.refinement.specs.Runs.{AnswersFit, IsAmong, Nodes, WasSent, first_nodes, moved}
+use Rattle.refinement.specs.Runs.{AnswersFit, InTime, IsAmong, Nodes, WasSent, first_nodes, moved}
 use Rattle.refinement.specs.Runs.Move.{Arms}
 use Rattle.refinement.specs.Widths.{ClusterFits}
 use Rattle.refinement.specs.Worlds.{DeviceFits, DevicesFit, GivesFit, IsNamed, Keeps, PacketSent, Played, Shows, WorldRunsAreOne, lines_on}
@@ -59,12 +60,12 @@ use Rattle.node_widths.proofs.Sets.{device_with}
 use Rattle.refinement.proofs.DeviceWidths.{first_devices_fit}
 use Rattle.refinement.proofs.EveryRun.{every_run_is_one}
 use Rattle.refinement.proofs.Widths.{devices_fit, gives_fit}
-use Rattle.refinement.proofs.Worlds.{all_found, dropped_world, given_so, links_show, put_shows, removing_sent, run_more, sending_sent, set_other, set_same}
+use Rattle.refinement.proofs.Worlds.{all_append, all_found, calls_played, dropped_world, given_so, links_show, put_shows, removing_sent, run_more, sending_sent, set_other, set_same}
 
 -- Packets.
 
 links_played : (c : Cluster) (w : WorldState) (l : Links) (h : Played c w) → AllByRecursion (PacketSent h.nodes.sent) l.packets → Played c (record w { links = l })
-links_played c w l h sent = record { moves = h.moves; nodes = h.nodes; run = h.run; shows = links_show c w h.nodes l h.shows sent }
+links_played c w l h sent = record { moves = h.moves; nodes = h.nodes; run = h.run; in_time = h.in_time; shows = links_show c w h.nodes l h.shows sent }
 
 taken_so : (c : Cluster) → GivesFit c → (p : Play) (from to : ℕ) (bytes : List ℕ) (o : Option Message) (h : Played c p.world) → 1 ≤ to
     → ((m : Message) → whole_of bytes ≡ Some m → IsAmong from m.body h.nodes.sent) → whole_of bytes ≡ o → Played c (taking from to o p).world
@@ -112,7 +113,7 @@ oldest_as c act all p (Some number) h = all p number h
 
 device_show : (c : Cluster) (w : WorldState) (v : Nodes) (ds : List Device) (faults : List (Option Bool)) → ((d : ℕ) (device : Device) → slice_get ds d ≡ Some device → DeviceFits device)
     → Shows c w v → Shows c (record w { devices = ds; faults = faults }) v
-device_show c w v ds faults fit h = record { cluster = h.cluster; few = h.few; node = h.node; disk = h.disk; device = fit; packets = h.packets }
+device_show c w v ds faults fit h = record { cluster = h.cluster; few = h.few; node = h.node; disk = h.disk; device = fit; packets = h.packets; clock = h.clock }
 
 -- one device is replaced by one that keeps to 64 bits
 set_fit : (ds : List Device) (k : ℕ) (old new : Device) → slice_get ds k ≡ Some old → DeviceFits new → ((d : ℕ) (device : Device) → slice_get ds d ≡ Some device → DeviceFits device)
@@ -157,6 +158,7 @@ commanded_so c w n d (Some device) k h is keeps =
         moves = h.moves;
         nodes = h.nodes;
         run = h.run;
+        in_time = h.in_time;
         shows = device_show c w h.nodes _ _ (set_fit w.devices (d - 1) device (executed device n k (fault_at w n d)).device is left.device h.shows.device) h.shows;
       };
       bounded = left.answer;
@@ -205,6 +207,7 @@ stop_so c w n calls choice (Some disk) low is h =
       moves = h.moves ++ Arms n calls choice ∷ [];
       nodes = moved c v (Arms n calls choice);
       run = run_more c (first_nodes c) h.moves v (Arms n calls choice) h.run tt;
+      in_time = all_append InTime h.moves (Arms n calls choice) h.in_time tt;
       shows = record {
         cluster = h.shows.cluster;
         few = h.shows.few;
@@ -213,6 +216,7 @@ stop_so c w n calls choice (Some disk) low is h =
             (put_shows v.disk w.disks n disk (disks.armed disk calls choice) low is h.shows.disk);
         device = h.shows.device;
         packets = h.shows.packets;
+        clock = h.shows.clock;
       };
     }
 
@@ -304,7 +308,31 @@ packets_so c gives p (event.Rounds count nodes) h = h
 packets_so c gives p (event.Client n address client port) h = h
 
 fault_so : (c : Cluster) (w : WorldState) (n d : ℕ) (fault : Option Bool) → Played c w → Played c (with_fault w n d fault)
-fault_so c w n d fault h = record { moves = h.moves; nodes = h.nodes; run = h.run; shows = device_show c w h.nodes w.devices _ h.shows.device h.shows }
+fault_so c w n d fault h = record { moves = h.moves; nodes = h.nodes; run = h.run; in_time = h.in_time; shows = device_show c w h.nodes w.devices _ h.shows.device h.shows }
+
+clock_so : (c : Cluster) (w : WorldState) (second : ℕ) → second < 2 ^ 64 → Played c w → Played c (record w { clock = second })
+clock_so c w second time h = record {
+  moves = h.moves;
+  nodes = h.nodes;
+  run = h.run;
+  in_time = h.in_time;
+  shows = record {
+    cluster = h.shows.cluster;
+    few = h.shows.few;
+    node = h.shows.node;
+    disk = h.shows.disk;
+    device = h.shows.device;
+    packets = h.shows.packets;
+    clock = time;
+  };
+}
+
+probe_so : (c : Cluster) → GivesFit c → (p : Play) (n : ℕ) (resource : List ℕ) (good : Bool) → 1 ≤ n → Played c p.world → Played c (probing n resource good p).world
+probe_so c gives p n resource good low h =
+    if_either (λ (r : Play). Played c r.world) (is_up p.world n) (probing_up n resource good p) (skipping skip.Down p)
+    (if_either (λ (r : Play). Played c r.world) (monitors resource (node_at p.world n)) (giving n (input.Reported resource good) p) (skipping skip.NoMonitor p)
+    (given_so c gives p n (input.Reported resource good) h low tt tt) h)
+    h
 
 line_so : (c : Cluster) → GivesFit c → DevicesFit c → (p : Play) (e : Event) → IsNamed e → Played c p.world → Played c (line_on e p).world
 line_so c gives fit p (event.Boot n) low h =
@@ -315,7 +343,7 @@ line_so c gives fit p (event.Tick n) low h = up_so c gives p n input.Tick low (�
 line_so c gives fit p (event.Disk n) low h = disk_so c gives fit p n low h
 line_so c gives fit p (event.Fault n d done) low h = fault_so c p.world n d (Some done) h
 line_so c gives fit p (event.Write n d value) low h = written_at c gives fit p n d value (node_at p.world n) low h
-line_so c gives fit p (event.Clock second) low h = h
+line_so c gives fit p (event.Clock second) low h = clock_so c p.world second low h
 line_so c gives fit p (event.Rounds count nodes) low h = all_rounds c gives fit p nodes count h
 line_so c gives fit p (event.Deliver number) low h = packets_so c gives p (event.Deliver number) h
 line_so c gives fit p (event.Lose number) low h = packets_so c gives p (event.Lose number) h
@@ -324,8 +352,8 @@ line_so c gives fit p (event.Next from to) low h = packets_so c gives p (event.N
 line_so c gives fit p (event.Drop from to) low h = packets_so c gives p (event.Drop from to) h
 line_so c gives fit p (event.Again from to) low h = packets_so c gives p (event.Again from to) h
 line_so c gives fit p (event.Command n words) low h = up_so c gives p n (input.Commanded words) low (λ v. tt) tt h
-line_so c gives fit p (event.Outcome n resource method outcome) low h = packets_so c gives p (event.Outcome n resource method outcome) h
-line_so c gives fit p (event.Probe n resource good) low h = packets_so c gives p (event.Probe n resource good) h
+line_so c gives fit p (event.Outcome n resource method outcome) low h = calls_played c p.world _ p.world.agents h
+line_so c gives fit p (event.Probe n resource good) low h = probe_so c gives p n resource good low h
 line_so c gives fit p (event.Client n address client port) low h = packets_so c gives p (event.Client n address client port) h
 
 lines_so : (c : Cluster) → GivesFit c → DevicesFit c → (events : List Event) (p : Play) → AllByRecursion IsNamed events → Played c p.world → Played c (lines_on events p).world
@@ -338,12 +366,13 @@ one_of : {X : Type 0} (k j : ℕ) (a z : X) → slice_get (replicate k a) j ≡ 
 one_of k j a z e =
     sym (get_or-replicate k j a z (subst (λ n. j < n) (length-replicate k a) (slice_get_within (replicate k a) j z e))) ∙ get_or_from_slice_get (replicate k a) j z z e
 
-first_played : (h : Header) (cells : ℕ) → h.nodes ≤ 32 → ((d : ℕ) (device : Device) → slice_get (map (first_device h) h.devices) d ≡ Some device → DeviceFits device) → Played (first_cluster h) (first_world h cells)
+first_played : (h : Header) (cells : ℕ) (agents : List AgentState) → h.nodes ≤ 32 → ((d : ℕ) (device : Device) → slice_get (map (first_device h) h.devices) d ≡ Some device → DeviceFits device) → Played (first_cluster h) (first_world h cells agents)
 unfolding first_world
-first_played h cells few fits = record {
+first_played h cells agents few fits = record {
   moves = [];
   nodes = first_nodes (first_cluster h);
   run = refl;
+  in_time = tt;
   shows = record {
     cluster = refl;
     few = subst (λ k. k ≤ 32) (sym (length-replicate h.nodes Down)) few;
@@ -351,6 +380,7 @@ first_played h cells few fits = record {
     disk = λ n disk low e. one_of h.nodes (n - 1) (disks.empty_disk (quorum_devices h.devices)) disk e;
     device = fits;
     packets = tt;
+    clock = omega arith;
   };
 }
 
@@ -405,9 +435,9 @@ attached_are : (h : Header) → length h.devices ≤ 16 → All IsDevice (first_
 attached_are h devices = attached_fit 1 h.devices one_is_low (numbers_high (length h.devices) devices)
 
 -- the world is that of a run of all nodes
-pub world_played : (h : Header) (cells : ℕ) (text : List ℕ) (events : List Event) → h.nodes ≤ 32 → length h.devices ≤ 16 → h.cluster < 2 ^ 32 → AllByRecursion IsNamed events
-    → Played (first_cluster h) (lines_on events (play (first_world h cells) text)).world
-world_played h cells text events few devices small named =
+pub world_played : (h : Header) (cells : ℕ) (agents : List AgentState) (text : List ℕ) (events : List Event) → h.nodes ≤ 32 → length h.devices ≤ 16 → h.cluster < 2 ^ 32 → AllByRecursion IsNamed events
+    → Played (first_cluster h) (lines_on events (play (first_world h cells agents) text)).world
+world_played h cells agents text events few devices small named =
     let c : Cluster = first_cluster h in
     let whole : ClusterFits c = record {
       devices = record { few = few_attached 1 h.devices devices; attached = attached_are h devices };
@@ -416,12 +446,12 @@ world_played h cells text events few devices small named =
     let gives : GivesFit c = gives_fit c whole in
     let fit : DevicesFit c = devices_fit c whole small in
     let first : (d : ℕ) (device : Device) → slice_get (map (first_device h) h.devices) d ≡ Some device → DeviceFits device = first_devices_fit h h.devices small in
-    lines_so c gives fit events (play (first_world h cells) text) named (first_played h cells few first)
+    lines_so c gives fit events (play (first_world h cells agents) text) named (first_played h cells agents few first)
 
 pub world_runs_are_one : WorldRunsAreOne
-world_runs_are_one h cells text events few devices small named =
+world_runs_are_one h cells agents text events few devices small named =
     let c : Cluster = first_cluster h in
-    let run : Played c (lines_on events (play (first_world h cells) text)).world = world_played h cells text events few devices small named in
+    let run : Played c (lines_on events (play (first_world h cells agents) text)).world = world_played h cells agents text events few devices small named in
     record {
       nodes = run.nodes;
       shows = run.shows;

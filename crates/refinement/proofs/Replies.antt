@@ -2,6 +2,7 @@
 use Rattle.std.specs.Prelude.{ℕ, ◌≡◌, ◌⊎◌, ◌++◌, List, [], ◌∷◌, Option, None, Some}
 use Rattle.std.proofs.Common.{refl, sym, ap, subst, ◌∙◌, inl, inr}
 use Rattle.std.proofs.lemmas.List.{append_assoc, append-nil}
+use Rattle.cl_base.specs.declared.method.Outcome as method
 use Rattle.cmm_member.specs.Records.{NodeRecord}
 use Rattle.record_disk.specs.Savings.{Saving}
 use Rattle.record_disk.specs.declared.error.Loss.{Loss}
@@ -9,7 +10,7 @@ use Rattle.status_report.specs.declared.node_entry.DownCause.{DownCause}
 use Rattle.status_report.specs.declared.node_entry.NodeEntry.TheVariants as note
 use Rattle.node_model.specs.declared.cluster.Cluster.{Cluster}
 use Rattle.node_model.specs.declared.input.Input.{Input}
-use Rattle.node_model.specs.declared.input.Input.TheVariants.{Boot, Crash, Tick, Packet, CommandDue, Answered, Wrote, Commanded}
+use Rattle.node_model.specs.declared.input.Input.TheVariants.{Boot, Crash, Tick, Packet, CommandDue, Answered, Wrote, Commanded, Reported}
 use Rattle.node_model.specs.declared.node.Node.{Node}
 use Rattle.node_model.specs.declared.node.Node.TheVariants.{Down, Up}
 use Rattle.node_model.specs.declared.node.UpNode.{UpNode}
@@ -17,12 +18,12 @@ use Rattle.node_model.specs.declared.output.Output.{Output}
 use Rattle.node_model.specs.Plans.{Plan, cause_of}
 use Rattle.node_model.specs.Plans.Plan.{Saves}
 use Rattle.node_model.specs.Seats.{record_of, up_with}
-use Rattle.node_model.specs.Steps.{DiskRules, Outcome, carried, gone, plan_of, stepped, unless_lost}
+use Rattle.node_model.specs.Steps.{DiskRules, Outcome, at_second, carried, gone, plan_of, stepped, unless_lost}
 use Rattle.refinement.specs.Doings.{Act, Change, acted, changed, first_lines, given_all, gone_line, of_node, said, saved_lines, site}
 use Rattle.refinement.specs.Courses.{Course, Reply, plan_from, saying, under}
 use Rattle.refinement.specs.Courses.Course.{Acts, Falls as Course_falls, Keeps, Stops}
 use Rattle.refinement.specs.Courses.Reply.{Done, Lost_new, Lost_old}
-use Rattle.refinement.specs.Cuts.{course_of}
+use Rattle.refinement.specs.Cuts.{course_at}
 use Rattle.refinement.specs.Steps.{ComesTo, IsCut, IsDisk}
 use Rattle.refinement.proofs.Cuts.{step_of_node_is_its_course}
 use Rattle.refinement.proofs.Plans.{said_singly}
@@ -46,10 +47,10 @@ acted_so rules c me x kept before a rest o h = record {
 }
 
 saved_so : {K : Type 0} → (rules : DiskRules K) (c : Cluster) (me : ℕ) (x : UpNode) (kept : NodeRecord) (before : List Output) (ch : Change) (rest : Course) (o : Outcome K)
-    → Replied rules c me (changed c me x ch) (record_of (changed c me x ch)) ((before ++ first_lines me ch) ++ saved_lines me x ch) rest o → Replied rules c me x kept before (Keeps ch rest) o
+    → Replied rules c me (changed c me x ch) (record_of (changed c me x ch)) ((before ++ first_lines me ch) ++ saved_lines c me x ch) rest o → Replied rules c me x kept before (Keeps ch rest) o
 saved_so rules c me x kept before ch rest o h =
     let first : List Output = first_lines me ch in
-    let last : List Output = saved_lines me x ch in
+    let last : List Output = saved_lines c me x ch in
     let y : UpNode = changed c me x ch in
     let more : List Output = given_all c me (site (Up y) (record_of y)) (under h.replies rest) in
     record {
@@ -102,7 +103,7 @@ replied {K} rules good c me x (Keeps ch rest) before disk =
     r = record_of y
 
     last : List Output
-    last = saved_lines me x ch
+    last = saved_lines c me x ch
 
     p : Plan
     p = plan_from c me y rest
@@ -127,20 +128,22 @@ replied {K} rules good c me x (Keeps ch rest) before disk =
 replied rules good c me x (Course_falls why) before disk = record { replies = []; comes = record { left = refl; given = refl } }
 
 -- a step of a node that is up
-up_is_cut : {K : Type 0} → (rules : DiskRules K) → IsDisk rules → (c : Cluster) (me : ℕ) (x : UpNode) (disk : K) (i : Input) (before : List Output)
-    → IsCut rules c me (Up x) disk i before (carried rules.saving me (plan_of c me x i) before disk)
-up_is_cut rules good c me x disk i before =
-    let h : Replied rules c me x (rules.kept disk) before (course_of c me x i) (carried rules.saving me (plan_from c me x (course_of c me x i)) before disk) =
-    replied rules good c me x (course_of c me x i) before disk in
-    let e : carried rules.saving me (plan_of c me x i) before disk ≡ carried rules.saving me (plan_from c me x (course_of c me x i)) before disk =
-    (step_of_node_is_its_course rules.saving c me x i).is before disk in
-    subst (λ o. IsCut rules c me (Up x) disk i before o) (sym e) (record { replies = h.replies; comes = h.comes })
+up_is_cut : {K : Type 0} → (rules : DiskRules K) → IsDisk rules → (c : Cluster) (me now : ℕ) (ends : method.Outcome) (x : UpNode) (disk : K) (i : Input) (before : List Output)
+    → IsCut rules c me now ends (Up x) disk i before (carried rules.saving me (plan_of c me ends (at_second now x) i) before disk)
+up_is_cut rules good c me now ends x disk i before =
+    let k : Course = course_at c me now ends x i in
+    let p : Plan = plan_of c me ends (at_second now x) i in
+    let h : Replied rules c me x (rules.kept disk) before k (carried rules.saving me (plan_from c me x k) before disk) = replied rules good c me x k before disk in
+    let e : carried rules.saving me p before disk ≡ carried rules.saving me (plan_from c me x k) before disk =
+    (step_of_node_is_its_course rules.saving c me now ends x i).is before disk in
+    subst (λ o. IsCut rules c me now ends (Up x) disk i before o) (sym e) (record { replies = h.replies; comes = h.comes })
 
 stays_down : {K : Type 0} → (rules : DiskRules K) (c : Cluster) (me : ℕ) (disk : K) → ComesTo rules c me (site Down (rules.kept disk)) [] [] (record { after = Down; given = []; disk = disk })
 stays_down rules c me disk = record { left = refl; given = refl }
 
-boot_is_cut : {K : Type 0} → (rules : DiskRules K) → IsDisk rules → (c : Cluster) (me : ℕ) (disk : K) → IsCut rules c me Down disk Boot [] (stepped rules c me Down disk Boot)
-boot_is_cut {K} rules good c me disk = by_loss (rules.mounting disk).lost
+boot_is_cut : {K : Type 0} → (rules : DiskRules K) → IsDisk rules → (c : Cluster) (me now : ℕ) (ends : method.Outcome) (disk : K)
+    → IsCut rules c me now ends Down disk Boot [] (stepped rules c me now ends Down disk Boot)
+boot_is_cut {K} rules good c me now ends disk = by_loss (rules.mounting disk).lost
   where
     up : UpNode
     up = up_with me c.first_valid (rules.kept disk)
@@ -149,20 +152,21 @@ boot_is_cut {K} rules good c me disk = by_loss (rules.mounting disk).lost
     after = (rules.mounting disk).after
 
     by_loss : (lost : Option Loss)
-        → IsCut rules c me Down disk Boot []
+        → IsCut rules c me now ends Down disk Boot []
         (unless_lost me (of_node me note.Up ∷ []) after lost (record { after = Up up; given = of_node me note.Up ∷ []; disk = after }))
     by_loss None = record { replies = Done ∷ []; comes = record { left = ap (λ r. site (Up up) r) (sym (good.mounted disk)); given = refl } }
     by_loss (Some loss) = record { replies = Lost_old (cause_of loss) ∷ []; comes = record { left = ap (λ r. site Down r) (sym (good.mounted disk)); given = refl } }
 
 -- Each step of each node.
-pub steps_are_cut : {K : Type 0} → (rules : DiskRules K) → IsDisk rules → (c : Cluster) (me : ℕ) (node : Node) (disk : K) (i : Input)
-    → IsCut rules c me node disk i [] (stepped rules c me node disk i)
-steps_are_cut rules good c me (Up x) disk i = up_is_cut rules good c me x disk i []
-steps_are_cut rules good c me Down disk Boot = boot_is_cut rules good c me disk
-steps_are_cut rules good c me Down disk Crash = record { replies = []; comes = stays_down rules c me disk }
-steps_are_cut rules good c me Down disk Tick = record { replies = []; comes = stays_down rules c me disk }
-steps_are_cut rules good c me Down disk (Packet from m) = record { replies = []; comes = stays_down rules c me disk }
-steps_are_cut rules good c me Down disk CommandDue = record { replies = []; comes = stays_down rules c me disk }
-steps_are_cut rules good c me Down disk (Answered a) = record { replies = []; comes = stays_down rules c me disk }
-steps_are_cut rules good c me Down disk (Commanded words) = record { replies = []; comes = stays_down rules c me disk }
-steps_are_cut rules good c me Down disk (Wrote d value a) = record { replies = []; comes = stays_down rules c me disk }
+pub steps_are_cut : {K : Type 0} → (rules : DiskRules K) → IsDisk rules → (c : Cluster) (me now : ℕ) (ends : method.Outcome) (node : Node) (disk : K) (i : Input)
+    → IsCut rules c me now ends node disk i [] (stepped rules c me now ends node disk i)
+steps_are_cut rules good c me now ends (Up x) disk i = up_is_cut rules good c me now ends x disk i []
+steps_are_cut rules good c me now ends Down disk Boot = boot_is_cut rules good c me now ends disk
+steps_are_cut rules good c me now ends Down disk Crash = record { replies = []; comes = stays_down rules c me disk }
+steps_are_cut rules good c me now ends Down disk Tick = record { replies = []; comes = stays_down rules c me disk }
+steps_are_cut rules good c me now ends Down disk (Packet from m) = record { replies = []; comes = stays_down rules c me disk }
+steps_are_cut rules good c me now ends Down disk CommandDue = record { replies = []; comes = stays_down rules c me disk }
+steps_are_cut rules good c me now ends Down disk (Answered a) = record { replies = []; comes = stays_down rules c me disk }
+steps_are_cut rules good c me now ends Down disk (Commanded words) = record { replies = []; comes = stays_down rules c me disk }
+steps_are_cut rules good c me now ends Down disk (Wrote d value a) = record { replies = []; comes = stays_down rules c me disk }
+steps_are_cut rules good c me now ends Down disk (Reported r good_one) = record { replies = []; comes = stays_down rules c me disk }

@@ -5,6 +5,7 @@ use Rattle.std.proofs.Common.{refl, sym, ap, subst, inl, inr, arith}
 use Rattle.std.specs.List.{AllByRecursion}
 use Rattle.std.proofs.lemmas.Option.{slice_get_within}
 use Rattle.cl_base.specs.Keys.{key_of}
+use Rattle.cl_base.specs.declared.method.Outcome as method
 use Rattle.cmm_attempt.proofs.Basics.{none_some, same_some}
 use Rattle.cmm_member.specs.Records.{NodeRecord}
 use Rattle.device_queue.specs.declared.task.Task.{Task}
@@ -29,7 +30,7 @@ use Rattle.wire.specs.declared.message.Body.{Body}
 use Rattle.wire.specs.Spelling.{IsNode}
 use Rattle.node_model.specs.declared.cluster.Cluster.{Cluster}
 use Rattle.node_model.specs.declared.input.Input.{Input}
-use Rattle.node_model.specs.declared.input.Input.TheVariants.{Boot, Crash, Tick, Packet, CommandDue, Answered, Wrote, Commanded}
+use Rattle.node_model.specs.declared.input.Input.TheVariants.{Boot, Crash, Tick, Packet, CommandDue, Answered, Wrote, Commanded, Reported}
 use Rattle.node_model.specs.declared.node.Node.{Node}
 use Rattle.node_model.specs.declared.node.Node.TheVariants.{Down, Up}
 use Rattle.node_model.specs.declared.node.UpNode.{UpNode}
@@ -38,7 +39,7 @@ use Rattle.node_model.specs.declared.output.Output.TheVariants.{Tells, Sends}
 use Rattle.node_model.specs.Plans.{Plan, cause_of}
 use Rattle.node_model.specs.Plans.Plan.{Stays, Falls, Says, Saves}
 use Rattle.node_model.specs.Seats.{up_with}
-use Rattle.node_model.specs.Steps.{Outcome, carried, gone, plan_of, stepped, unless_lost}
+use Rattle.node_model.specs.Steps.{Outcome, at_second, carried, gone, plan_of, stepped, unless_lost}
 use Rattle.node_widths.specs.Plans.{PlanFits}
 use Rattle.node_widths.specs.Widths as widths
 use Rattle.node_widths.specs.Widths.{InputFits, NodeFits, RecordFits, TaskFits, UpFits, WorkFits}
@@ -46,7 +47,7 @@ use Rattle.node_widths.proofs.Handlers.{steps_keep_widths}
 use Rattle.node_widths.proofs.Lengths.{sent_messages_fit}
 use Rattle.world_model.specs.Devices.{due_at}
 use Rattle.world_model.specs.Worlds.{node_at}
-use Rattle.refinement.specs.Runs.{AnswersFit, IsAmong, Letter, MayMove, Move, Moves, Nodes, WasSent, first_nodes, letters_of, moved}
+use Rattle.refinement.specs.Runs.{AnswersFit, InTime, IsAmong, Letter, MayMove, Move, Moves, Nodes, WasSent, first_nodes, letters_of, moved}
 use Rattle.refinement.specs.Runs.Move.{Arms, Takes}
 use Rattle.refinement.specs.Steps.{disk_rules}
 use Rattle.refinement.specs.Widths.{ClusterFits, CommandFits, DueFits, LetterFits, RunFits}
@@ -94,25 +95,41 @@ carried_fits c n (Saves new rest) given disk h f r =
 none_fits : 0 < 2 ^ 64
 none_fits = omega arith
 
-step_fits : (c : Cluster) (n : ℕ) (node : Node) (disk : DiskState) (i : Input) → ClusterFits c → IsNode n → InputFits i → NodeFits c n node → RecordFits disk.kept
-    → StepFits c n (stepped disk_rules c n node disk i)
-step_fits c n (Up x) disk i fits is arrives h r = carried_fits c n (plan_of c n x i) [] disk (steps_keep_widths c n x i fits.devices is h arrives) tt r
-step_fits c n Down disk Boot fits is arrives h r =
+-- at another second
+dated_fits : (c : Cluster) (n now : ℕ) (x : UpNode) → now < 2 ^ 64 → UpFits c n x → UpFits c n (at_second now x)
+dated_fits c n now x time h = record {
+  state = h.state;
+  all_tasks = h.all_tasks;
+  own = h.own;
+  seen = h.seen;
+  asked = h.asked;
+  works = h.works;
+  clock = time;
+  presides = h.presides;
+}
+
+step_fits : (c : Cluster) (n now : ℕ) (ends : method.Outcome) (node : Node) (disk : DiskState) (i : Input) → ClusterFits c → IsNode n → now < 2 ^ 64 → InputFits i → NodeFits c n node → RecordFits disk.kept
+    → StepFits c n (stepped disk_rules c n now ends node disk i)
+step_fits c n now ends (Up x) disk i fits is time arrives h r =
+    let y : UpNode = at_second now x in
+    carried_fits c n (plan_of c n ends y i) [] disk (steps_keep_widths c n ends y i fits.devices is (dated_fits c n now x time h) arrives) tt r
+step_fits c n now ends Down disk Boot fits is time arrives h r =
     let x : UpNode = up_with n c.first_valid disk.kept in
-    let up : UpFits c n x = record { state = record { session = none_fits; record_fits = r; joined = omega arith }; all_tasks = tt; own = tt; seen = tt; asked = (omega arith, tt); presides = tt } in
+    let up : UpFits c n x = record { state = record { session = none_fits; record_fits = r; joined = omega arith }; all_tasks = tt; own = tt; seen = tt; asked = (omega arith, tt); works = (none_fits, tt, tt, tt); clock = none_fits; presides = tt } in
     let next : Outcome DiskState = record { after = Up x; given = Tells (entry.Node n note.Up) ∷ []; disk = (mounting disk).after } in
     let next_fits : StepFits c n next = record { node = up; disk = kept; given = tt } in
     unless_fits c n (Tells (entry.Node n note.Up) ∷ []) (mounting disk).after (mounting disk).lost next tt (λ loss e. kept) (λ e. next_fits)
   where
     kept : RecordFits (mounting disk).after.kept
     kept = subst RecordFits (sym (disks_keep_rules.mounted disk)) r
-step_fits c n Down disk Crash fits is arrives h r = record { node = tt; disk = r; given = tt }
-step_fits c n Down disk Tick fits is arrives h r = record { node = tt; disk = r; given = tt }
-step_fits c n Down disk (Packet from m) fits is arrives h r = record { node = tt; disk = r; given = tt }
-step_fits c n Down disk CommandDue fits is arrives h r = record { node = tt; disk = r; given = tt }
-step_fits c n Down disk (Answered a) fits is arrives h r = record { node = tt; disk = r; given = tt }
-step_fits c n Down disk (Wrote d value a) fits is arrives h r = record { node = tt; disk = r; given = tt }
-step_fits c n Down disk (Commanded words) fits is arrives h r = record { node = tt; disk = r; given = tt }
+step_fits c n now ends Down disk Crash fits is time arrives h r = record { node = tt; disk = r; given = tt }
+step_fits c n now ends Down disk Tick fits is time arrives h r = record { node = tt; disk = r; given = tt }
+step_fits c n now ends Down disk (Packet from m) fits is time arrives h r = record { node = tt; disk = r; given = tt }
+step_fits c n now ends Down disk CommandDue fits is time arrives h r = record { node = tt; disk = r; given = tt }
+step_fits c n now ends Down disk (Answered a) fits is time arrives h r = record { node = tt; disk = r; given = tt }
+step_fits c n now ends Down disk (Wrote d value a) fits is time arrives h r = record { node = tt; disk = r; given = tt }
+step_fits c n now ends Down disk (Commanded words) fits is time arrives h r = record { node = tt; disk = r; given = tt }
+step_fits c n now ends Down disk (Reported m good) fits is time arrives h r = record { node = tt; disk = r; given = tt }
 
 -- A run.
 
@@ -130,6 +147,7 @@ arrives_fit v CommandDue h f all = tt
 arrives_fit v (Answered a) h f all = f
 arrives_fit v (Wrote d value a) h f all = tt
 arrives_fit v (Commanded words) h f all = tt
+arrives_fit v (Reported r good) h f all = tt
 
 letters_fit : (n : ℕ) (os : List Output) (old : List Letter) → IsNode n → widths.AllFit os → AllByRecursion LetterFits old → AllByRecursion LetterFits (letters_of n os ++ old)
 letters_fit n [] old is h k = k
@@ -150,27 +168,29 @@ put_fits_disk v n disk here there k = go (same_or_not k n)
     go (inl e) = subst (λ j. RecordFits (put v.disk n disk j).kept) (sym e) (subst (λ (d : DiskState). RecordFits d.kept) (sym (put_here v.disk n disk)) here)
     go (inr ne) = subst (λ (d : DiskState). RecordFits d.kept) (sym (put_there v.disk n disk k ne)) (there k)
 
-move_fits : (c : Cluster) → ClusterFits c → (v : Nodes) (n : ℕ) (i : Input) → MayMove v (Takes n i) → RunFits c v → StepFits c n (stepped disk_rules c n (v.node n) (v.disk n) i)
-move_fits c fits v n i may h = step_fits c n (v.node n) (v.disk n) i fits (may.0, may.1) (arrives_fit v i may.2 may.3 h.sent) (h.nodes n) (h.disks n)
+move_fits : (c : Cluster) → ClusterFits c → (v : Nodes) (n now : ℕ) (ends : method.Outcome) (i : Input) → MayMove v (Takes n now ends i) → now < 2 ^ 64 → RunFits c v
+    → StepFits c n (stepped disk_rules c n now ends (v.node n) (v.disk n) i)
+move_fits c fits v n now ends i may time h =
+    step_fits c n now ends (v.node n) (v.disk n) i fits (may.0, may.1) time (arrives_fit v i may.2 may.3 h.sent) (h.nodes n) (h.disks n)
 
-fits_move : (c : Cluster) → ClusterFits c → (v : Nodes) (m : Move) → MayMove v m → RunFits c v → RunFits c (moved c v m)
-fits_move c fits v (Takes n i) may h =
-    let o : Outcome DiskState = stepped disk_rules c n (v.node n) (v.disk n) i in
-    let s : StepFits c n o = move_fits c fits v n i may h in
+fits_move : (c : Cluster) → ClusterFits c → (v : Nodes) (m : Move) → MayMove v m → InTime m → RunFits c v → RunFits c (moved c v m)
+fits_move c fits v (Takes n now ends i) may time h =
+    let o : Outcome DiskState = stepped disk_rules c n now ends (v.node n) (v.disk n) i in
+    let s : StepFits c n o = move_fits c fits v n now ends i may time h in
     record {
       nodes = put_fits_node c v n o.after s.node h.nodes;
       disks = put_fits_disk v n o.disk s.disk h.disks;
       sent = letters_fit n o.given v.sent (may.0, may.1) s.given h.sent;
     }
-fits_move c fits v (Arms n calls choice) may h =
+fits_move c fits v (Arms n calls choice) may time h =
     record { nodes = h.nodes; disks = put_fits_disk v n (armed (v.disk n) calls choice) (h.disks n) h.disks; sent = h.sent }
 
-fits_moves : (c : Cluster) → ClusterFits c → (v : Nodes) (moves : List Move) (w : Nodes) → Moves c v moves w → RunFits c v → RunFits c w
-fits_moves c fits v [] w run h = subst (RunFits c) (sym run) h
-fits_moves c fits v (m ∷ moves) w run h = fits_moves c fits (moved c v m) moves w run.1 (fits_move c fits v m run.0 h)
+fits_moves : (c : Cluster) → ClusterFits c → (v : Nodes) (moves : List Move) (w : Nodes) → Moves c v moves w → AllByRecursion InTime moves → RunFits c v → RunFits c w
+fits_moves c fits v [] w run time h = subst (RunFits c) (sym run) h
+fits_moves c fits v (m ∷ moves) w run time h = fits_moves c fits (moved c v m) moves w run.1 time.1 (fits_move c fits v m run.0 time.0 h)
 
-run_fits : (c : Cluster) → ClusterFits c → (moves : List Move) (w : Nodes) → Moves c (first_nodes c) moves w → RunFits c w
-run_fits c fits moves w run = fits_moves c fits (first_nodes c) moves w run (record {
+run_fits : (c : Cluster) → ClusterFits c → (moves : List Move) (w : Nodes) → Moves c (first_nodes c) moves w → AllByRecursion InTime moves → RunFits c w
+run_fits c fits moves w run time = fits_moves c fits (first_nodes c) moves w run time (record {
   nodes = λ n. tt;
   disks = λ n. record { promised = none_fits; installed = none_fits; members = omega arith; valid = fits.first_valid; places = none_fits };
   sent = tt;
@@ -182,7 +202,8 @@ all_spelled n (Tells e ∷ os) is h = all_spelled n os is h
 all_spelled n (Sends to b ∷ os) is h = (h.0, λ short. sent_messages_fit (record { sender = n; body = b }) is h.1 short, all_spelled n os is h.2)
 
 pub gives_fit : (c : Cluster) → ClusterFits c → GivesFit c
-gives_fit c fits moves v n i run may = all_spelled n (stepped disk_rules c n (v.node n) (v.disk n) i).given (may.0, may.1) (move_fits c fits v n i may (run_fits c fits moves v run)).given
+gives_fit c fits moves v n now ends i run times time may =
+    all_spelled n (stepped disk_rules c n now ends (v.node n) (v.disk n) i).given (may.0, may.1) (move_fits c fits v n now ends i may time (run_fits c fits moves v run times)).given
 
 -- The command that is due.
 
@@ -232,6 +253,6 @@ node_there (Some node) d k P e f = f node refl
 
 pub devices_fit : (c : Cluster) → ClusterFits c → c.id < 2 ^ 32 → DevicesFit c
 devices_fit c fits small w n d k device h low is f =
-    let r : RunFits c h.nodes = run_fits c fits h.moves h.nodes h.run in
+    let r : RunFits c h.nodes = run_fits c fits h.moves h.nodes h.run h.in_time in
     let high : n ≤ 32 = node_there (node_at w n) d k (n ≤ 32) is (λ node at. number_low n (length w.nodes) low (slice_get_within w.nodes (n - 1) node at) h.shows.few) in
     command_keeps device n k low high (node_due c n d k (node_at w n) small high (λ node at. subst (NodeFits c n) (h.shows.node n node low at) (r.nodes n)) is) f

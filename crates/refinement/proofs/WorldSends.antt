@@ -13,9 +13,9 @@ use Rattle.refinement.proofs.Lines.{few_attached, world_played}
 use Rattle.refinement.proofs.Sends.{run_is_bounded}
 
 pub worlds_send_few : WorldsSendFew
-worlds_send_few h cells text events many devices small named n node disk i is at from =
+worlds_send_few h cells agents text events many devices small named n now ends node disk i is at from =
     let c : Cluster = first_cluster h in
     let few : length c.attached ≤ 16 = few_attached 1 h.devices devices in
-    let run : Played c (lines_on events (play (first_world h cells) text)).world = world_played h cells text events many devices small named in
+    let run : Played c (lines_on events (play (first_world h cells agents) text)).world = world_played h cells agents text events many devices small named in
     let bounded : NodeIsBounded node = subst NodeIsBounded (run.shows.node n node is.0 at) ((run_is_bounded c run.moves run.nodes few run.run).nodes n) in
-    (stepped_few disk_rules c n node disk i few is from bounded).0
+    (stepped_few disk_rules c n now ends node disk i few is from bounded).0

@@ -1,9 +1,11 @@
 -- Parts of a line in the world are moves of the run of all nodes.
-use Rattle.std.specs.Prelude.{ℕ, ◌-◌, ◌≡◌, ◌≢◌, ◌≤◌, ◌<◌, ◌⊎◌, ◌++◌, ◌==◌, nat_le, nat_lt, not, Bool, true, false, List, [], ◌∷◌, Option, None, Some, length, filter, find, slice_get, slice_set, if◌then◌else◌}
+use Rattle.std.specs.Prelude.{ℕ, ◌-◌, ◌≡◌, ◌≢◌, ◌≤◌, ◌<◌, ◌⊎◌, ◌++◌, ◌==◌, nat_le, nat_lt, not, Bool, true, false, List, [], ◌∷◌, Option, None, Some, length, filter, find, position, slice_get, slice_set, if◌then◌else◌}
 use Rattle.std.proofs.Common.{refl, sym, ap, subst, ◌∙◌, inl, inr, arith}
 use Rattle.std.specs.List.{AllByRecursion}
 use Rattle.std.proofs.lemmas.List.{get_or-set_same, get_or-set_other, length-set}
 use Rattle.std.proofs.lemmas.Option.{get_or_from_slice_get, slice_get_read, slice_get_within}
+use Rattle.agents.specs.Calls.{AgentState}
+use Rattle.cl_base.specs.declared.method.Outcome as method
 use Rattle.cl_base.specs.declared.packet.DropCause.{DropCause}
 use Rattle.interconnect.specs.Links as links
 use Rattle.interconnect.specs.Links.{Links, Packet, appending, crowding, dropping, oldest_on, refusing, removing, sending, free_cells_of, count_on}
@@ -23,9 +25,12 @@ use Rattle.node_model.specs.declared.node.Node.{Node}
 use Rattle.node_model.specs.declared.output.Output.{Output}
 use Rattle.node_model.specs.declared.output.Output.TheVariants.{Tells, Sends}
 use Rattle.node_model.specs.Steps.{Outcome, stepped}
+use Rattle.rgm_member.specs.declared.due.Due.{Due}
+use Rattle.world_model.specs.declared.scripted.Scripted.{Scripted}
+use Rattle.world_model.specs.Calls.{Ended, asked_of, ended, ended_so, fits, taken_out}
 use Rattle.world_model.specs.Worlds.{Play, WorldState, telling, with_world}
-use Rattle.world_model.specs.Sends.{come_to, dropped_so, giving, is_sent, passing, posting, rules, sent_as, stepped_to, stepping_at}
-use Rattle.refinement.specs.Runs.{AnswersFit, IsAmong, Letter, MayMove, Move, Moves, Nodes, WasSent, first_nodes, letters_of, moved, stepped_at}
+use Rattle.world_model.specs.Sends.{come_to, dropped_so, due_in, giving, giving_so, is_sent, passing, posting, rules, sent_as, stepped_to, stepping_at}
+use Rattle.refinement.specs.Runs.{AnswersFit, InTime, IsAmong, Letter, MayMove, Move, Moves, Nodes, WasSent, first_nodes, letters_of, moved, stepped_at}
 use Rattle.refinement.specs.Runs.Move.{Takes}
 use Rattle.refinement.specs.Steps.{disk_rules}
 use Rattle.refinement.specs.Worlds.{AllFit, GivesFit, PacketSent, Played, Shows, SpelledIfShort}
@@ -131,7 +136,7 @@ abbrev with_new_links : WorldState → Links → WorldState
 with_new_links w l = record w { links = l }
 
 pub links_show : (c : Cluster) (w : WorldState) (v : Nodes) (l : Links) → Shows c w v → Sent v.sent l → Shows c (with_new_links w l) v
-links_show c w v l h sent = record { cluster = h.cluster; few = h.few; node = h.node; disk = h.disk; device = h.device; packets = sent }
+links_show c w v l h sent = record { cluster = h.cluster; few = h.few; node = h.node; disk = h.disk; device = h.device; packets = sent; clock = h.clock }
 
 pub dropped_world : (d : Option (ℕ × DropCause)) (q : Play) → (dropped_so d q).world ≡ q.world
 dropped_world None q = refl
@@ -174,13 +179,14 @@ run_more c w (first ∷ moves) v m run may = (run.0, run_more c (moved c w first
 pub number_low : (n len : ℕ) → 1 ≤ n → n - 1 < len → len ≤ 32 → n ≤ 32
 number_low n len low h few = grind arith
 
-stepped_show : (c : Cluster) → GivesFit c → (p : Play) (n : ℕ) (i : Input) (node : Node) (disk : DiskState) (h : Played c p.world) → 1 ≤ n → WasSent h.nodes i → AnswersFit i
+stepped_show : (c : Cluster) → GivesFit c → (p : Play) (n : ℕ) (ends : method.Outcome) (i : Input) (node : Node) (disk : DiskState) (h : Played c p.world) → 1 ≤ n → WasSent h.nodes i → AnswersFit i
     → slice_get p.world.nodes (n - 1) ≡ Some node → slice_get p.world.disks (n - 1) ≡ Some disk → h.nodes.node n ≡ node → h.nodes.disk n ≡ disk
-    → Played c (come_to n (stepped_to n p.world.nodes p.world.disks (stepped rules c n (h.nodes.node n) (h.nodes.disk n) i)) p).world
-stepped_show c gives p n i node disk h low sent bounded at_node at_disk is_node is_disk = record {
-  moves = h.moves ++ Takes n i ∷ [];
+    → Played c (come_to n (stepped_to n p.world.nodes p.world.disks (stepped rules c n p.world.clock ends (h.nodes.node n) (h.nodes.disk n) i)) p).world
+stepped_show c gives p n ends i node disk h low sent bounded at_node at_disk is_node is_disk = record {
+  moves = h.moves ++ m ∷ [];
   nodes = w;
-  run = run_more c (first_nodes c) h.moves v (Takes n i) h.run may;
+  run = run_more c (first_nodes c) h.moves v m h.run may;
+  in_time = all_append InTime h.moves m h.in_time h.shows.clock;
   shows = passed_show c w n o.given (with_world p (record p.world { nodes = slice_set p.world.nodes (n - 1) o.after; disks = slice_set p.world.disks (n - 1) o.disk })) (record {
     cluster = h.shows.cluster;
     few = subst (λ k. k ≤ 32) (sym (length-set p.world.nodes (n - 1) o.after)) h.shows.few;
@@ -188,34 +194,75 @@ stepped_show c gives p n i node disk h low sent bounded at_node at_disk is_node 
     disk = put_shows v.disk p.world.disks n disk o.disk low at_disk h.shows.disk;
     device = h.shows.device;
     packets = packets_older n o.given v.sent p.world.links.packets h.shows.packets;
-  }) (gives h.moves v n i h.run may) (among_own n o.given v.sent);
+    clock = h.shows.clock;
+  }) (gives h.moves v n p.world.clock ends i h.run h.in_time h.shows.clock may) (among_own n o.given v.sent);
 }
   where
     v : Nodes
     v = h.nodes
 
-    may : MayMove v (Takes n i)
+    m : Move
+    m = Takes n p.world.clock ends i
+
+    may : MayMove v m
     may = (low, number_low n (length p.world.nodes) low (slice_get_within p.world.nodes (n - 1) node at_node) h.shows.few, sent, bounded)
 
     o : Outcome DiskState
-    o = stepped disk_rules c n (v.node n) (v.disk n) i
+    o = stepped disk_rules c n p.world.clock ends (v.node n) (v.disk n) i
 
     w : Nodes
     w = stepped_at v n o
 
-given_by : (c : Cluster) → GivesFit c → (p : Play) (n : ℕ) (i : Input) (a : Option Node) (b : Option DiskState) (h : Played c p.world) → 1 ≤ n → WasSent h.nodes i → AnswersFit i
+given_by : (c : Cluster) → GivesFit c → (p : Play) (n : ℕ) (ends : method.Outcome) (i : Input) (a : Option Node) (b : Option DiskState) (h : Played c p.world) → 1 ≤ n → WasSent h.nodes i → AnswersFit i
     → slice_get p.world.nodes (n - 1) ≡ a → slice_get p.world.disks (n - 1) ≡ b
-    → Played c (come_to n (stepping_at p.world.cluster n i p.world.nodes p.world.disks a b) p).world
-given_by c gives p n i None b h low sent bounded at_node at_disk = h
-given_by c gives p n i (Some node) None h low sent bounded at_node at_disk = h
-given_by c gives p n i (Some node) (Some disk) h low sent bounded at_node at_disk =
+    → Played c (come_to n (stepping_at p.world.cluster n p.world.clock ends i p.world.nodes p.world.disks a b) p).world
+given_by c gives p n ends i None b h low sent bounded at_node at_disk = h
+given_by c gives p n ends i (Some node) None h low sent bounded at_node at_disk = h
+given_by c gives p n ends i (Some node) (Some disk) h low sent bounded at_node at_disk =
     let is_node : h.nodes.node n ≡ node = h.shows.node n node low at_node in
     let is_disk : h.nodes.disk n ≡ disk = h.shows.disk n disk low at_disk in
-    subst (λ z. Played c (come_to n (stepped_to n p.world.nodes p.world.disks (stepped rules z n node disk i)) p).world) (sym h.shows.cluster)
-    (subst (λ x. Played c (come_to n (stepped_to n p.world.nodes p.world.disks (stepped rules c n x disk i)) p).world) is_node
-    (subst (λ d. Played c (come_to n (stepped_to n p.world.nodes p.world.disks (stepped rules c n (h.nodes.node n) d i)) p).world) is_disk
-    (stepped_show c gives p n i node disk h low sent bounded at_node at_disk is_node is_disk)))
+    let now : ℕ = p.world.clock in
+    subst (λ z. Played c (come_to n (stepped_to n p.world.nodes p.world.disks (stepped rules z n now ends node disk i)) p).world) (sym h.shows.cluster)
+    (subst (λ x. Played c (come_to n (stepped_to n p.world.nodes p.world.disks (stepped rules c n now ends x disk i)) p).world) is_node
+    (subst (λ d. Played c (come_to n (stepped_to n p.world.nodes p.world.disks (stepped rules c n now ends (h.nodes.node n) d i)) p).world) is_disk
+    (stepped_show c gives p n ends i node disk h low sent bounded at_node at_disk is_node is_disk)))
+
+-- The method that the node calls ends: outcomes that are queued, and agents, are no part of a run of nodes.
+
+abbrev with_calls : WorldState → List Scripted → List AgentState → WorldState
+with_calls w script agents = record w { script = script; agents = agents }
+
+calls_show : (c : Cluster) (w : WorldState) (v : Nodes) (script : List Scripted) (agents : List AgentState) → Shows c w v → Shows c (with_calls w script agents) v
+calls_show c w v script agents h =
+    record { cluster = h.cluster; few = h.few; node = h.node; disk = h.disk; device = h.device; packets = h.packets; clock = h.clock }
+
+pub calls_played : (c : Cluster) (w : WorldState) (script : List Scripted) (agents : List AgentState) → Played c w → Played c (with_calls w script agents)
+calls_played c w script agents h =
+    record { moves = h.moves; nodes = h.nodes; run = h.run; in_time = h.in_time; shows = calls_show c w h.nodes script agents h.shows }
+
+abbrev OnlyCalls : WorldState → WorldState → Type 0
+OnlyCalls w z = z ≡ with_calls w z.script z.agents
+
+only_ended : (w : WorldState) (o : Option Due) → OnlyCalls w (ended w o).world
+only_ended w None = refl
+only_ended w (Some d) = by_place (position (fits d.call) w.script)
+  where
+    by_script : (place : ℕ) (s : Option Scripted) → OnlyCalls w (taken_out w place s).world
+    by_script place None = refl
+    by_script place (Some s) = refl
+
+    by_agent : (name : Option (List ℕ)) → OnlyCalls w (asked_of w d.call name).world
+    by_agent None = refl
+    by_agent (Some name) = refl
+
+    by_place : (o : Option ℕ) → OnlyCalls w (ended_so w d o).world
+    by_place (Some place) = by_script place (slice_get w.script place)
+    by_place None = by_agent d.agent
 
 pub given_so : (c : Cluster) → GivesFit c → (p : Play) (n : ℕ) (i : Input) (h : Played c p.world) → 1 ≤ n → WasSent h.nodes i → AnswersFit i → Played c (giving n i p).world
+unfolding calls_played
 given_so c gives p n i h low sent bounded =
-    given_by c gives p n i (slice_get p.world.nodes (n - 1)) (slice_get p.world.disks (n - 1)) h low sent bounded refl refl
+    let e : Ended = ended p.world (due_in p.world n i) in
+    let q : Play = with_world p (with_calls p.world e.world.script e.world.agents) in
+    subst (λ w. Played c (giving_so n i e.outcome (with_world p w)).world) (sym (only_ended p.world (due_in p.world n i)))
+    (given_by c gives q n e.outcome i (slice_get p.world.nodes (n - 1)) (slice_get p.world.disks (n - 1)) (calls_played c p.world e.world.script e.world.agents h) low sent bounded refl refl)

@@ -34,7 +34,7 @@ abbrev pub plan_from : Cluster → ℕ → UpNode → Course → Plan
 plan_from c me x Stops = Stays x
 plan_from c me x (Acts a rest) = saying (said c me x a) (plan_from c me (acted c me x a) rest)
 plan_from c me x (Keeps change rest) =
-    saying (first_lines me change) (Plan_saves (record_of (changed c me x change)) (saying (saved_lines me x change) (plan_from c me (changed c me x change) rest)))
+    saying (first_lines me change) (Plan_saves (record_of (changed c me x change)) (saying (saved_lines c me x change) (plan_from c me (changed c me x change) rest)))
 plan_from c me x (Falls why) = Plan_falls why
 
 -- What comes of a save: it is done, or it is lost, and leaves the new record or the old one.

@@ -1,5 +1,5 @@
 -- The course of each step of a node.
-use Rattle.std.specs.Prelude.{ℕ, zero, suc, ◌==◌, ◌&&◌, nat_le, nat_lt, Bool, true, List, [], ◌∷◌, length, Option, None, Some, Result, Ok, Err, is_some, if◌then◌else◌}
+use Rattle.std.specs.Prelude.{ℕ, zero, suc, ◌==◌, ◌&&◌, nat_le, nat_lt, not, Bool, true, List, [], ◌∷◌, length, Option, None, Some, Result, Ok, Err, is_some, if◌then◌else◌}
 use Rattle.std.specs.Option.{unwrap_or}
 use Rattle.admin_commands.specs.declared.accepted.Accepted.{Accepted}
 use Rattle.admin_commands.specs.declared.accepted.Accepted.TheVariants as accepted
@@ -17,7 +17,9 @@ use Rattle.ccr_tables.specs.State.{ConfigState}
 use Rattle.ccr_tables.specs.declared.command.AdminCommand.{AdminCommand}
 use Rattle.ccr_tables.specs.declared.command.AdminCommand.TheVariants as wish
 use Rattle.cl_base.specs.Sets.{has}
-use Rattle.cl_base.specs.declared.command.Query.TheVariants as query
+use Rattle.cl_base.specs.declared.command.Ask.{Ask}
+use Rattle.cl_base.specs.declared.method.Outcome.{Outcome}
+use Rattle.cl_base.specs.declared.method.Outcome.TheVariants.{Success}
 use Rattle.cl_base.specs.Seizings.{SeizeResult}
 use Rattle.cl_base.specs.declared.panic.Panic.TheVariants as panic
 use Rattle.cl_base.specs.declared.seizing.SeizeEnd.TheVariants as seized
@@ -25,7 +27,7 @@ use Rattle.cmm_attempt.specs.declared.step.AttemptEnd.{AttemptEnd}
 use Rattle.cmm_attempt.specs.declared.step.Step.{Step}
 use Rattle.cmm_attempt.specs.declared.step.Step.TheVariants as step
 use Rattle.cmm_attempt.specs.Attempts.{AttemptState, Turn, beginning, newest_installed}
-use Rattle.cmm_attempt.specs.Calls.{Call, Own_ready, Own_seized, Take, Tick as Call_tick, With_votes, turn}
+use Rattle.cmm_attempt.specs.Calls.{Call, Own_ready, Own_seized, Take, Tick as Call_tick, With_votes, starts_in, turn}
 use Rattle.cmm_member.specs.Nodes.{NodeState}
 use Rattle.device_queue.specs.declared.progress.Progress.{Progress}
 use Rattle.device_queue.specs.declared.progress.Progress.TheVariants.{GoesOn, Seized, Joined}
@@ -34,17 +36,24 @@ use Rattle.pgr_device.specs.declared.command.PrAnswer.TheVariants as given
 use Rattle.pgr_device.specs.declared.command.PrCommand.{PrCommand}
 use Rattle.proposals.specs.Arrivals as arrivals
 use Rattle.proposals.specs.Arrivals.{arrival_of, with_arrival}
-use Rattle.proposals.specs.Proposing.{is_prepared, prepared_by}
+use Rattle.proposals.specs.Proposing.{goes_again, is_prepared, prepared_by}
 use Rattle.proposals.specs.State.{State, first_in, kept_at}
 use Rattle.proposals.specs.declared.arrived.Arrival.{Arrival}
 use Rattle.proposals.specs.declared.arrived.Arrival.TheVariants.{New, Waits as Waits_already, Answered as Answered_last, Past}
 use Rattle.proposals.specs.declared.arrived.Arrived.{Arrived}
 use Rattle.proposals.specs.declared.arrived.Kept.{Kept}
 use Rattle.proposals.specs.declared.arrived.Proposed.{Proposed}
-use Rattle.query_lines.specs.Lines.{quorum_lines, table_lines}
 use Rattle.request_queue.specs.Queue as queue
 use Rattle.request_queue.specs.Queue.{Queue, found, is_full, next_number, oldest, with_number, with_request}
 use Rattle.request_queue.specs.declared.request.Request.{Request}
+use Rattle.rgm_member.specs.Orders.{after_order, answer_to, outcome_in}
+use Rattle.rgm_member.specs.Probes.{after_probe, probed}
+use Rattle.rgm_member.specs.declared.carried.Carried.{Carried}
+use Rattle.rgm_member.specs.declared.carried.Carried.TheVariants as carried
+use Rattle.rgm_member.specs.declared.probed.Probed.{Probed}
+use Rattle.rgm_member.specs.declared.probed.Probed.TheVariants as probe
+use Rattle.rgm_president.specs.Decisions as decisions
+use Rattle.rgm_state.specs.Outcomes as order
 use Rattle.seize.specs.Answers.{Answer as DeviceAnswer}
 use Rattle.seize.specs.declared.kind.JoinResult.{JoinResult}
 use Rattle.seize.specs.declared.kind.JoinResult.TheVariants as join
@@ -53,6 +62,7 @@ use Rattle.seize.specs.declared.kind.SeizeKind.TheVariants.{Vote, Plain}
 use Rattle.status_report.specs.CommandLines.{reply_text}
 use Rattle.status_report.specs.declared.command_entry.Answer.{Answer}
 use Rattle.status_report.specs.declared.command_entry.Answer.TheVariants as answer
+use Rattle.status_report.specs.declared.call_entry.ProbeResult.TheVariants as result
 use Rattle.status_report.specs.declared.command_entry.CommandEntry.TheVariants as command
 use Rattle.status_report.specs.declared.entry.Entry.TheVariants as entry
 use Rattle.status_report.specs.declared.node_entry.DownCause.TheVariants as down
@@ -62,9 +72,10 @@ use Rattle.wire.specs.declared.message.Body.{Body}
 use Rattle.wire.specs.declared.message.Body.TheVariants as body
 use Rattle.wire.specs.declared.message.Install.{Install}
 use Rattle.wire.specs.declared.message.Message.{Message}
+use Rattle.wire.specs.declared.message.Order.{Order}
 use Rattle.node_model.specs.declared.cluster.Cluster.{Cluster}
 use Rattle.node_model.specs.declared.input.Input.{Input}
-use Rattle.node_model.specs.declared.input.Input.TheVariants.{Boot, Crash, Tick, Packet, CommandDue, Answered, Wrote, Commanded}
+use Rattle.node_model.specs.declared.input.Input.TheVariants.{Boot, Crash, Tick, Packet, CommandDue, Answered, Wrote, Commanded, Reported}
 use Rattle.node_model.specs.declared.node.Node.{Node}
 use Rattle.node_model.specs.declared.node.Node.TheVariants.{Down, Up}
 use Rattle.node_model.specs.declared.node.UpNode.{UpNode}
@@ -74,17 +85,21 @@ use Rattle.node_model.specs.declared.presidency.Presidency.{Presidency}
 use Rattle.node_model.specs.declared.seat.Seat.{Seat}
 use Rattle.node_model.specs.declared.seat.Seat.TheVariants.{Forming, Member}
 use Rattle.node_model.specs.Attempts.{begins_install, installs_now, is_choosing, left_out_by, next_epoch, promise_of, starts_now, votes_in}
+use Rattle.node_model.specs.Configurations.{in_force, own_config}
+use Rattle.node_model.specs.Deciding.{is_held_up, may_order, orders_sent, with_turn}
 use Rattle.node_model.specs.Devices.{joining_so}
+use Rattle.node_model.specs.Groups.{asked_by, is_last, monitor_asked, order_told, orders_again, own_order, report_told, reported, result_of, with_ended}
 use Rattle.node_model.specs.Members.{awaits_start, hearing, is_foreign, promised_so, ready_of}
 use Rattle.node_model.specs.Entries.{answered_line}
-use Rattle.node_model.specs.Presidents.{answer_given, checked, in_force, last_place, next_place, others_of, own_arrival, own_line, proposed_by, requests_of, told_lines, with_own, with_proposals, word_answer}
+use Rattle.node_model.specs.Presidents.{answer_given, checked, committing, is_busy, is_clear, last_place, next_place, orders_for, others_of, own_arrival, own_line, proposed_by, query_lines, requests_of, taken_up, told_lines, with_act, with_own, with_proposals, word_answer}
 use Rattle.node_model.specs.Requests.{is_idle, numbered, waiting_with}
 use Rattle.node_model.specs.Seats.{coordinator_of, installed_of, is_in, is_member, promised_of, promising, record_of, session_of, state_of, version_of}
 use Rattle.node_model.specs.Ticks.{later, members_to_form, waiting_less}
+use Rattle.node_model.specs.Steps.{at_second}
 use Rattle.node_model.specs.Updates.{commits_now, is_of_member}
-use Rattle.refinement.specs.Doings.{Change, Doing, answered_so, changed, going}
+use Rattle.refinement.specs.Doings.{Change, Doing, answered_so, changed, going, minded}
 use Rattle.refinement.specs.Doings.Doing.{Comes_up, Goes_down}
-use Rattle.refinement.specs.Doings.Act.{Accepts, Ends, Gives, Goes_on, Hears, Makes, Minds, Notes, Queues, Spreads, Stores, Takes, Ticks, Waits, Writes}
+use Rattle.refinement.specs.Doings.Act.{Accepts, Dates, Ends, Gives, Goes_on, Hears, Makes, Minds, Notes, Queues, Spreads, Stores, Takes, Ticks, Waits, Works, Writes}
 use Rattle.refinement.specs.Doings.Change.{Acks, Admits, Commits, Counts, Distrusts, Installs, Leads, Prepares, Promises, Proposes, Sits, Starts}
 use Rattle.refinement.specs.Courses.{Course, Reply, joined, under}
 use Rattle.refinement.specs.Courses.Reply.{Done, Lost_new, Lost_old}
@@ -92,6 +107,23 @@ use Rattle.refinement.specs.Courses.Course.{Acts, Falls, Keeps, Stops}
 
 abbrev pub writing : ℕ → Body → Course
 writing to b = Acts (Writes to b) Stops
+
+-- what is said, and nothing else
+abbrev pub giving : List Output → Course
+giving os = Acts (Gives os) Stops
+
+-- The president decides.
+
+abbrev pub decided_course : ℕ → UpNode → Presidency → decisions.Turn → Course
+decided_course me x p t = Acts (Gives (orders_sent me t.orders)) (Acts (Minds x.requests (Some (with_turn me p t))) Stops)
+
+abbrev pub deciding_by_course : Cluster → ℕ → UpNode → Option Presidency → Course
+deciding_by_course c me x None = Stops
+deciding_by_course c me x (Some p) =
+    if may_order p.groups then decided_course me x p (decisions.decision (in_force c x) x.second (is_held_up p) p.groups) else Stops
+
+abbrev pub deciding_course : Cluster → ℕ → UpNode → Course
+deciding_course c me x = deciding_by_course c me x x.presidency
 
 -- The steps of an attempt, but for an install and a start here, which come first among them.
 
@@ -151,9 +183,16 @@ turned_by c me x a k (step.Ended e ∷ rest) = gone_on c me x a k (step.Ended e 
 abbrev pub turned : Cluster → ℕ → UpNode → AttemptState → Call → Course
 turned c me x a k = turned_by c me x a k (turn a k).steps
 
+-- where the membership has started, the president decides
+abbrev pub if_started : Cluster → ℕ → List Step → UpNode → Course
+if_started c me steps y = if starts_in steps then deciding_course c me y else Stops
+
+abbrev pub turned_all : Cluster → ℕ → UpNode → AttemptState → Call → Course
+turned_all c me x a k = joined c me x (turned c me x a k) (if_started c me (turn a k).steps)
+
 abbrev pub readied_course : Cluster → ℕ → UpNode → Option AttemptState → Course
 readied_course c me x None = Stops
-readied_course c me x (Some a) = turned c me x a Own_ready
+readied_course c me x (Some a) = turned_all c me x a Own_ready
 
 abbrev pub own_ready_course : Cluster → ℕ → UpNode → Course
 own_ready_course c me x = if joins x.tasks then Stops else readied_course c me x x.attempt
@@ -162,7 +201,7 @@ abbrev pub if_installed : Cluster → ℕ → List Step → UpNode → Course
 if_installed c me steps y = if begins_install steps then own_ready_course c me y else Stops
 
 abbrev pub called : Cluster → ℕ → UpNode → AttemptState → Call → Course
-called c me x a k = joined c me x (turned c me x a k) (if_installed c me (turn a k).steps)
+called c me x a k = joined c me x (turned_all c me x a k) (if_installed c me (turn a k).steps)
 
 -- the votes are given at once where the attempt asks for them
 abbrev pub going_course : Cluster → ℕ → UpNode → AttemptState → Call → Course
@@ -189,7 +228,7 @@ leading_course c me x p members =
     then Keeps (Leads p members) (begun_course c me (changed c me x (Leads p members)) (first_turn c me x p members))
     else Stops
 
--- A tick.
+-- A tick: its attempt.
 
 abbrev pub forming_course : Cluster → ℕ → UpNode → Option ℕ → Course
 forming_course c me x None = Stops
@@ -200,9 +239,6 @@ ticked_course c me x (Some a) = going_course c me x a Call_tick
 ticked_course c me x None =
     if nat_le 1 x.beats.wait then Acts Waits Stops
     else Acts Waits (forming_course c me (waiting_less x) (members_to_form c me (waiting_less x)))
-
-abbrev pub tick_course : Cluster → ℕ → UpNode → Course
-tick_course c me x = Acts Ticks (ticked_course c me (later c x) x.attempt)
 
 -- Messages.
 
@@ -223,14 +259,14 @@ request_course x from kind e members d None =
 abbrev pub seizing_course : UpNode → ℕ → SeizeKind → ℕ → ℕ → ℕ → Course
 seizing_course x from kind e members d = if is_in x e then request_course x from kind e members d (kept_of x.tasks d) else Stops
 
-abbrev pub readying_course : UpNode → ℕ → Course
-readying_course x to = if joins x.tasks then Stops else writing to (ready_of x)
+abbrev pub readying_course : Cluster → UpNode → ℕ → Course
+readying_course c x to = if joins x.tasks then Stops else writing to (ready_of c x)
 
 abbrev pub installed_course : Cluster → ℕ → UpNode → ℕ → Install → Seat → Course
-installed_course c me x from i (Member s) = readying_course x from
+installed_course c me x from i (Member s) = readying_course c x from
 installed_course c me x from i (Forming s) =
-    if s.saved.installed == i.epoch then readying_course x from
-    else Keeps (Installs s i) (readying_course (changed c me x (Installs s i)) from)
+    if s.saved.installed == i.epoch then readying_course c x from
+    else Keeps (Installs s i) (readying_course c (changed c me x (Installs s i)) from)
 
 abbrev pub install_course : Cluster → ℕ → UpNode → ℕ → Install → Course
 install_course c me x from i = if is_in x i.epoch then installed_course c me x from i x.seat else writing from (body.Nack i.epoch (promised_of x))
@@ -244,10 +280,6 @@ notice_course x e newest = if is_in x e then Falls (down.Panic (panic.Excluded n
 
 -- Requests at their president.
 
--- what is said, and nothing else
-abbrev pub giving : List Output → Course
-giving os = Acts (Gives os) Stops
-
 -- the first request is answered: what waits at the president itself, and what it has in hand
 abbrev pub queue_by : ℕ → UpNode → Arrived → Queue
 queue_by me x a = if a.from == me then queue.answered x.requests a.number else x.requests
@@ -258,47 +290,68 @@ in_hand me x s a = if a.from == me then with_own me s (oldest (queue.answered x.
 abbrev pub left_by_answer : ℕ → UpNode → Presidency → Arrived → Answer → Presidency
 left_by_answer me x p a told = record p { proposals = in_hand me x (arrivals.answered p.proposals (reply_text told)) a }
 
-abbrev pub answering_course : ℕ → UpNode → Presidency → Arrived → Answer → Course
-answering_course me x p a told = Acts (Gives (answer_given me x a told)) (Acts (Minds (queue_by me x a) (Some (left_by_answer me x p a told))) Stops)
+abbrev pub left_answered : ℕ → UpNode → Presidency → Arrived → Answer → UpNode
+left_answered me x p a told = minded x (queue_by me x a) (Some (left_by_answer me x p a told))
+
+abbrev pub answering_course : Cluster → ℕ → UpNode → Presidency → Arrived → Answer → Course
+answering_course c me x p a told =
+    Acts (Gives (answer_given me x a told))
+    (Acts (Minds (queue_by me x a) (Some (left_by_answer me x p a told))) (deciding_course c me (left_answered me x p a told)))
 
 -- An update is acknowledged once each member has prepared it.
 
-abbrev pub acknowledged_course : ℕ → UpNode → Presidency → Arrived → List ℕ → Course
-acknowledged_course me x p a text =
-    Keeps (Acks (state_of x.seat) p (queue_by me x a) (left_by_answer me x p a answer.Ok) text)
-    (Acts (Spreads (others_of me x) (body.Commit (session_of x) (last_place x))) (giving (answer_given me x a answer.Ok)))
+-- the president has taken up what is committed
+abbrev pub with_committed : Cluster → UpNode → Presidency → List ℕ → Presidency
+with_committed c x p text = taken_up (in_force c (committing x)) p (command_of (version_of c) text)
 
-abbrev pub acknowledging_text_course : ℕ → UpNode → Presidency → Option Arrived → Option (List ℕ) → Course
-acknowledging_text_course me x p (Some a) (Some text) = acknowledged_course me x p a text
-acknowledging_text_course me x p None text = Stops
-acknowledging_text_course me x p (Some a) None = Stops
+abbrev pub acks_of : Cluster → ℕ → UpNode → Presidency → Arrived → List ℕ → Change
+acks_of c me x p a text = Acks (state_of x.seat) p (queue_by me x a) (left_by_answer me x (with_committed c x p text) a answer.Ok) text
 
-abbrev pub acknowledging_by_course : ℕ → UpNode → Option Presidency → Course
-acknowledging_by_course me x None = Stops
-acknowledging_by_course me x (Some p) = acknowledging_text_course me x p (first_in p.proposals.arrived) (record_of x).entries.pending
+abbrev pub acknowledged_course : Cluster → ℕ → UpNode → Presidency → Arrived → List ℕ → Course
+acknowledged_course c me x p a text =
+    Keeps (acks_of c me x p a text)
+    (Acts (Spreads (others_of me x) (body.Commit (session_of x) (last_place x)))
+    (Acts (Gives (answer_given me x a answer.Ok)) (deciding_course c me (changed c me x (acks_of c me x p a text)))))
 
-abbrev pub acknowledging_course : ℕ → UpNode → Course
-acknowledging_course me x = acknowledging_by_course me x x.presidency
+abbrev pub acknowledging_text_course : Cluster → ℕ → UpNode → Presidency → Option Arrived → Option (List ℕ) → Course
+acknowledging_text_course c me x p (Some a) (Some text) = acknowledged_course c me x p a text
+acknowledging_text_course c me x p None text = Stops
+acknowledging_text_course c me x p (Some a) None = Stops
+
+abbrev pub acknowledging_by_course : Cluster → ℕ → UpNode → Option Presidency → Course
+acknowledging_by_course c me x None = Stops
+acknowledging_by_course c me x (Some p) = acknowledging_text_course c me x p (first_in p.proposals.arrived) (record_of x).entries.pending
+
+abbrev pub acknowledging_course : Cluster → ℕ → UpNode → Course
+acknowledging_course c me x = acknowledging_by_course c me x x.presidency
 
 -- A request is taken up, and one with an update makes a proposal.
 
-abbrev pub proposing_course : ℕ → UpNode → Presidency → List ℕ → Course
-proposing_course me x p text =
+abbrev pub proposing_course : Cluster → ℕ → UpNode → Presidency → List ℕ → Course
+proposing_course c me x p text =
     Keeps (Proposes (state_of x.seat) p text)
     (Acts (Spreads (others_of me x) (body.Prepare (session_of x) (next_place x) text))
-    (if others_of me x == 0 then acknowledging_course me (proposed_by me x p text) else Stops))
+    (if others_of me x == 0 then acknowledging_course c me (proposed_by c me x p text) else Stops))
 
-abbrev pub taken_as_course : ℕ → UpNode → Presidency → Arrived → Result Accepted CheckError → Course
-taken_as_course me x p a (Ok (accepted.Change u)) = proposing_course me x p (words_of u)
-taken_as_course me x p a (Ok (accepted.Act ask)) = answering_course me x p a answer.Ok
-taken_as_course me x p a (Ok (accepted.Query q)) = answering_course me x p a answer.Ok
-taken_as_course me x p a (Err (because.Refused r)) = answering_course me x p a (answer.Refused r)
-taken_as_course me x p a (Err because.NoMemory) = Stops
+-- To clear is an order.
+abbrev pub acting_course : Cluster → ℕ → UpNode → Presidency → Arrived → Ask → Course
+acting_course c me x p a ask =
+    if may_order p.groups
+    then Acts (Gives (orders_sent me (orders_for p.groups ask))) (answering_course c me x (with_act c me x p a ask) a answer.Ok)
+    else Stops
+
+abbrev pub taken_as_course : Cluster → ℕ → UpNode → Presidency → Arrived → Result Accepted CheckError → Course
+taken_as_course c me x p a (Ok (accepted.Change u)) = proposing_course c me x p (words_of u)
+taken_as_course c me x p a (Ok (accepted.Act ask)) = acting_course c me x p a ask
+taken_as_course c me x p a (Ok (accepted.Query q)) = answering_course c me x p a answer.Ok
+taken_as_course c me x p a (Err (because.Refused r)) = answering_course c me x p a (answer.Refused r)
+taken_as_course c me x p a (Err because.NoMemory) = Stops
 
 abbrev pub taken_course : Cluster → ℕ → UpNode → Presidency → Arrived → Result wanted.Request WordError → Course
-taken_course c me x p a (Ok (asked.Change u)) = taken_as_course me x p a (checked c x p (wish.Change u))
-taken_course c me x p a (Ok (asked.Act ask)) = taken_as_course me x p a (checked c x p (wish.Act ask))
-taken_course c me x p a (Err e) = answering_course me x p a (word_answer e)
+taken_course c me x p a (Ok (asked.Change u)) = if is_busy p.groups then Stops else taken_as_course c me x p a (checked c x p (wish.Change u))
+taken_course c me x p a (Ok (asked.Act ask)) =
+    if is_busy p.groups && is_clear ask then Stops else taken_as_course c me x p a (checked c x p (wish.Act ask))
+taken_course c me x p a (Err e) = answering_course c me x p a (word_answer e)
 
 abbrev pub turn_of_course : Cluster → ℕ → UpNode → Presidency → Option Proposed → Option Arrived → Course
 turn_of_course c me x p None (Some a) = taken_course c me x p a (request_of (version_of c) a.text)
@@ -371,7 +424,7 @@ asking_if_course alone c me x = if alone then asking_course c me x else Stops
 abbrev pub waiting_course : Cluster → ℕ → UpNode → ℕ → List ℕ → Course
 waiting_course c me x number text =
     if is_full x.requests then replying_course me number answer.QueueFull
-    else Acts (Minds (with_request x.requests (record { number = number; text = text; told = true })) x.presidency)
+    else Acts (Minds (with_request x.requests (record { number = number; text = text; told = true; second = x.second })) x.presidency)
     (asking_if_course (is_idle x.requests.waiting) c me (waiting_with x number text))
 
 abbrev pub elsewhere_course : ℕ → ℕ → Option ℕ → Course
@@ -381,20 +434,17 @@ elsewhere_course me number (Some president) = replying_course me number (answer.
 abbrev pub telling_course : ℕ → ℕ → List StatusEntry → Course
 telling_course me number lines = Acts (Gives (told_lines lines)) (replying_course me number answer.Ok)
 
-abbrev pub query_course : ℕ → UpNode → ℕ → ConfigState → ℕ → Result Accepted CheckError → Course
-query_course me x number s held (Ok (accepted.Query query.QuorumStatus)) = telling_course me number (quorum_lines s.votes (record_of x).members held)
-query_course me x number s held (Ok (accepted.Query (query.Rows t))) = telling_course me number (table_lines s t)
-query_course me x number s held (Ok (accepted.Query query.GroupStatus)) = Stops
-query_course me x number s held (Ok (accepted.Query query.ResourceStatus)) = Stops
-query_course me x number s held (Ok (accepted.Change u)) = Stops
-query_course me x number s held (Ok (accepted.Act ask)) = Stops
-query_course me x number s held (Err (because.Refused r)) = replying_course me number (answer.Refused r)
-query_course me x number s held (Err because.NoMemory) = Stops
+abbrev pub query_course : ℕ → UpNode → Presidency → ℕ → ConfigState → Result Accepted CheckError → Course
+query_course me x p number s (Ok (accepted.Query q)) = telling_course me number (query_lines x p s q)
+query_course me x p number s (Ok (accepted.Change u)) = Stops
+query_course me x p number s (Ok (accepted.Act ask)) = Stops
+query_course me x p number s (Err (because.Refused r)) = replying_course me number (answer.Refused r)
+query_course me x p number s (Err because.NoMemory) = Stops
 
 abbrev pub queried_course : Cluster → ℕ → UpNode → ℕ → AdminCommand → Option Presidency → Course
 queried_course c me x number question None = elsewhere_course me number (coordinator_of x)
 queried_course c me x number question (Some p) =
-    if is_full x.requests then replying_course me number answer.QueueFull else query_course me x number (in_force c x) p.held (checked c x p question)
+    if is_full x.requests then replying_course me number answer.QueueFull else query_course me x p number (in_force c x) (checked c x p question)
 
 abbrev pub commanded_course : Cluster → ℕ → UpNode → ℕ → AdminCommand → Course
 commanded_course c me x number (wish.Change u) = waiting_course c me x number (words_of u)
@@ -439,7 +489,7 @@ prepare_course x from e place text (Member s) =
     if is_in x e then preparing_course from e place s text (answer_for (length (texts_of s.saved.entries)) place) else Stops
 
 abbrev pub prepared_all_course : Cluster → ℕ → UpNode → Presidency → Course
-prepared_all_course c me x p = if is_prepared p.proposals then joined c me x (acknowledging_course me x) (handling_course c me) else Stops
+prepared_all_course c me x p = if is_prepared p.proposals then joined c me x (acknowledging_course c me x) (handling_course c me) else Stops
 
 abbrev pub prepared_at_course : Cluster → ℕ → UpNode → ℕ → ℕ → Option Presidency → Course
 prepared_at_course c me x from place None = Stops
@@ -454,35 +504,123 @@ abbrev pub commit_course : UpNode → ℕ → ℕ → Seat → Course
 commit_course x e place (Forming s) = Stops
 commit_course x e place (Member s) = if is_in x e && commits_now s place then Keeps (Commits s) Stops else Stops
 
+-- Orders: the president learns how one ended.
+
+abbrev pub done_at_course : Cluster → ℕ → UpNode → ℕ → ℕ → Outcome → Option Presidency → Course
+done_at_course c me x from number outcome None = Stops
+done_at_course c me x from number outcome (Some p) =
+    if order.is_due p.groups.view from number
+    then Acts (Minds x.requests (Some (with_ended c x p from number outcome)))
+    (joined c me (record x { presidency = Some (with_ended c x p from number outcome) })
+    (deciding_course c me (record x { presidency = Some (with_ended c x p from number outcome) })) (handling_course c me))
+    else Stops
+
+abbrev pub done_course : Cluster → ℕ → UpNode → ℕ → ℕ → ℕ → Outcome → Course
+done_course c me x from e number outcome = if is_of_member x from e then done_at_course c me x from number outcome x.presidency else Stops
+
+-- A node carries one out.
+
+abbrev pub carrying_course : Cluster → ℕ → UpNode → Order → Carried → Course
+carrying_course c me x o how =
+    Acts (Gives (order_told me o how))
+    (if is_last c x o how then Falls (down.Panic (panic.Stop o.resource))
+    else Acts (Works (after_order x.worker (own_config c x) o x.second how)) Stops)
+
+abbrev pub order_answered_course : ℕ → Order → Carried → UpNode → Course
+order_answered_course from o carried.Old x = Stops
+order_answered_course from o (carried.Called outcome) x = writing from (body.Done o.epoch o.number outcome)
+order_answered_course from o carried.Cleared x = writing from (body.Done o.epoch o.number Success)
+order_answered_course from o (carried.Kept outcome) x = writing from (body.Done o.epoch o.number outcome)
+
+abbrev pub obeying_course : Cluster → ℕ → UpNode → ℕ → Order → Carried → Course
+obeying_course c me x from o how = joined c me x (carrying_course c me x o how) (order_answered_course from o how)
+
+abbrev pub order_course : Cluster → ℕ → Outcome → UpNode → ℕ → Order → Course
+order_course c me outcome x from o =
+    if is_member x.seat && is_in x o.epoch then obeying_course c me x from o (answer_to x.worker o outcome) else Stops
+
+-- the president its own
+abbrev pub own_done_course : Cluster → ℕ → Order → Carried → UpNode → Course
+own_done_course c me o how x = done_at_course c me x me o.number (outcome_in how) x.presidency
+
+abbrev pub own_turn_course : Cluster → ℕ → Outcome → UpNode → Option Order → Course
+own_turn_course c me outcome x None = Stops
+own_turn_course c me outcome x (Some o) =
+    joined c me x (carrying_course c me x o (answer_to x.worker o outcome)) (own_done_course c me o (answer_to x.worker o outcome))
+
+-- A tick: heartbeats, what the president does, what goes again, and the attempt.
+
+abbrev pub prepares_course : UpNode → Option Proposed → Option (List ℕ) → Course → Course
+prepares_course x (Some p) (Some text) rest = Acts (Spreads p.missing (body.Prepare (session_of x) p.place text)) rest
+prepares_course x None text rest = rest
+prepares_course x (Some p) None rest = rest
+
+abbrev pub prepares_again_course : UpNode → Option Presidency → Course → Course
+prepares_again_course x None rest = rest
+prepares_again_course x (Some p) rest =
+    if goes_again p.proposals then prepares_course x p.proposals.proposed (record_of x).entries.pending rest else rest
+
+abbrev pub going_again_course : Cluster → ℕ → UpNode → UpNode → Course
+going_again_course c me before x =
+    prepares_again_course before before.presidency (Acts (Gives (orders_again before x)) (deciding_course c me x))
+
+abbrev pub governing_course : Cluster → ℕ → Outcome → UpNode → UpNode → Course
+governing_course c me outcome before x = joined c me x (own_turn_course c me outcome x (own_order me x)) (going_again_course c me before)
+
+abbrev pub tick_course : Cluster → ℕ → Outcome → UpNode → Course
+tick_course c me outcome x =
+    Acts Ticks (joined c me (later c x) (governing_course c me outcome x (later c x)) (λ y. ticked_course c me y y.attempt))
+
+-- A monitor reports.
+
+abbrev pub asking_this_course : Cluster → ℕ → UpNode → Option Ask → Course
+asking_this_course c me x None = Stops
+asking_this_course c me x (Some ask) =
+    if is_member x.seat && not (is_full x.requests)
+    then Acts (Minds (monitor_asked x ask).requests x.presidency) (asking_if_course (is_idle x.requests.waiting) c me (monitor_asked x ask))
+    else Stops
+
+abbrev pub reporting_course : Cluster → ℕ → UpNode → List ℕ → Probed → Course
+reporting_course c me x r probe.NoMonitor = Stops
+reporting_course c me x r probe.Good =
+    Acts (Gives (report_told me r result.Ok ∷ [])) (Acts (Works (after_probe x.worker (own_config c x) r x.second probe.Good)) Stops)
+reporting_course c me x r (probe.Failed a) =
+    Acts (Gives (report_told me r (result_of a) ∷ []))
+    (Acts (Works (after_probe x.worker (own_config c x) r x.second (probe.Failed a)))
+    (asking_this_course c me (reported x c r (probe.Failed a)) (asked_by a r)))
+
+abbrev pub report_course : Cluster → ℕ → UpNode → List ℕ → Bool → Course
+report_course c me x r good = reporting_course c me x r (probed x.worker (own_config c x) r good x.second)
+
 -- The answers to its own attempt, and each message.
 
 abbrev pub answer_course : Cluster → ℕ → UpNode → ℕ → Message → Option AttemptState → Course
 answer_course c me x from m None = Stops
 answer_course c me x from m (Some a) = going_course c me x a (Take from m)
 
-abbrev pub body_course : Cluster → ℕ → UpNode → ℕ → Message → Body → Course
-body_course c me x from m (body.Heartbeat promised session member) = heartbeat_course me x from session member
-body_course c me x from m (body.Collect e members) = collect_course x from e
-body_course c me x from m (body.Promise e installed members valid flagged committed pending) = answer_course c me x from m x.attempt
-body_course c me x from m (body.Nack e promised) = answer_course c me x from m x.attempt
-body_course c me x from m (body.SeizeQuorum e members d) = seizing_course x from Vote e members d
-body_course c me x from m (body.SeizeData e members d) = seizing_course x from Plain e members d
-body_course c me x from m (body.Seized e d outcome) = answer_course c me x from m x.attempt
-body_course c me x from m (body.Install i) = install_course c me x from i
-body_course c me x from m (body.Ready e joined_devices report) = answer_course c me x from m x.attempt
-body_course c me x from m (body.Start e) = start_course e x.seat
-body_course c me x from m (body.Excluded e newest) = notice_course x e newest
-body_course c me x from m (body.Prepare e place text) = prepare_course x from e place text x.seat
-body_course c me x from m (body.Prepared e place) = prepared_course c me x from e place
-body_course c me x from m (body.Commit e place) = commit_course x e place x.seat
-body_course c me x from m (body.Request e number text) = asked_course c me x from e number text
-body_course c me x from m (body.Answer e number text) = reply_course c me x e number (answer_in text)
-body_course c me x from m (body.Order o) = Stops
-body_course c me x from m (body.Done e number outcome) = Stops
+abbrev pub body_course : Cluster → ℕ → Outcome → UpNode → ℕ → Message → Body → Course
+body_course c me outcome x from m (body.Heartbeat promised session member) = heartbeat_course me x from session member
+body_course c me outcome x from m (body.Collect e members) = collect_course x from e
+body_course c me outcome x from m (body.Promise e installed members valid flagged committed pending) = answer_course c me x from m x.attempt
+body_course c me outcome x from m (body.Nack e promised) = answer_course c me x from m x.attempt
+body_course c me outcome x from m (body.SeizeQuorum e members d) = seizing_course x from Vote e members d
+body_course c me outcome x from m (body.SeizeData e members d) = seizing_course x from Plain e members d
+body_course c me outcome x from m (body.Seized e d ended) = answer_course c me x from m x.attempt
+body_course c me outcome x from m (body.Install i) = install_course c me x from i
+body_course c me outcome x from m (body.Ready e joined_devices report) = answer_course c me x from m x.attempt
+body_course c me outcome x from m (body.Start e) = start_course e x.seat
+body_course c me outcome x from m (body.Excluded e newest) = notice_course x e newest
+body_course c me outcome x from m (body.Prepare e place text) = prepare_course x from e place text x.seat
+body_course c me outcome x from m (body.Prepared e place) = prepared_course c me x from e place
+body_course c me outcome x from m (body.Commit e place) = commit_course x e place x.seat
+body_course c me outcome x from m (body.Request e number text) = asked_course c me x from e number text
+body_course c me outcome x from m (body.Answer e number text) = reply_course c me x e number (answer_in text)
+body_course c me outcome x from m (body.Order o) = order_course c me outcome x from o
+body_course c me outcome x from m (body.Done e number ended) = done_course c me x from e number ended
 
-abbrev pub packet_course : Cluster → ℕ → UpNode → ℕ → Message → Course
-packet_course c me x from m =
-    if is_foreign c me x m.body then Stops else Acts (Hears from m.body) (body_course c me (hearing x from m.body) from m m.body)
+abbrev pub packet_course : Cluster → ℕ → Outcome → UpNode → ℕ → Message → Course
+packet_course c me outcome x from m =
+    if is_foreign c me x m.body then Stops else Acts (Hears from m.body) (body_course c me outcome (hearing x from m.body) from m m.body)
 
 -- Devices.
 
@@ -501,7 +639,7 @@ seized_course c me x d result (Some coordinator) =
 
 abbrev pub joined_course : Cluster → ℕ → UpNode → Option ℕ → Course
 joined_course c me x None = Stops
-joined_course c me x (Some coordinator) = if coordinator == me then own_ready_course c me x else readying_course x coordinator
+joined_course c me x (Some coordinator) = if coordinator == me then own_ready_course c me x else readying_course c x coordinator
 
 abbrev pub joining_course : Cluster → ℕ → UpNode → ℕ → PrCommand → DeviceAnswer → ℕ → JoinResult → Course
 joining_course c me x at command a d join.Joined =
@@ -526,15 +664,20 @@ fenced_course d (Ok given.Conflict) = Falls (down.Panic (panic.Fenced d))
 fenced_course d _ = Stops
 
 -- what a node that is up does
-abbrev pub course_of : Cluster → ℕ → UpNode → Input → Course
-course_of c me x Boot = Stops
-course_of c me x Crash = Falls down.Crash
-course_of c me x Tick = tick_course c me x
-course_of c me x (Packet from message) = packet_course c me x from message
-course_of c me x CommandDue = distrusting_course x (begins_plainly x.tasks)
-course_of c me x (Answered a) = answered_course c me x a (due_device x.tasks) (next_of x.tasks)
-course_of c me x (Wrote d value a) = Acts (Stores d value a) (fenced_course d a)
-course_of c me x (Commanded words) = command_course c me x words
+abbrev pub course_of : Cluster → ℕ → Outcome → UpNode → Input → Course
+course_of c me outcome x Boot = Stops
+course_of c me outcome x Crash = Falls down.Crash
+course_of c me outcome x Tick = tick_course c me outcome x
+course_of c me outcome x (Packet from message) = packet_course c me outcome x from message
+course_of c me outcome x CommandDue = distrusting_course x (begins_plainly x.tasks)
+course_of c me outcome x (Answered a) = answered_course c me x a (due_device x.tasks) (next_of x.tasks)
+course_of c me outcome x (Wrote d value a) = Acts (Stores d value a) (fenced_course d a)
+course_of c me outcome x (Commanded words) = command_course c me x words
+course_of c me outcome x (Reported r good) = report_course c me x r good
+
+-- .. at this second of the clock
+abbrev pub course_at : Cluster → ℕ → ℕ → Outcome → UpNode → Input → Course
+course_at c me now outcome x i = Acts (Dates now) (course_of c me outcome (at_second now x) i)
 
 -- A boot: the node comes up, unless its record cannot be read.
 abbrev pub boot_doings : List Reply → List Doing
@@ -548,6 +691,6 @@ down_doings replies Boot = boot_doings replies
 down_doings replies _ = []
 
 -- the small steps of a node, where its disk replies so
-abbrev pub doings : Cluster → ℕ → List Reply → Input → Node → List Doing
-doings c me replies i Down = down_doings replies i
-doings c me replies i (Up x) = under replies (course_of c me x i)
+abbrev pub doings : Cluster → ℕ → ℕ → Outcome → List Reply → Input → Node → List Doing
+doings c me now outcome replies i Down = down_doings replies i
+doings c me now outcome replies i (Up x) = under replies (course_at c me now outcome x i)

@@ -1,16 +1,17 @@
 -- The small steps of a node: what each makes of a node with its disk, and what it gives.
 use Rattle.std.specs.Prelude.{ℕ, ◌+◌, List, [], ◌∷◌, ◌++◌, Option, None, Some, length}
-use Rattle.ccr_commit.specs.Entries.{all_committed, texts_of, with_next}
+use Rattle.ccr_commit.specs.Entries.{all_committed, texts_of}
 use Rattle.cmm_attempt.specs.declared.step.AttemptEnd.{AttemptEnd}
 use Rattle.cmm_attempt.specs.Attempts.{AttemptState, beginning}
 use Rattle.cmm_attempt.specs.Calls.{Call, turn}
-use Rattle.cmm_member.specs.Nodes.{NodeState, with_entries}
+use Rattle.cmm_member.specs.Nodes.{NodeState}
 use Rattle.cmm_member.specs.Records.{NodeRecord}
 use Rattle.device_queue.specs.Queue.{after_answer, after_seize}
 use Rattle.pgr_device.specs.declared.command.PrAnswer.TheVariants as given
 use Rattle.pgr_device.specs.declared.command.PrCommand.{PrCommand}
 use Rattle.proposals.specs.Proposing.{prepared_by}
 use Rattle.request_queue.specs.Queue.{Queue}
+use Rattle.rgm_member.specs.State.{WorkerState}
 use Rattle.seize.specs.Answers.{Answer}
 use Rattle.seize.specs.Seizing as seizing
 use Rattle.seize.specs.declared.kind.SeizeKind.{SeizeKind}
@@ -33,15 +34,16 @@ use Rattle.node_model.specs.declared.node.UpNode.{UpNode}
 use Rattle.node_model.specs.declared.output.Output.{Output}
 use Rattle.node_model.specs.declared.output.Output.TheVariants.{Tells, Sends}
 use Rattle.node_model.specs.declared.presidency.Presidency.{Presidency}
-use Rattle.node_model.specs.declared.seat.Seat.TheVariants.{Member}
-use Rattle.node_model.specs.Attempts.{base_lines, ended_entry, installing, own_promise, resting, seizing_here, started_entry, starting_as, under_way}
+use Rattle.node_model.specs.Attempts.{adopted_of, base_lines, ended_entry, installing, own_promise, resting, seizing_here, started_entry, starting_as, under_way}
+use Rattle.node_model.specs.Configurations.{in_force}
 use Rattle.node_model.specs.Devices.{answer_told, distrusting, joining_so, word_in, write_told}
 use Rattle.node_model.specs.Entries.{unknown_lines}
 use Rattle.node_model.specs.Members.{hearing, promised_so, sitting}
 use Rattle.node_model.specs.Presidents.{committing, proposed_by, sent_to, with_proposals}
 use Rattle.node_model.specs.Seats.{promising, record_of, seen, session_of, up_with}
+use Rattle.node_model.specs.Steps.{at_second}
 use Rattle.node_model.specs.Ticks.{later, ticked_output, waiting_less}
-use Rattle.node_model.specs.Updates.{committed_so}
+use Rattle.node_model.specs.Updates.{committed_so, prepared_so}
 
 -- a node, with the record that its boot would read
 pub record Site : Type 0 where
@@ -83,6 +85,8 @@ pub data Act : Type 0 where
   Spreads : (receivers : ℕ) (b : Body) → Act  -- a message to each of these nodes
   Minds : (q : Queue) (p : Option Presidency) → Act  -- its requests change, or those that it has in hand as president
   Notes : (from place : ℕ) (p : Presidency) → Act  -- as president it hears that a member has prepared
+  Dates : (now : ℕ) → Act  -- it takes its second of the clock
+  Works : (w : WorkerState) → Act  -- what it keeps of groups and resources changes
 
 pub data Doing : Type 0 where
   Comes_up : Doing
@@ -112,13 +116,13 @@ changed c me x (Promises p) = promised_so x p
 changed c me x (Leads p members) = begun_by c me (record (promising x p) { greatest = p }) p members
 changed c me x (Counts a k s i) = installing c me (going x a k) s [] i
 changed c me x (Installs s i) = installing c me x s x.tasks i
-changed c me x (Starts a k s) = starting_as x (turn a k).after s
+changed c me x (Starts a k s) = starting_as c me x (turn a k).after s
 changed c me x (Sits s e) = sitting x s
 changed c me x (Distrusts d) = distrusting x d
 changed c me x (Admits at command a d) = joining_so (answered_so x a) d
-changed c me x (Proposes s p text) = proposed_by me x p text
+changed c me x (Proposes s p text) = proposed_by c me x p text
 changed c me x (Acks s p q left text) = minded (committing x) q (Some left)
-changed c me x (Prepares s text) = record x { seat = Member (with_entries s (with_next s.saved.entries text)) }
+changed c me x (Prepares s text) = prepared_so c x s text
 changed c me x (Commits s) = committed_so x s
 
 abbrev pub accepting : Cluster → ℕ → UpNode → SeizeKind → ℕ → ℕ → ℕ → UpNode
@@ -140,6 +144,8 @@ acted c me x (Gives os) = x
 acted c me x (Spreads receivers b) = x
 acted c me x (Minds q p) = minded x q p
 acted c me x (Notes from place p) = with_proposals x p (prepared_by p.proposals from place)
+acted c me x (Dates now) = at_second now x
+acted c me x (Works w) = record x { worker = w }
 
 -- What each gives, in order.
 
@@ -163,23 +169,28 @@ abbrev pub start_lines : AttemptState → NodeState → List Output
 start_lines a s =
     Tells (entry.Start (started_entry a (length (all_committed s.saved.entries).committed))) ∷ base_lines a.plan.epoch 0 (all_committed s.saved.entries).committed
 
--- those after it, but for the line that says that it was saved
-abbrev pub last_lines : ℕ → UpNode → Change → List Output
-last_lines me x (Promises p) = superseded_lines p x.attempt ++ unknown_lines me x.requests.waiting
-last_lines me x (Leads p members) = Tells (entry.Attempt (attempt.Begun p members)) ∷ unknown_lines me x.requests.waiting
-last_lines me x (Counts a k s i) = of_node me (note.Installed i.epoch) ∷ []
-last_lines me x (Installs s i) = of_node me (note.Installed i.epoch) ∷ []
-last_lines me x (Starts a k s) = start_lines (turn a k).after s ++ of_node me (note.Member (turn a k).after.plan.epoch) ∷ []
-last_lines me x (Sits s e) = of_node me (note.Member e) ∷ []
-last_lines me x (Distrusts d) = []
-last_lines me x (Admits at command a d) = []
-last_lines me x (Proposes s p text) = []
-last_lines me x (Acks s p q left text) = Tells (entry.Update (update.Acknowledged s.session (length (texts_of s.saved.entries)) text)) ∷ []
-last_lines me x (Prepares s text) = []
-last_lines me x (Commits s) = []
+-- the flags and marks with which the membership starts
+abbrev pub adopted_by : Cluster → AttemptState → UpNode → List Output
+adopted_by c a y = adopted_of a.plan.epoch (in_force c y) y.presidency
 
-abbrev pub saved_lines : ℕ → UpNode → Change → List Output
-saved_lines me x c = of_node me note.Saved ∷ last_lines me x c
+-- those after it, but for the line that says that it was saved
+abbrev pub last_lines : Cluster → ℕ → UpNode → Change → List Output
+last_lines c me x (Promises p) = superseded_lines p x.attempt ++ unknown_lines me x.requests.waiting
+last_lines c me x (Leads p members) = Tells (entry.Attempt (attempt.Begun p members)) ∷ unknown_lines me x.requests.waiting
+last_lines c me x (Counts a k s i) = of_node me (note.Installed i.epoch) ∷ []
+last_lines c me x (Installs s i) = of_node me (note.Installed i.epoch) ∷ []
+last_lines c me x (Starts a k s) =
+    start_lines (turn a k).after s ++ (adopted_by c (turn a k).after (starting_as c me x (turn a k).after s) ++ of_node me (note.Member (turn a k).after.plan.epoch) ∷ [])
+last_lines c me x (Sits s e) = of_node me (note.Member e) ∷ []
+last_lines c me x (Distrusts d) = []
+last_lines c me x (Admits at command a d) = []
+last_lines c me x (Proposes s p text) = []
+last_lines c me x (Acks s p q left text) = Tells (entry.Update (update.Acknowledged s.session (length (texts_of s.saved.entries)) text)) ∷ []
+last_lines c me x (Prepares s text) = []
+last_lines c me x (Commits s) = []
+
+abbrev pub saved_lines : Cluster → ℕ → UpNode → Change → List Output
+saved_lines c me x change = of_node me note.Saved ∷ last_lines c me x change
 
 -- what a write came to
 abbrev pub write_lines : ℕ → UpNode → ℕ → ℕ → Answer → List Output
@@ -198,11 +209,13 @@ said c me x (Accepts kind e members d) = []
 said c me x (Takes at command a) = command_line me at command a
 said c me x (Stores d value a) = Tells (write_told me d value a) ∷ write_lines me x d value a
 said c me x (Writes to b) = Sends to b ∷ []
-said c me x (Makes change) = first_lines me change ++ last_lines me x change
+said c me x (Makes change) = first_lines me change ++ last_lines c me x change
 said c me x (Gives os) = os
 said c me x (Spreads receivers b) = sent_to receivers b
 said c me x (Minds q p) = []
 said c me x (Notes from place p) = []
+said c me x (Dates now) = []
+said c me x (Works w) = []
 
 -- What they make of a node with its disk. One that does not fit, as a change of a node that is down, is nothing.
 
@@ -234,9 +247,9 @@ abbrev pub said_in : Cluster → ℕ → Act → Node → List Output
 said_in c me a Down = []
 said_in c me a (Up x) = said c me x a
 
-abbrev pub saved_in : ℕ → Change → Node → List Output
-saved_in me change Down = []
-saved_in me change (Up x) = first_lines me change ++ saved_lines me x change
+abbrev pub saved_in : Cluster → ℕ → Change → Node → List Output
+saved_in c me change Down = []
+saved_in c me change (Up x) = first_lines me change ++ saved_lines c me x change
 
 abbrev pub gone_line : ℕ → DownCause → List Output
 gone_line me why = of_node me (note.Down why) ∷ []
@@ -246,7 +259,7 @@ abbrev pub gives : Cluster → ℕ → Site → Doing → List Output
 gives c me x Comes_up = of_node me note.Up ∷ []
 gives c me x (Goes_down why) = gone_line me why
 gives c me x (Does a) = said_in c me a x.node
-gives c me x (Saves change) = saved_in me change x.node
+gives c me x (Saves change) = saved_in c me change x.node
 gives c me x (Loses change why) = first_lines me change ++ gone_line me why
 gives c me x (Forgets change why) = first_lines me change ++ gone_line me why
 

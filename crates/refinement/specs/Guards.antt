@@ -115,11 +115,12 @@ MayWrite x (body.Commit p place) = MayCommit x p place
 MayWrite x (body.Heartbeat promised session member) = ⊥
 MayWrite x _ = Unit {0}
 
--- what tells nothing of memberships: lines, and messages about requests
+-- what tells nothing of memberships: lines, messages about requests, and orders
 abbrev pub TellsNothing : Output → Type 0
 TellsNothing (Tells e) = Unit {0}
 TellsNothing (Sends to (body.Request p number text)) = Unit {0}
 TellsNothing (Sends to (body.Answer p number text)) = Unit {0}
+TellsNothing (Sends to (body.Order o)) = Unit {0}
 TellsNothing (Sends to b) = ⊥
 
 abbrev pub TellNothing : List Output → Type 0

@@ -1,6 +1,7 @@
 -- Runs of all nodes of a cluster: any node takes any input at any time, and a message that was sent comes late, twice or not at all, and to anyone.
-use Rattle.std.specs.Prelude.{ℕ, ◌≡◌, ◌≤◌, ◌⊎◌, ◌++◌, All, List, [], ◌∷◌, length}
+use Rattle.std.specs.Prelude.{ℕ, ◌≡◌, ◌≤◌, ◌<◌, ◌^◌, ◌⊎◌, ◌++◌, All, List, [], ◌∷◌, length}
 use Rattle.std.specs.List.{AllByRecursion}
+use Rattle.cl_base.specs.declared.method.Outcome as method
 use Rattle.cmm_attempt.specs.Calls.{IsDevice}
 use Rattle.local_disk.specs.declared.memory.Choice.{Choice}
 use Rattle.machine_base.specs.Put.{put}
@@ -41,7 +42,7 @@ abbrev pub first_nodes : Cluster → Nodes
 first_nodes c = record { node = λ n. Down; disk = λ n. empty_disk c.first_valid; sent = [] }
 
 pub data Move : Type 0 where
-  Takes : (n : ℕ) (i : Input) → Move  -- something happens to node n
+  Takes : (n now : ℕ) (ends : method.Outcome) (i : Input) → Move  -- something happens to node n, at this second of the clock; a method that it calls ends so
   Arms : (n calls : ℕ) (choice : Choice) → Move  -- a stop is armed in the disk of node n
 
 abbrev pub letters_of : ℕ → List Output → List Letter
@@ -64,14 +65,19 @@ AnswersFit (Answered a) = AnswerFits a
 AnswersFit _ = Unit {0}
 
 abbrev pub MayMove : Nodes → Move → Type 0
-MayMove w (Takes n i) = (1 ≤ n) × (n ≤ 32) × WasSent w i × AnswersFit i
+MayMove w (Takes n now ends i) = (1 ≤ n) × (n ≤ 32) × WasSent w i × AnswersFit i
 MayMove w (Arms n calls choice) = Unit {0}
+
+-- its second has 64 bits
+abbrev pub InTime : Move → Type 0
+InTime (Takes n now ends i) = now < 2 ^ 64
+InTime (Arms n calls choice) = Unit {0}
 
 abbrev pub stepped_at : Nodes → ℕ → Outcome DiskState → Nodes
 stepped_at w n o = record { node = put w.node n o.after; disk = put w.disk n o.disk; sent = letters_of n o.given ++ w.sent }
 
 abbrev pub moved : Cluster → Nodes → Move → Nodes
-moved c w (Takes n i) = stepped_at w n (stepped disk_rules c n (w.node n) (w.disk n) i)
+moved c w (Takes n now ends i) = stepped_at w n (stepped disk_rules c n now ends (w.node n) (w.disk n) i)
 moved c w (Arms n calls choice) = record w { disk = put w.disk n (armed (w.disk n) calls choice) }
 
 -- v is reached from w by these moves

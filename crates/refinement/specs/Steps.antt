@@ -1,5 +1,6 @@
 -- A step of a node is its small steps.
 use Rattle.std.specs.Prelude.{ℕ, ◌≡◌, ◌⊎◌, ◌++◌, List, [], None, Some}
+use Rattle.cl_base.specs.declared.method.Outcome as method
 use Rattle.cmm_member.specs.Records.{NodeRecord}
 use Rattle.record_disk.specs.Disks as disks
 use Rattle.record_disk.specs.Disks.{DiskState}
@@ -25,10 +26,10 @@ pub record ComesTo {K : Type 0} (rules : DiskRules K) (c : Cluster) (me : ℕ) (
   pub left : after_all c me x small ≡ site o.after (rules.kept o.disk)
   pub given : before ++ given_all c me x small ≡ o.given
 
--- The step is small steps, for some replies of the disk.
-pub record IsCut {K : Type 0} (rules : DiskRules K) (c : Cluster) (me : ℕ) (node : Node) (disk : K) (i : Input) (before : List Output) (o : Outcome K) : Type 0 where
+-- The step at a second of the clock, in which a method that is called ends so, is small steps, for some replies of the disk.
+pub record IsCut {K : Type 0} (rules : DiskRules K) (c : Cluster) (me now : ℕ) (ends : method.Outcome) (node : Node) (disk : K) (i : Input) (before : List Output) (o : Outcome K) : Type 0 where
   pub replies : List Reply
-  pub comes : ComesTo rules c me (site node (rules.kept disk)) before (doings c me replies i node) o
+  pub comes : ComesTo rules c me (site node (rules.kept disk)) before (doings c me now ends replies i node) o
 
 -- the simulated disk of a node
 abbrev pub disk_rules : DiskRules DiskState
@@ -40,4 +41,5 @@ abbrev pub DisksKeepRules : Type 0
 DisksKeepRules = IsDisk disk_rules
 
 abbrev pub StepsAreCut : Type 0
-StepsAreCut = (c : Cluster) (me : ℕ) (node : Node) (disk : DiskState) (i : Input) → IsCut disk_rules c me node disk i [] (stepped disk_rules c me node disk i)
+StepsAreCut = (c : Cluster) (me now : ℕ) (ends : method.Outcome) (node : Node) (disk : DiskState) (i : Input)
+    → IsCut disk_rules c me now ends node disk i [] (stepped disk_rules c me now ends node disk i)

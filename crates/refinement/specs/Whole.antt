@@ -1,5 +1,6 @@
 -- A step of a node in the machine of memberships: what holds before and after it.
 use Rattle.std.specs.Prelude.{ℕ, ◌≡◌, ◌≢◌, ◌≤◌, All, List}
+use Rattle.cl_base.specs.declared.method.Outcome.{Outcome}
 use Rattle.cmm_attempt.specs.Calls.{IsDevice}
 use Rattle.cmm_member.specs.Records.{NodeRecord}
 use Rattle.membership_machine.specs.Events.{Event, Run}
@@ -39,9 +40,9 @@ IsTrue M _ = Unit {0}
 
 -- Each step of a node, on a disk that keeps its rules, is a run of the machine of memberships.
 abbrev pub StepsGo : {K : Type 0} → DiskRules K → Type 0
-StepsGo {K} rules = (c : Cluster) (M : Memberships) (n : ℕ) (node : Node) (disk : K) (i : Input) → n ≤ 32 → All IsDevice c.attached → Holds (setting_of c) M → IsTrue M i
+StepsGo {K} rules = (c : Cluster) (M : Memberships) (n now : ℕ) (ends : Outcome) (node : Node) (disk : K) (i : Input) → n ≤ 32 → All IsDevice c.attached → Holds (setting_of c) M → IsTrue M i
     → Stands c M n node (rules.kept disk)
-    → StepGoes c M n (stepped rules c n node disk i).after (rules.kept (stepped rules c n node disk i).disk) (stepped rules c n node disk i).given
+    → StepGoes c M n (stepped rules c n now ends node disk i).after (rules.kept (stepped rules c n now ends node disk i).disk) (stepped rules c n now ends node disk i).given
 
 -- .. and so on the simulated disk
 abbrev pub NodesGo : Type 0

@@ -13,7 +13,9 @@ use Rattle.node_model.specs.declared.output.Output.{Output}
 use Rattle.node_model.specs.declared.output.Output.TheVariants.{Tells, Sends}
 use Rattle.node_model.specs.Steps.{stepped}
 use Rattle.node_widths.specs.Widths.{AnswerFits}
+use Rattle.agents.specs.Calls.{AgentState}
 use Rattle.cl_base.specs.declared.header.Header.{Header}
+use Rattle.cl_base.specs.declared.method.Outcome.{Outcome}
 use Rattle.schedule_text.specs.declared.event.Event.{Event}
 use Rattle.schedule_text.specs.declared.event.Event.TheVariants as event
 use Rattle.world_model.specs.First.{first_cluster, first_world}
@@ -24,7 +26,7 @@ use Rattle.pgr_device.specs.Spc.{step}
 use Rattle.pgr_device.specs.declared.command.PrCommand.{PrCommand}
 use Rattle.world_model.specs.Lines.{line_on}
 use Rattle.world_model.specs.Worlds.{Play, WorldState, play}
-use Rattle.refinement.specs.Runs.{IsAmong, IsRun, Letter, MayMove, Move, Moves, Nodes, first_nodes}
+use Rattle.refinement.specs.Runs.{InTime, IsAmong, IsRun, Letter, MayMove, Move, Moves, Nodes, first_nodes}
 use Rattle.refinement.specs.Runs.Move.{Takes}
 use Rattle.refinement.specs.Steps.{disk_rules}
 
@@ -37,10 +39,11 @@ AllFit n [] = Unit {0}
 AllFit n (Tells e ∷ os) = AllFit n os
 AllFit n (Sends to b ∷ os) = (1 ≤ to) × SpelledIfShort (record { sender = n; body = b }) × AllFit n os
 
--- so it is in every run
+-- so it is in every run whose seconds have 64 bits
 abbrev pub GivesFit : Cluster → Type 0
-GivesFit c = (moves : List Move) (v : Nodes) (n : ℕ) (i : Input) → Moves c (first_nodes c) moves v → MayMove v (Takes n i)
-    → AllFit n (stepped disk_rules c n (v.node n) (v.disk n) i).given
+GivesFit c = (moves : List Move) (v : Nodes) (n now : ℕ) (ends : Outcome) (i : Input) → Moves c (first_nodes c) moves v → AllByRecursion InTime moves → now < 2 ^ 64
+    → MayMove v (Takes n now ends i)
+    → AllFit n (stepped disk_rules c n now ends (v.node n) (v.disk n) i).given
 
 -- a packet holds a message that its sender sent, if it holds one
 abbrev pub PacketSent : List Letter → Packet → Type 0
@@ -60,12 +63,14 @@ pub record Shows (c : Cluster) (w : WorldState) (v : Nodes) : Type 0 where
   pub disk : (n : ℕ) (disk : DiskState) → 1 ≤ n → slice_get w.disks (n - 1) ≡ Some disk → v.disk n ≡ disk
   pub device : (d : ℕ) (device : Device) → slice_get w.devices d ≡ Some device → DeviceFits device
   pub packets : AllByRecursion (PacketSent v.sent) w.links.packets
+  pub clock : w.clock < 2 ^ 64
 
 -- the world is that of a run of all nodes
 pub record Played (c : Cluster) (w : WorldState) : Type 0 where
   pub moves : List Move
   pub nodes : Nodes
   pub run : Moves c (first_nodes c) moves nodes
+  pub in_time : AllByRecursion InTime moves
   pub shows : Shows c w nodes
 
 -- The command keeps a device so, and its answer has numbers of 64 bits.
@@ -76,7 +81,7 @@ Keeps device n k = DeviceFits (step device n k).after × AnswerFits (Ok (step de
 abbrev pub DevicesFit : Cluster → Type 0
 DevicesFit c = (w : WorldState) (n d : ℕ) (k : PrCommand) (device : Device) → Played c w → 1 ≤ n → due w n ≡ Some (d, k) → DeviceFits device → Keeps device n k
 
--- A line names nodes from number 1 on.
+-- A line names nodes from number 1 on, and seconds of 64 bits.
 abbrev pub IsNamed : Event → Type 0
 IsNamed (event.Boot n) = 1 ≤ n
 IsNamed (event.Crash n) = 1 ≤ n
@@ -85,6 +90,8 @@ IsNamed (event.Tick n) = 1 ≤ n
 IsNamed (event.Disk n) = 1 ≤ n
 IsNamed (event.Write n d value) = 1 ≤ n
 IsNamed (event.Command n words) = 1 ≤ n
+IsNamed (event.Probe n r good) = 1 ≤ n
+IsNamed (event.Clock second) = second < 2 ^ 64
 IsNamed _ = Unit {0}
 
 abbrev pub lines_on : List Event → Play → Play
@@ -99,5 +106,5 @@ pub record IsWorldRun (c : Cluster) (w : WorldState) : Type 0 where
 
 -- Each run of the simulated world is a run of the machine of memberships.
 abbrev pub WorldRunsAreOne : Type 0
-WorldRunsAreOne = (h : Header) (cells : ℕ) (text : List ℕ) (events : List Event) → h.nodes ≤ 32 → length h.devices ≤ 16 → h.cluster < 2 ^ 32 → AllByRecursion IsNamed events
-    → IsWorldRun (first_cluster h) (lines_on events (play (first_world h cells) text)).world
+WorldRunsAreOne = (h : Header) (cells : ℕ) (agents : List AgentState) (text : List ℕ) (events : List Event) → h.nodes ≤ 32 → length h.devices ≤ 16 → h.cluster < 2 ^ 32 → AllByRecursion IsNamed events
+    → IsWorldRun (first_cluster h) (lines_on events (play (first_world h cells agents) text)).world

@@ -4,10 +4,12 @@
 //! cut the plan of each input into them; `specs/Guards` says when a node may take each, by its own state and the delivered packet
 //! alone; `specs/Ties` says when a node, its disk and what it says are those of the machine.
 //!
-//! Requests and answers tell the machine nothing. An update is its events: proposed, prepared by the members, acknowledged, committed.
-//! The machine's votes are those under a list of updates; no node keeps or shows a list that is bad.
+//! Requests and answers tell the machine nothing, nor do orders, what comes of them, and reports of resources. An update is its events:
+//! proposed, prepared by the members, acknowledged, committed. The machine's votes are those under a list of updates; no node keeps or
+//! shows a list that is bad.
 //!
-//! Each function here is a law. It has no body, and its contract is proved of every node, every disk and every input.
+//! Each function here is a law. It has no body, and its contract is proved of every node, every disk, every input, every second of the
+//! clock, and however a method ends that a node calls.
 #![tactic(auto)]
 
 ghost use Rattle.refinement.specs.Steps.{DisksKeepRules, StepsAreCut};
@@ -36,16 +38,17 @@ pub fn nodes_go()
 {}
 
 /// Every run of all nodes is a run of the machine of memberships: any node takes any input at any time, an administrator's command
-/// among them, a save is done or lost, and what was sent comes late, twice or not at all, and to anyone; a device answers anything in
-/// 64 bits. Each node with its disk is tied to the machine's, and all that was ever sent is true there. So each law of the machine is
+/// among them, at any second of the clock, which may go back, and a method that it calls ends anyhow; a save is done or lost, and what
+/// was sent comes late, twice or not at all, and to anyone; a device answers anything in 64 bits. Each node with its disk is tied to the machine's, and all that was ever sent is true there. So each law of the machine is
 /// one of these runs.
 pub fn every_run_is_one()
     ensures { EveryRunIsOne }
 {}
 
 /// Each run of the simulated world, from its header on through any lines, is a run of all nodes, and so one of the machine of
-/// memberships: its nodes and disks are those of that run, and each packet in flight holds what its sender sent. The header has at
-/// most 32 nodes, at most 16 devices and a cluster below 2^32, and the lines name nodes from number 1 on; nothing else is supposed.
+/// memberships: its nodes and disks are those of that run, and each packet in flight holds what its sender sent. Its agents are any. The
+/// header has at most 32 nodes, at most 16 devices and a cluster below 2^32, and the lines name nodes from number 1 on and seconds below
+/// 2^64; nothing else is supposed.
 pub fn world_runs_are_one()
     ensures { WorldRunsAreOne }
 {}
@@ -64,8 +67,8 @@ pub fn runs_send_few()
     ensures { RunsSendFew }
 {}
 
-/// In every run of the simulated world each step of a node sends at most 4,096 messages, whatever comes to it of a node, and whatever
-/// its disk does.
+/// In every run of the simulated world each step of a node sends at most 4,096 messages, whatever comes to it of a node, at any second,
+/// whatever its disk does, and however a method ends that it calls.
 pub fn worlds_send_few()
     ensures { WorldsSendFew }
 {}

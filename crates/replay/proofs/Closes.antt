@@ -1,8 +1,8 @@
 -- A run, closed.
 use Rattle.std.proofs.Common.{◌≡◌, ◌≢◌, ℕ, ◌≤◌, Bool, true, false, List, [], ◌++◌, length, take, Option, None, Some, Ok, Err, refl, sym, ap, subst, ◌∙◌, arith, append-nil, append_assoc, length-take}
-use Rattle.std.specs.String.{string_bytes}
 use Rattle.std.specs.Io.{StartsWith}
 use Rattle.std.specs.Io.KnownBytes.{Appends, Consumes, Keeps, IsAtEnd}
+use Rattle.agents.specs.Calls.{AgentState}
 use Rattle.cl_io.specs.Causes.{Rose, AppendsFront}
 use Rattle.cl_io.proofs.KnownLemmas.{appends_then, consumes_then, keeps_consumes}
 use Rattle.replay.specs.declared.reader.Reader as reader
@@ -108,25 +108,25 @@ caused status.NoMemory reads reads' writes writes' same h = (same, h)
 caused status.TooLarge reads reads' writes writes' same h = (same, h)
 
 -- more was wanted before
-wanted : (task : Task) (left left' held held' : Option (List ℕ)) (now : reader.Reader) → IsReader now → (on : ReadsOn task left left' held held' now) → (outcome_of task false on.taken).ending ≡ Open
-wanted task left left' held held' now whole on =
-    let all : outcome_of task false (on.taken ++ []) ≡ after on.written (with_more task false now []) = on.goes_on false [] in
-    ap (λ (xs : List ℕ). (outcome_of task false xs).ending) (sym (append-nil on.taken)) ∙ (ap (λ (o : Outcome). o.ending) all ∙ ap (λ (o : Outcome). o.ending) (is_open task now whole))
+wanted : (task : Task) (agents : List AgentState) (left left' held held' : Option (List ℕ)) (now : reader.Reader) → IsReader now → (on : ReadsOn task agents left left' held held' now) → (outcome_of task agents false on.taken).ending ≡ Open
+wanted task agents left left' held held' now whole on =
+    let all : outcome_of task agents false (on.taken ++ []) ≡ after on.written (with_more task false now []) = on.goes_on false [] in
+    ap (λ (xs : List ℕ). (outcome_of task agents false xs).ending) (sym (append-nil on.taken)) ∙ (ap (λ (o : Outcome). o.ending) all ∙ ap (λ (o : Outcome). o.ending) (is_open task now whole))
 
-no_further : (task : Task) (left left' held held' : Option (List ℕ)) (now : reader.Reader) (piece : List ℕ) → IsReader now → (on : ReadsOn task left left' held held' now) → length piece ≤ 4096
-    → ReadsNoFurther task (on.taken ++ piece)
-no_further task left left' held held' now piece whole on few = record { before = on.taken; last = piece; parts = refl; piece = few; wanted = wanted task left left' held held' now whole on }
+no_further : (task : Task) (agents : List AgentState) (left left' held held' : Option (List ℕ)) (now : reader.Reader) (piece : List ℕ) → IsReader now → (on : ReadsOn task agents left left' held held' now) → length piece ≤ 4096
+    → ReadsNoFurther task agents (on.taken ++ piece)
+no_further task agents left left' held held' now piece whole on few = record { before = on.taken; last = piece; parts = refl; piece = few; wanted = wanted task agents left left' held held' now whole on }
 
 -- reading stopped, in a piece or at the end
-pub closed_run : (task : Task) (left left' left'' held held' held'' : Option (List ℕ)) (reads reads' writes writes' writes'' : ℕ) (now : reader.Reader) (piece : List ℕ) (ended : Bool) (why : Stop) (lines : ℕ) (text : List ℕ) (result : Status)
-    → ReadsOn task left left' held held' now → IsReader now → Consumes left' left'' piece → length piece ≤ 4096 → (ended ≡ true → IsAtEnd left'')
+pub closed_run : (task : Task) (agents : List AgentState) (left left' left'' held held' held'' : Option (List ℕ)) (reads reads' writes writes' writes'' : ℕ) (now : reader.Reader) (piece : List ℕ) (ended : Bool) (why : Stop) (lines : ℕ) (text : List ℕ) (result : Status)
+    → ReadsOn task agents left left' held held' now → IsReader now → Consumes left' left'' piece → length piece ≤ 4096 → (ended ≡ true → IsAtEnd left'')
     → Stops why (with_more task ended now piece) lines text → reads' ≡ reads → writes' ≡ writes → Closed task why lines text result held' held'' writes' writes''
-    → IsRun task left left'' held held'' reads reads' writes writes'' result
-closed_run task left left' left'' held held' held'' reads reads' writes writes' writes'' now piece ended why lines text result on whole consumed few gone stops same kept closed =
+    → IsRun task agents left left'' held held'' reads reads' writes writes'' result
+closed_run task agents left left' left'' held held' held'' reads reads' writes writes' writes'' now piece ended why lines text result on whole consumed few gone stops same kept closed =
     record {
       taken = on.taken ++ piece;
       consumed = consumes_then left left' left'' on.taken piece on.consumed consumed;
-      no_further = no_further task left left' held held' now piece whole on few;
+      no_further = no_further task agents left left' held held' now piece whole on few;
       ended = ended;
       at_end = gone;
       says = subst (λ (x : Outcome). Says result x.ending) (sym (on.goes_on ended piece)) (closed.says (with_more task ended now piece) stops);
@@ -138,25 +138,25 @@ closed_run task left left' left'' held held' held'' reads reads' writes writes' 
     }
 
 -- in a piece
-pub closed_in : (A : Type 0) (task : Task) (left left' left'' held held' held'' : Option (List ℕ)) (reads reads' writes writes' writes'' : ℕ) (now last : reader.Reader) (piece : List ℕ) (why : Stop) (result : Status)
-    → ReadsOn task left left' held held' now → IsReader now → Consumes left' left'' piece → length piece ≤ 4096
+pub closed_in : (A : Type 0) (task : Task) (agents : List AgentState) (left left' left'' held held' held'' : Option (List ℕ)) (reads reads' writes writes' writes'' : ℕ) (now last : reader.Reader) (piece : List ℕ) (why : Stop) (result : Status)
+    → ReadsOn task agents left left' held held' now → IsReader now → Consumes left' left'' piece → length piece ≤ 4096
     → TakesBytes {A = A} task now piece (Err why) last → reads' ≡ reads → writes' ≡ writes → Closed task why last.lines last.text.items result held' held'' writes' writes''
-    → IsRun task left left'' held held'' reads reads' writes writes'' result
-closed_in A task left left' left'' held held' held'' reads reads' writes writes' writes'' now last piece why result on whole consumed few taken same kept closed =
-    closed_run task left left' left'' held held' held'' reads reads' writes writes' writes'' now piece false why last.lines last.text.items result on whole consumed few (λ e. absurd (cc))
+    → IsRun task agents left left'' held held'' reads reads' writes writes'' result
+closed_in A task agents left left' left'' held held' held'' reads reads' writes writes' writes'' now last piece why result on whole consumed few taken same kept closed =
+    closed_run task agents left left' left'' held held' held'' reads reads' writes writes' writes'' now piece false why last.lines last.text.items result on whole consumed few (λ e. absurd (cc))
     (subst (λ (xs : List ℕ). Stops why (with_more task false now xs) last.lines last.text.items) (append-nil piece) (taken false [])) same kept closed
 
 -- the source failed
-pub read_failed : (task : Task) (left left' left'' held held' : Option (List ℕ)) (reads reads' writes writes' : ℕ) (now : reader.Reader)
-    → ReadsOn task left left' held held' now → IsReader now → now.text.items ≡ [] → Keeps left' left'' → Rose reads reads' → writes' ≡ writes
-    → IsRun task left left'' held held' reads reads' writes writes' status.ReadFault
-read_failed task left left' left'' held held' reads reads' writes writes' now on whole none keeps rose same =
-    let all : outcome_of task false (on.taken ++ []) ≡ record { text = on.written; ending = Open } =
+pub read_failed : (task : Task) (agents : List AgentState) (left left' left'' held held' : Option (List ℕ)) (reads reads' writes writes' : ℕ) (now : reader.Reader)
+    → ReadsOn task agents left left' held held' now → IsReader now → now.text.items ≡ [] → Keeps left' left'' → Rose reads reads' → writes' ≡ writes
+    → IsRun task agents left left'' held held' reads reads' writes writes' status.ReadFault
+read_failed task agents left left' left'' held held' reads reads' writes writes' now on whole none keeps rose same =
+    let all : outcome_of task agents false (on.taken ++ []) ≡ record { text = on.written; ending = Open } =
     on.goes_on false [] ∙ (ap (λ (o : Outcome). after on.written o) (is_open task now whole) ∙ ap (λ (t : List ℕ). record { text = t; ending = Open }) (ap (λ (t : List ℕ). on.written ++ t) none ∙ append-nil on.written)) in
     record {
       taken = on.taken ++ [];
       consumed = consumes_then left left' left'' on.taken [] on.consumed (keeps_consumes left' left'' keeps);
-      no_further = no_further task left left' held held' now [] whole on (omega arith);
+      no_further = no_further task agents left left' held held' now [] whole on (omega arith);
       ended = false;
       at_end = λ e. absurd (cc);
       says = subst (λ (x : Outcome). Says status.ReadFault x.ending) (sym all) tt;
@@ -167,17 +167,17 @@ read_failed task left left' left'' held held' reads reads' writes writes' now on
     }
 
 -- the sink failed at what a piece was answered
-pub write_failed : (A : Type 0) (done : A) (task : Task) (left left' left'' held held' held'' : Option (List ℕ)) (reads reads' writes writes' : ℕ) (now new : reader.Reader) (piece : List ℕ)
-    → ReadsOn task left left' held held' now → IsReader now → Consumes left' left'' piece → length piece ≤ 4096
+pub write_failed : (A : Type 0) (done : A) (task : Task) (agents : List AgentState) (left left' left'' held held' held'' : Option (List ℕ)) (reads reads' writes writes' : ℕ) (now new : reader.Reader) (piece : List ℕ)
+    → ReadsOn task agents left left' held held' now → IsReader now → Consumes left' left'' piece → length piece ≤ 4096
     → TakesBytes {A = A} task now piece (Ok done) new → reads' ≡ reads → AppendsFront held' held'' new.text.items → Rose writes writes'
-    → IsRun task left left'' held held'' reads reads' writes writes' status.WriteFault
-write_failed A done task left left' left'' held held' held'' reads reads' writes writes' now new piece on whole consumed few taken same front rose =
-    let all : outcome_of task false (on.taken ++ piece) ≡ after on.written (with_more task false new []) =
+    → IsRun task agents left left'' held held'' reads reads' writes writes' status.WriteFault
+write_failed A done task agents left left' left'' held held' held'' reads reads' writes writes' now new piece on whole consumed few taken same front rose =
+    let all : outcome_of task agents false (on.taken ++ piece) ≡ after on.written (with_more task false new []) =
     on.goes_on false piece ∙ (ap (λ (xs : List ℕ). after on.written (with_more task false now xs)) (sym (append-nil piece)) ∙ ap (λ (o : Outcome). after on.written o) (taken false [])) in
     record {
       taken = on.taken ++ piece;
       consumed = consumes_then left left' left'' on.taken piece on.consumed consumed;
-      no_further = no_further task left left' held held' now piece whole on few;
+      no_further = no_further task agents left left' held held' now piece whole on few;
       ended = false;
       at_end = λ e. absurd (cc);
       says = tt;
@@ -190,24 +190,24 @@ write_failed A done task left left' left'' held held' held'' reads reads' writes
     }
 
 -- a piece was taken, and what it was answered is written
-pub read_more : (A : Type 0) (done : A) (task : Task) (left left' left'' held held' held'' : Option (List ℕ)) (now new next : reader.Reader) (piece : List ℕ)
-    → ReadsOn task left left' held held' now → Consumes left' left'' piece → TakesBytes {A = A} task now piece (Ok done) new → Appends held' held'' new.text.items
-    → ((ended : Bool) (more : List ℕ) → with_more task ended new more ≡ after new.text.items (with_more task ended next more)) → ReadsOn task left left'' held held'' next
-read_more A done task left left' left'' held held' held'' now new next piece on consumed taken wrote flushed = record {
+pub read_more : (A : Type 0) (done : A) (task : Task) (agents : List AgentState) (left left' left'' held held' held'' : Option (List ℕ)) (now new next : reader.Reader) (piece : List ℕ)
+    → ReadsOn task agents left left' held held' now → Consumes left' left'' piece → TakesBytes {A = A} task now piece (Ok done) new → Appends held' held'' new.text.items
+    → ((ended : Bool) (more : List ℕ) → with_more task ended new more ≡ after new.text.items (with_more task ended next more)) → ReadsOn task agents left left'' held held'' next
+read_more A done task agents left left' left'' held held' held'' now new next piece on consumed taken wrote flushed = record {
   taken = on.taken ++ piece;
   consumed = consumes_then left left' left'' on.taken piece on.consumed consumed;
   written = on.written ++ new.text.items;
   appended = appends_then held held' held'' on.written new.text.items on.appended wrote;
   goes_on = λ ended more.
-      ap (λ (xs : List ℕ). outcome_of task ended xs) (append_assoc on.taken piece more)
+      ap (λ (xs : List ℕ). outcome_of task agents ended xs) (append_assoc on.taken piece more)
       ∙ (on.goes_on ended (piece ++ more)
       ∙ (ap (λ (o : Outcome). after on.written o) (taken ended more ∙ flushed ended more)
       ∙ after_after on.written new.text.items (with_more task ended next more)));
 }
 
 -- nothing was read
-pub reads_nothing : (task : Task) (left held : Option (List ℕ)) (now : reader.Reader) → now.state ≡ start → now.lines ≡ 0 → now.held.items ≡ [] → now.text.items ≡ [] → ReadsOn task left left held held now
-reads_nothing task left held now state lines none text = record {
+pub reads_nothing : (task : Task) (agents : List AgentState) (left held : Option (List ℕ)) (now : reader.Reader) → now.state ≡ start agents → now.lines ≡ 0 → now.held.items ≡ [] → now.text.items ≡ [] → ReadsOn task agents left left held held now
+reads_nothing task agents left held now state lines none text = record {
   taken = [];
   consumed = same_consumes left;
   written = [];
@@ -215,8 +215,8 @@ reads_nothing task left held now state lines none text = record {
   goes_on = λ ended more. rw (state, lines, none, text) refl;
 }
 
-pub no_memory : (task : Task) (left held : Option (List ℕ)) (reads writes : ℕ) → IsRun task left left held held reads reads writes writes status.NoMemory
-no_memory task left held reads writes = record {
+pub no_memory : (task : Task) (agents : List AgentState) (left held : Option (List ℕ)) (reads writes : ℕ) → IsRun task agents left left held held reads reads writes writes status.NoMemory
+no_memory task agents left held reads writes = record {
   taken = [];
   consumed = same_consumes left;
   no_further = record { before = []; last = []; parts = refl; piece = omega arith; wanted = refl };

@@ -1,6 +1,5 @@
 -- What is left at the end of the input, and before it.
 use Rattle.std.proofs.Common.{◌≡◌, ℕ, ◌+◌, ◌==◌, Bool, true, false, List, [], ◌∷◌, ◌++◌, length, Result, Ok, Err, OnOk, refl, sym, ap, subst, ◌∙◌, append-nil}
-use Rattle.std.specs.String.{string_bytes}
 use Rattle.std.proofs.lemmas.List.Splits.{slice_split_none}
 use Rattle.schedule_text.specs.declared.kind.Kind.{Kind}
 use Rattle.replay.specs.declared.stop.Stop.{Stop}

@@ -2,6 +2,7 @@
 use Rattle.std.proofs.Common.{◌≡◌, ℕ, ◌+◌, ◌==◌, Bool, true, false, if◌then◌else◌, List, [], ◌∷◌, ◌++◌, length, Option, Some, None, Result, Ok, Err, refl, sym, ap, subst, arith}
 use Rattle.std.proofs.lemmas.Bool.Decides.{nat_tests}
 use Rattle.std.specs.List.{flat_map}
+use Rattle.agents.specs.Calls.{AgentState}
 use Rattle.pgr_device.specs.Device.{Device, fresh}
 use Rattle.pgr_device.specs.Runs.{run_answers}
 use Rattle.pgr_device.specs.Spc as spc
@@ -11,7 +12,6 @@ use Rattle.cl_base.specs.declared.header.Header.{Header}
 use Rattle.cl_base.specs.declared.header.Version.{Version}
 use Rattle.cl_base.specs.declared.header.Version.TheVariants.{One, Two}
 use Rattle.schedule_text.specs.declared.event.Event.{Event}
-use Rattle.schedule_text.specs.declared.kind.Kind.TheVariants as kind
 use Rattle.schedule_text.specs.declared.line.ClusterLine.{ClusterLine}
 use Rattle.schedule_text.specs.declared.line.ClusterLine.TheVariants as cluster
 use Rattle.schedule_text.specs.declared.line.SoFar.{SoFar}
@@ -33,7 +33,7 @@ use Rattle.replay.specs.declared.session.Body.TheVariants.{Clustering, Replaying
 use Rattle.replay.specs.declared.session.State.{State}
 use Rattle.replay.specs.declared.session.State.TheVariants.{Heading, Reading}
 use Rattle.replay.specs.declared.task.Task.TheVariants.{Run}
-use Rattle.replay.specs.Sessions.{cluster_of, clustered, clustered_by, first_so_far, is_later, moved, replayed, entered, body_of, is_not_built, heading, step, Goes, Refuses}
+use Rattle.replay.specs.Sessions.{cluster_of, clustered, clustered_by, first_so_far, moved, replayed, entered, body_of, is_not_built, heading, step, Goes, Refuses}
 use Rattle.replay.specs.Outcomes.{Open, TooLarge, Outcome, outcome, silent, onward, is_too_large, at_end, end_of}
 use Rattle.replay.specs.Replays.{Schedule, Completes, TellsSchedule, events_of, texts_of, with_event, entries, answers_among, steps_of, with_line, schedule_of, stepped, behind}
 
@@ -105,21 +105,20 @@ body_completes ended (bytes ∷ next ∷ lines) d read h =
     (λ after k. body_completes ended (next ∷ lines) after (read + 1) k))) h
 
 -- a line of a cluster schedule that is replayed, and what follows
-event_completes : (later : Bool) (h : Header) (s : SoFar) (w : WorldState) (e : Event) (read : ℕ) (rest : State → Outcome) (events : SoFar → List Event)
+event_completes : (h : Header) (s : SoFar) (w : WorldState) (e : Event) (read : ℕ) (rest : State → Outcome) (events : SoFar → List Event)
     → ((next : SoFar) (now : WorldState) → Completes (rest (Reading (Clustering h next now))).ending → (rest (Reading (Clustering h next now))).text ≡ texts_of now (events next))
-    → Completes (onward (if later then Refuses kind.NotBuilt else moved h s e (line_on e (play w []))) read rest).ending
-    → (onward (if later then Refuses kind.NotBuilt else moved h s e (line_on e (play w []))) read rest).text ≡ texts_of w (e ∷ events (so_far_after_event s e))
-event_completes true h s w e read rest events follows done = absurd done
-event_completes false h s w e read rest events follows done =
+    → Completes (onward (moved h s e (line_on e (play w []))) read rest).ending
+    → (onward (moved h s e (line_on e (play w []))) read rest).text ≡ texts_of w (e ∷ events (so_far_after_event s e))
+event_completes h s w e read rest events follows done =
     ap (λ (t : List ℕ). (line_on e (play w [])).text ++ t) (follows (so_far_after_event s e) (line_on e (play w [])).world done)
 
-cluster_completes : (h : Header) (s : SoFar) (w : WorldState) (bytes : List ℕ) (r : Result ClusterLine Kind) (read : ℕ) (rest : State → Outcome) (events : SoFar → List Event)
+cluster_completes : (h : Header) (s : SoFar) (w : WorldState) (r : Result ClusterLine Kind) (read : ℕ) (rest : State → Outcome) (events : SoFar → List Event)
     → ((next : SoFar) (now : WorldState) → Completes (rest (Reading (Clustering h next now))).ending → (rest (Reading (Clustering h next now))).text ≡ texts_of now (events next))
-    → Completes (onward (clustered_by h s w bytes r) read rest).ending → (onward (clustered_by h s w bytes r) read rest).text ≡ texts_of w (with_event r s events)
-cluster_completes h s w bytes (Err kind) read rest events follows done = absurd done
-cluster_completes h s w bytes (Ok cluster.End) read rest events follows done = refl
-cluster_completes h s w bytes (Ok cluster.Blank) read rest events follows done = follows s w done
-cluster_completes h s w bytes (Ok (cluster.Event e)) read rest events follows done = event_completes (is_later e) h s w e read rest events follows done
+    → Completes (onward (clustered_by h s w r) read rest).ending → (onward (clustered_by h s w r) read rest).text ≡ texts_of w (with_event r s events)
+cluster_completes h s w (Err kind) read rest events follows done = absurd done
+cluster_completes h s w (Ok cluster.End) read rest events follows done = refl
+cluster_completes h s w (Ok cluster.Blank) read rest events follows done = follows s w done
+cluster_completes h s w (Ok (cluster.Event e)) read rest events follows done = event_completes h s w e read rest events follows done
 
 world_completes : (ended : Bool) (lines : List (List ℕ)) (h : Header) (s : SoFar) (w : WorldState) (read : ℕ) → Completes (outcome Run ended lines (Reading (Clustering h s w)) read).ending
     → (outcome Run ended lines (Reading (Clustering h s w)) read).text ≡ texts_of w (events_of h s lines)
@@ -131,83 +130,83 @@ world_completes ended ((b ∷ bytes) ∷ []) h s w read done =
     (last_outcome ended b bytes (Reading (Clustering h s w)) read)
     (ended_chosen (is_too_large read (b ∷ bytes)) ended (read + 1) (onward (clustered h s w (b ∷ bytes)) read (λ now. end_of (at_end Run now) (read + 1)))
     (λ (t : List ℕ). t ≡ texts_of w (events_of h s ((b ∷ bytes) ∷ [])))
-    (cluster_completes h s w (b ∷ bytes) (cluster_line_of h s (b ∷ bytes)) read (λ now. end_of (at_end Run now) (read + 1)) (λ next. []) (λ next now k. refl))) done
+    (cluster_completes h s w (cluster_line_of h s (b ∷ bytes)) read (λ now. end_of (at_end Run now) (read + 1)) (λ next. []) (λ next now k. refl))) done
 world_completes ended (bytes ∷ next ∷ lines) h s w read done =
     at_outcome (outcome Run ended (bytes ∷ next ∷ lines) (Reading (Clustering h s w)) read) _ (λ (t : List ℕ). t ≡ texts_of w (events_of h s (bytes ∷ next ∷ lines)))
     (line_outcome ended bytes next lines (Reading (Clustering h s w)) read)
     (chosen (is_too_large read bytes) (read + 1) (onward (clustered h s w bytes) read (λ now. outcome Run ended (next ∷ lines) now (read + 1)))
     (λ (t : List ℕ). t ≡ texts_of w (events_of h s (bytes ∷ next ∷ lines)))
-    (cluster_completes h s w bytes (cluster_line_of h s bytes) read (λ now. outcome Run ended (next ∷ lines) now (read + 1)) (λ after. events_of h after (next ∷ lines))
+    (cluster_completes h s w (cluster_line_of h s bytes) read (λ now. outcome Run ended (next ∷ lines) now (read + 1)) (λ after. events_of h after (next ∷ lines))
     (λ after now k. world_completes ended (next ∷ lines) h after now (read + 1) k))) done
 
-cluster_ends : (v : Version) (h : Header) (read : ℕ) → Completes (end_of (cluster_of v h) read).ending → (end_of (cluster_of v h) read).text ≡ []
-cluster_ends One h read done = refl
-cluster_ends Two h read done = absurd done
+cluster_ends : (v : Version) (h : Header) (agents : List AgentState) (read : ℕ) → Completes (end_of (cluster_of v h agents) read).ending → (end_of (cluster_of v h agents) read).text ≡ []
+cluster_ends One h agents read done = refl
+cluster_ends Two h agents read done = absurd done
 
-cluster_enters : (v : Version) (h : Header) (bytes : List ℕ) (lines : List (List ℕ)) (read : ℕ) (rest : State → Outcome)
+cluster_enters : (v : Version) (h : Header) (agents : List AgentState) (bytes : List ℕ) (lines : List (List ℕ)) (read : ℕ) (rest : State → Outcome)
     → ((next : SoFar) (now : WorldState) → Completes (rest (Reading (Clustering h next now))).ending → (rest (Reading (Clustering h next now))).text ≡ texts_of now (events_of h next lines))
-    → Completes (onward (entered (cluster_of v h) bytes) read rest).ending
-    → (onward (entered (cluster_of v h) bytes) read rest).text ≡ texts_of (first_world h 65536) (events_of h first_so_far (bytes ∷ lines))
-cluster_enters One h bytes lines read rest follows done = cluster_completes h first_so_far (first_world h 65536) bytes (cluster_line_of h first_so_far bytes) read rest (λ next. events_of h next lines) follows done
-cluster_enters Two h bytes lines read rest follows done = absurd done
+    → Completes (onward (entered (cluster_of v h agents) bytes) read rest).ending
+    → (onward (entered (cluster_of v h agents) bytes) read rest).text ≡ texts_of (first_world h 65536 agents) (events_of h first_so_far (bytes ∷ lines))
+cluster_enters One h agents bytes lines read rest follows done = cluster_completes h first_so_far (first_world h 65536 agents) (cluster_line_of h first_so_far bytes) read rest (λ next. events_of h next lines) follows done
+cluster_enters Two h agents bytes lines read rest follows done = absurd done
 
 -- the header ends at the end of the input
-end_completes : (head : Option Head) (read : ℕ) → Completes (end_of (body_of Run head) read).ending → TellsSchedule (behind head []) (end_of (body_of Run head) read).text
-end_completes None read h = absurd h
-end_completes (Some (Pr senders)) read h = refl
-end_completes (Some (Cluster header)) read h = cluster_ends header.version header read h
+end_completes : (head : Option Head) (agents : List AgentState) (read : ℕ) → Completes (end_of (body_of Run agents head) read).ending → TellsSchedule (behind head []) agents (end_of (body_of Run agents head) read).text
+end_completes None agents read h = absurd h
+end_completes (Some (Pr senders)) agents read h = refl
+end_completes (Some (Cluster header)) agents read h = cluster_ends header.version header agents read h
 
 -- before a line
-over_completes : (head : Option Head) (bytes : List ℕ) (lines : List (List ℕ)) (read : ℕ) (rest : State → Outcome)
+over_completes : (head : Option Head) (agents : List AgentState) (bytes : List ℕ) (lines : List (List ℕ)) (read : ℕ) (rest : State → Outcome)
     → ((next : Device) → Completes (rest (Reading (Replaying next))).ending → (rest (Reading (Replaying next))).text ≡ flat_map printed (entries next (steps_of lines)))
     → ((h : Header) (next : SoFar) (now : WorldState) → Completes (rest (Reading (Clustering h next now))).ending → (rest (Reading (Clustering h next now))).text ≡ texts_of now (events_of h next lines))
-    → Completes (onward (entered (body_of Run head) bytes) read rest).ending → TellsSchedule (behind head (bytes ∷ lines)) (onward (entered (body_of Run head) bytes) read rest).text
-over_completes None bytes lines read rest later moves h = absurd h
-over_completes (Some (Pr senders)) bytes lines read rest later moves h = line_completes (fresh senders) (pr_line_of bytes) read rest (steps_of lines) later h
-over_completes (Some (Cluster header)) bytes lines read rest later moves h = cluster_enters header.version header bytes lines read rest (moves header) h
+    → Completes (onward (entered (body_of Run agents head) bytes) read rest).ending → TellsSchedule (behind head (bytes ∷ lines)) agents (onward (entered (body_of Run agents head) bytes) read rest).text
+over_completes None agents bytes lines read rest later moves h = absurd h
+over_completes (Some (Pr senders)) agents bytes lines read rest later moves h = line_completes (fresh senders) (pr_line_of bytes) read rest (steps_of lines) later h
+over_completes (Some (Cluster header)) agents bytes lines read rest later moves h = cluster_enters header.version header agents bytes lines read rest (moves header) h
 
 -- and at a line that belongs to it
-more_completes : (refused : Bool) (kind : Kind) (next : HeaderState) (read : ℕ) (rest : State → Outcome) (s : Option Schedule)
-    → (Completes (rest (Heading next)).ending → TellsSchedule s (rest (Heading next)).text)
-    → Completes (onward (if refused then Refuses kind else Goes (Heading next) []) read rest).ending → TellsSchedule s (onward (if refused then Refuses kind else Goes (Heading next) []) read rest).text
-more_completes true kind next read rest s later h = absurd h
-more_completes false kind next read rest s later h = later h
+more_completes : (refused : Bool) (kind : Kind) (next : HeaderState) (agents : List AgentState) (read : ℕ) (rest : State → Outcome) (s : Option Schedule)
+    → (Completes (rest (Heading next agents)).ending → TellsSchedule s agents (rest (Heading next agents)).text)
+    → Completes (onward (if refused then Refuses kind else Goes (Heading next agents) []) read rest).ending → TellsSchedule s agents (onward (if refused then Refuses kind else Goes (Heading next agents) []) read rest).text
+more_completes true kind next agents read rest s later h = absurd h
+more_completes false kind next agents read rest s later h = later h
 
-heading_completes : (hs : HeaderStep) (now : HeaderState) (bytes : List ℕ) (lines : List (List ℕ)) (read : ℕ) (rest : State → Outcome)
-    → ((next : HeaderState) → Completes (rest (Heading next)).ending → TellsSchedule (schedule_of next lines) (rest (Heading next)).text)
+heading_completes : (hs : HeaderStep) (now : HeaderState) (agents : List AgentState) (bytes : List ℕ) (lines : List (List ℕ)) (read : ℕ) (rest : State → Outcome)
+    → ((next : HeaderState) → Completes (rest (Heading next agents)).ending → TellsSchedule (schedule_of next lines) agents (rest (Heading next agents)).text)
     → ((next : Device) → Completes (rest (Reading (Replaying next))).ending → (rest (Reading (Replaying next))).text ≡ flat_map printed (entries next (steps_of lines)))
     → ((h : Header) (next : SoFar) (world : WorldState) → Completes (rest (Reading (Clustering h next world))).ending → (rest (Reading (Clustering h next world))).text ≡ texts_of world (events_of h next lines))
-    → Completes (onward (heading Run now bytes hs) read rest).ending
-    → TellsSchedule (stepped hs (λ next. schedule_of next lines) (behind (head_of now) (bytes ∷ lines))) (onward (heading Run now bytes hs) read rest).text
-heading_completes (More next) now bytes lines read rest more later moves h = more_completes (is_not_built Run bytes) _ next read rest (schedule_of next lines) (more next) h
-heading_completes Over now bytes lines read rest more later moves h = over_completes (head_of now) bytes lines read rest later moves h
-heading_completes (Bad kind) now bytes lines read rest more later moves h = absurd h
+    → Completes (onward (heading Run now agents bytes hs) read rest).ending
+    → TellsSchedule (stepped hs (λ next. schedule_of next lines) (behind (head_of now) (bytes ∷ lines))) agents (onward (heading Run now agents bytes hs) read rest).text
+heading_completes (More next) now agents bytes lines read rest more later moves h = more_completes (is_not_built Run bytes) _ next agents read rest (schedule_of next lines) (more next) h
+heading_completes Over now agents bytes lines read rest more later moves h = over_completes (head_of now) agents bytes lines read rest later moves h
+heading_completes (Bad kind) now agents bytes lines read rest more later moves h = absurd h
 
-empty_completes : (now : HeaderState) (read : ℕ) → Completes (end_of (body_of Run (head_of now)) read).ending → TellsSchedule (schedule_of now ([] ∷ [])) (end_of (body_of Run (head_of now)) read).text
-empty_completes state.Opening read h = absurd h
-empty_completes state.Senders read h = absurd h
-empty_completes (state.Complete senders) read h = refl
-empty_completes (state.Cluster version) read h = absurd h
-empty_completes (state.Nodes version cluster) read h = absurd h
-empty_completes (state.Configured cluster nodes) read h = absurd h
-empty_completes (state.Devices header) read h = cluster_ends header.version header read h
+empty_completes : (now : HeaderState) (agents : List AgentState) (read : ℕ) → Completes (end_of (body_of Run agents (head_of now)) read).ending → TellsSchedule (schedule_of now ([] ∷ [])) agents (end_of (body_of Run agents (head_of now)) read).text
+empty_completes state.Opening agents read h = absurd h
+empty_completes state.Senders agents read h = absurd h
+empty_completes (state.Complete senders) agents read h = refl
+empty_completes (state.Cluster version) agents read h = absurd h
+empty_completes (state.Nodes version cluster) agents read h = absurd h
+empty_completes (state.Configured cluster nodes) agents read h = absurd h
+empty_completes (state.Devices header) agents read h = cluster_ends header.version header agents read h
 
-pub head_completes : (ended : Bool) (lines : List (List ℕ)) (now : HeaderState) (read : ℕ) → Completes (outcome Run ended lines (Heading now) read).ending
-    → TellsSchedule (schedule_of now lines) (outcome Run ended lines (Heading now) read).text
-head_completes ended [] now read h = absurd h
-head_completes true ([] ∷ []) now read h = empty_completes now read h
-head_completes false ([] ∷ []) now read h = absurd h
-head_completes ended ((b ∷ bytes) ∷ []) now read h =
-    at_outcome (outcome Run ended ((b ∷ bytes) ∷ []) (Heading now) read) _ (λ (t : List ℕ). TellsSchedule (schedule_of now ((b ∷ bytes) ∷ [])) t)
-    (last_outcome ended b bytes (Heading now) read)
-    (ended_chosen (is_too_large read (b ∷ bytes)) ended (read + 1) (onward (heading Run now (b ∷ bytes) (header_step now (b ∷ bytes))) read (λ s. end_of (at_end Run s) (read + 1)))
-    (λ (t : List ℕ). TellsSchedule (schedule_of now ((b ∷ bytes) ∷ [])) t)
-    (heading_completes (header_step now (b ∷ bytes)) now (b ∷ bytes) [] read (λ s. end_of (at_end Run s) (read + 1))
-    (λ next k. end_completes (head_of next) (read + 1) k) (λ next k. refl) (λ header next world k. refl))) h
-head_completes ended (bytes ∷ next ∷ lines) now read h =
-    at_outcome (outcome Run ended (bytes ∷ next ∷ lines) (Heading now) read) _ (λ (t : List ℕ). TellsSchedule (schedule_of now (bytes ∷ next ∷ lines)) t)
-    (line_outcome ended bytes next lines (Heading now) read)
-    (chosen (is_too_large read bytes) (read + 1) (onward (heading Run now bytes (header_step now bytes)) read (λ s. outcome Run ended (next ∷ lines) s (read + 1)))
-    (λ (t : List ℕ). TellsSchedule (schedule_of now (bytes ∷ next ∷ lines)) t)
-    (heading_completes (header_step now bytes) now bytes (next ∷ lines) read (λ s. outcome Run ended (next ∷ lines) s (read + 1))
-    (λ after k. head_completes ended (next ∷ lines) after (read + 1) k) (λ after k. body_completes ended (next ∷ lines) after (read + 1) k) (λ header after world k. world_completes ended (next ∷ lines) header after world (read + 1) k))) h
+pub head_completes : (ended : Bool) (lines : List (List ℕ)) (now : HeaderState) (agents : List AgentState) (read : ℕ) → Completes (outcome Run ended lines (Heading now agents) read).ending
+    → TellsSchedule (schedule_of now lines) agents (outcome Run ended lines (Heading now agents) read).text
+head_completes ended [] now agents read h = absurd h
+head_completes true ([] ∷ []) now agents read h = empty_completes now agents read h
+head_completes false ([] ∷ []) now agents read h = absurd h
+head_completes ended ((b ∷ bytes) ∷ []) now agents read h =
+    at_outcome (outcome Run ended ((b ∷ bytes) ∷ []) (Heading now agents) read) _ (λ (t : List ℕ). TellsSchedule (schedule_of now ((b ∷ bytes) ∷ [])) agents t)
+    (last_outcome ended b bytes (Heading now agents) read)
+    (ended_chosen (is_too_large read (b ∷ bytes)) ended (read + 1) (onward (heading Run now agents (b ∷ bytes) (header_step now (b ∷ bytes))) read (λ s. end_of (at_end Run s) (read + 1)))
+    (λ (t : List ℕ). TellsSchedule (schedule_of now ((b ∷ bytes) ∷ [])) agents t)
+    (heading_completes (header_step now (b ∷ bytes)) now agents (b ∷ bytes) [] read (λ s. end_of (at_end Run s) (read + 1))
+    (λ next k. end_completes (head_of next) agents (read + 1) k) (λ next k. refl) (λ header next world k. refl))) h
+head_completes ended (bytes ∷ next ∷ lines) now agents read h =
+    at_outcome (outcome Run ended (bytes ∷ next ∷ lines) (Heading now agents) read) _ (λ (t : List ℕ). TellsSchedule (schedule_of now (bytes ∷ next ∷ lines)) agents t)
+    (line_outcome ended bytes next lines (Heading now agents) read)
+    (chosen (is_too_large read bytes) (read + 1) (onward (heading Run now agents bytes (header_step now bytes)) read (λ s. outcome Run ended (next ∷ lines) s (read + 1)))
+    (λ (t : List ℕ). TellsSchedule (schedule_of now (bytes ∷ next ∷ lines)) agents t)
+    (heading_completes (header_step now bytes) now agents bytes (next ∷ lines) read (λ s. outcome Run ended (next ∷ lines) s (read + 1))
+    (λ after k. head_completes ended (next ∷ lines) after agents (read + 1) k) (λ after k. body_completes ended (next ∷ lines) after (read + 1) k) (λ header after world k. world_completes ended (next ∷ lines) header after world (read + 1) k))) h

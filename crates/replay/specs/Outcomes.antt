@@ -3,6 +3,7 @@
 use Rattle.std.specs.Prelude.{ℕ, ◌+◌, ◌==◌, nat_lt, nat_le, Bool, ◌||◌, if◌then◌else◌, List, [], ◌∷◌, ◌++◌, length, Result, Ok, Err, codes}
 use Rattle.std.specs.List.{slice_split}
 use Rattle.std.specs.Fmt.{decimal}
+use Rattle.agents.specs.Calls.{AgentState}
 use Rattle.schedule_text.specs.declared.kind.Kind.{Kind}
 use Rattle.schedule_text.specs.declared.kind.Kind.TheVariants as kind
 use Rattle.schedule_text.specs.Headers.{head_of}
@@ -42,7 +43,7 @@ is_too_large read line = nat_le 200000 read || nat_lt 4096 (length line)
 
 -- the input ends here: a header that the task can go on from was read, or the line that is missing is refused
 abbrev pub at_end : Task → State → Result Body Kind
-at_end task (Heading state) = body_of task (head_of state)
+at_end task (Heading state agents) = body_of task agents (head_of state)
 at_end task (Reading body) = Ok body
 
 abbrev pub end_of : Result Body Kind → ℕ → Outcome
@@ -72,9 +73,9 @@ outcome task ended (line ∷ lines) state read =
     else if is_too_large read line then silent (TooLarge (read + 1))
     else onward (step task state line) read (λ next. outcome task ended lines next (read + 1))
 
--- the outcome of these bytes, from the beginning
-abbrev pub outcome_of : Task → Bool → List ℕ → Outcome
-outcome_of task ended bytes = outcome task ended (pieces bytes) start 0
+-- the outcome of these bytes, from the beginning, with these agents
+abbrev pub outcome_of : Task → List AgentState → Bool → List ℕ → Outcome
+outcome_of task agents ended bytes = outcome task ended (pieces bytes) (start agents) 0
 
 abbrev pub kind_text : Kind → List ℕ
 kind_text kind.Header = codes "header"

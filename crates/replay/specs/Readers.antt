@@ -1,6 +1,5 @@
 -- What it means to take a line, or bytes, and what is told of the outcome then.
 use Rattle.std.specs.Prelude.{◌≡◌, ◌≢◌, ℕ, ◌+◌, ◌-◌, ◌*◌, ◌<◌, ◌≤◌, Bool, true, false, List, [], ◌++◌, length, All, Result, Ok, Err, OnOk}
-use Rattle.std.specs.String.{string_bytes}
 use Rattle.schedule_text.specs.declared.kind.Kind.{Kind}
 use Rattle.replay.specs.declared.reader.Reader as reader
 use Rattle.replay.specs.declared.session.Body.{Body}

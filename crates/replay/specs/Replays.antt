@@ -1,6 +1,7 @@
 -- A schedule as a list of what happens, and what is answered to it.
 use Rattle.std.specs.Prelude.{◌≡◌, ℕ, List, [], ◌∷◌, ◌++◌, Option, Some, None, Result, Ok, Err}
 use Rattle.std.specs.List.{flat_map}
+use Rattle.agents.specs.Calls.{AgentState}
 use Rattle.pgr_device.specs.Device.{Device, fresh}
 use Rattle.pgr_device.specs.Spc as spc
 use Rattle.pgr_device.specs.declared.command.PrAnswer.{PrAnswer}
@@ -97,11 +98,12 @@ abbrev pub texts_of : WorldState → List Event → List ℕ
 texts_of w [] = []
 texts_of w (e ∷ events) = (line_on e (play w [])).text ++ texts_of (line_on e (play w [])).world events
 
--- there is a schedule, and the text is what a fresh device answers to it, or what the first world of the header writes of it
-abbrev pub TellsSchedule : Option Schedule → List ℕ → Type 0
-TellsSchedule None text = ⊥
-TellsSchedule (Some (OfDevice senders steps)) text = text ≡ flat_map printed (entries (fresh senders) steps)
-TellsSchedule (Some (OfCluster header events)) text = text ≡ texts_of (first_world header 65536) events
+-- there is a schedule, and the text is what a fresh device answers to it, or what the first world of the header, with
+-- these agents, writes of it
+abbrev pub TellsSchedule : Option Schedule → List AgentState → List ℕ → Type 0
+TellsSchedule None agents text = ⊥
+TellsSchedule (Some (OfDevice senders steps)) agents text = text ≡ flat_map printed (entries (fresh senders) steps)
+TellsSchedule (Some (OfCluster header events)) agents text = text ≡ texts_of (first_world header 65536 agents) events
 
-abbrev pub TellsReplay : List ℕ → List ℕ → Type 0
-TellsReplay bytes text = TellsSchedule (schedule_of Opening (pieces bytes)) text
+abbrev pub TellsReplay : List ℕ → List AgentState → List ℕ → Type 0
+TellsReplay bytes agents text = TellsSchedule (schedule_of Opening (pieces bytes)) agents text

@@ -3,6 +3,7 @@ use Rattle.std.specs.Prelude.{◌≡◌, ℕ, ◌≤◌, Bool, true, false, List
 use Rattle.std.specs.Io.{StartsWith}
 use Rattle.std.specs.Io.KnownBytes.{Appends, Consumes, IsAtEnd}
 use Rattle.cl_io.specs.Causes.{Rose}
+use Rattle.agents.specs.Calls.{AgentState}
 use Rattle.replay.specs.declared.status.Status.{Status}
 use Rattle.replay.specs.declared.status.Status.TheVariants as status
 use Rattle.replay.specs.declared.task.Task.{Task}
@@ -33,23 +34,24 @@ IsCaused _ reads reads' writes writes' = (reads' ≡ reads) × (writes' ≡ writ
 
 -- Nothing is read behind a line that ends the reading, but what came with it in a piece of at most 4,096 bytes: without
 -- the last piece more was wanted.
-pub record ReadsNoFurther (task : Task) (taken : List ℕ) : Type 0 where
+pub record ReadsNoFurther (task : Task) (agents : List AgentState) (taken : List ℕ) : Type 0 where
   pub before : List ℕ
   pub last : List ℕ
   pub parts : taken ≡ before ++ last
   pub piece : length last ≤ 4096
-  pub wanted : (outcome_of task false before).ending ≡ Open
+  pub wanted : (outcome_of task agents false before).ending ≡ Open
 
 -- The bytes taken from the source have an outcome, which the status and the bytes written tell.
--- `left` is what the source has, where that is known, and `held` what the sink has.
-pub record IsRun (task : Task) (left left' held held' : Option (List ℕ)) (reads reads' writes writes' : ℕ) (result : Status) : Type 0 where
+-- `agents` carry out the methods of resource types; `left` is what the source has, where that is known, and `held` what
+-- the sink has.
+pub record IsRun (task : Task) (agents : List AgentState) (left left' held held' : Option (List ℕ)) (reads reads' writes writes' : ℕ) (result : Status) : Type 0 where
   pub taken : List ℕ
   pub consumed : Consumes left left' taken
-  pub no_further : ReadsNoFurther task taken
+  pub no_further : ReadsNoFurther task agents taken
   pub ended : Bool  -- the source gave its end
   pub at_end : ended ≡ true → IsAtEnd left'
-  pub says : Says result (outcome_of task ended taken).ending
+  pub says : Says result (outcome_of task agents ended taken).ending
   pub written : List ℕ
   pub appended : Appends held held' written
-  pub writes_text : Writes result (whole_text task (outcome_of task ended taken)) written
+  pub writes_text : Writes result (whole_text task (outcome_of task agents ended taken)) written
   pub caused : IsCaused result reads reads' writes writes'

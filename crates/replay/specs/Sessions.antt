@@ -1,14 +1,13 @@
 -- What a line makes of the state, and what it writes.
-use Rattle.std.specs.Prelude.{◌≡◌, ℕ, Bool, true, false, nat_eq, ◌||◌, if◌then◌else◌, List, [], ◌++◌, Option, Some, None, Result, Ok, Err, codes}
-use Rattle.std.specs.List.{starts_with}
+use Rattle.std.specs.Prelude.{◌≡◌, ℕ, Bool, true, false, if◌then◌else◌, List, [], ◌++◌, Option, Some, None, Result, Ok, Err, codes}
 use Rattle.std.specs.Str.{bytes_eq}
+use Rattle.agents.specs.Calls.{AgentState}
 use Rattle.cl_base.specs.declared.header.Header.{Header}
 use Rattle.cl_base.specs.declared.header.Version.{Version}
 use Rattle.cl_base.specs.declared.header.Version.TheVariants.{One, Two}
 use Rattle.pgr_device.specs.Device.{Device, fresh}
 use Rattle.pgr_device.specs.Spc as spc
 use Rattle.schedule_text.specs.declared.event.Event.{Event}
-use Rattle.schedule_text.specs.declared.event.Event.TheVariants as event
 use Rattle.schedule_text.specs.declared.header.Head.{Head}
 use Rattle.schedule_text.specs.declared.header.Head.TheVariants.{Pr, Cluster}
 use Rattle.schedule_text.specs.declared.header.HeaderState.{HeaderState}
@@ -44,9 +43,9 @@ pub data Step : Type 0 where
   Finishes : Step
   Refuses : Kind → Step
 
--- nothing was read yet
-abbrev pub start : State
-start = Heading Opening
+-- nothing was read yet; these agents carry out the methods of resource types
+abbrev pub start : List AgentState → State
+start agents = Heading Opening agents
 
 -- what is done with the lines after a header that ends: `run` replays a reservation schedule with a fresh device,
 -- which the senders have a path to, and a cluster schedule of version 1 from the world of its header; `check` reads the
@@ -54,16 +53,16 @@ start = Heading Opening
 abbrev pub first_so_far : SoFar
 first_so_far = record { clock = 0; rounds = 0 }
 
-abbrev pub cluster_of : Version → Header → Result Body Kind
-cluster_of One header = Ok (Clustering header first_so_far (first_world header 65536))
-cluster_of Two header = Err kind.NotBuilt
+abbrev pub cluster_of : Version → Header → List AgentState → Result Body Kind
+cluster_of One header agents = Ok (Clustering header first_so_far (first_world header 65536 agents))
+cluster_of Two header agents = Err kind.NotBuilt
 
-abbrev pub body_of : Task → Option Head → Result Body Kind
-body_of task None = Err kind.Header
-body_of Run (Some (Pr senders)) = Ok (Replaying (fresh senders))
-body_of Run (Some (Cluster header)) = cluster_of header.version header
-body_of Check (Some (Pr senders)) = Ok CheckingPr
-body_of Check (Some (Cluster header)) = Ok (CheckingCluster header first_so_far)
+abbrev pub body_of : Task → List AgentState → Option Head → Result Body Kind
+body_of task agents None = Err kind.Header
+body_of Run agents (Some (Pr senders)) = Ok (Replaying (fresh senders))
+body_of Run agents (Some (Cluster header)) = cluster_of header.version header agents
+body_of Check agents (Some (Pr senders)) = Ok CheckingPr
+body_of Check agents (Some (Cluster header)) = Ok (CheckingCluster header first_so_far)
 
 -- a line of a reservation schedule, read alone
 abbrev pub checked_pr : Result PrLine Kind → Step
@@ -89,46 +88,21 @@ replayed device (Ok pr.Power) = Goes (Reading (Replaying device)) (printed Power
 replayed device (Ok (pr.Command sender command)) =
     Goes (Reading (Replaying (spc.step device sender command).after)) (printed (Answered (spc.step device sender command).answer))
 
--- commands that make groups run, or tell how they stand
-abbrev pub is_later_command : List ℕ → Bool
-is_later_command words =
-    starts_with nat_eq words (codes "clrg online ") || starts_with nat_eq words (codes "clrg switch ")
-    || bytes_eq words (codes "clrg status") || bytes_eq words (codes "clrs status")
-
--- lines whose replay is not built
-abbrev pub is_later : Event → Bool
-is_later (event.Command node words) = is_later_command words
-is_later (event.Outcome node resource method outcome) = true
-is_later (event.Probe node resource good) = true
-is_later (event.Client node address client port) = true
-is_later _ = false
-
-abbrev pub is_later_line : List ℕ → Bool
-is_later_line bytes = starts_with nat_eq bytes (codes "outcome ") || starts_with nat_eq bytes (codes "probe ")
-
--- they are refused so before their numbers and names are looked at
-abbrev pub refused_kind : Kind → List ℕ → Kind
-refused_kind kind.Number bytes = if is_later_line bytes then kind.NotBuilt else kind.Number
-refused_kind kind.Unknown bytes = if is_later_line bytes then kind.NotBuilt else kind.Unknown
-refused_kind kind.Header bytes = kind.Header
-refused_kind kind.Line bytes = kind.Line
-refused_kind kind.NotBuilt bytes = kind.NotBuilt
-
 -- a line of a cluster schedule, replayed: the world moves, and the text of its entries is written
 abbrev pub moved : Header → SoFar → Event → Play → Step
 moved header so_far event p = Goes (Reading (Clustering header (so_far_after_event so_far event) p.world)) p.text
 
 abbrev pub event_done : Header → SoFar → WorldState → Event → Step
-event_done header so_far w event = if is_later event then Refuses kind.NotBuilt else moved header so_far event (line_on event (play w []))
+event_done header so_far w event = moved header so_far event (line_on event (play w []))
 
-abbrev pub clustered_by : Header → SoFar → WorldState → List ℕ → Result ClusterLine Kind → Step
-clustered_by header so_far w bytes (Err kind) = Refuses (refused_kind kind bytes)
-clustered_by header so_far w bytes (Ok cluster.End) = Finishes
-clustered_by header so_far w bytes (Ok cluster.Blank) = Goes (Reading (Clustering header so_far w)) []
-clustered_by header so_far w bytes (Ok (cluster.Event event)) = event_done header so_far w event
+abbrev pub clustered_by : Header → SoFar → WorldState → Result ClusterLine Kind → Step
+clustered_by header so_far w (Err kind) = Refuses kind
+clustered_by header so_far w (Ok cluster.End) = Finishes
+clustered_by header so_far w (Ok cluster.Blank) = Goes (Reading (Clustering header so_far w)) []
+clustered_by header so_far w (Ok (cluster.Event event)) = event_done header so_far w event
 
 abbrev pub clustered : Header → SoFar → WorldState → List ℕ → Step
-clustered header so_far w bytes = clustered_by header so_far w bytes (cluster_line_of header so_far bytes)
+clustered header so_far w bytes = clustered_by header so_far w (cluster_line_of header so_far bytes)
 
 -- a line after the header
 abbrev pub body_step : Body → List ℕ → Step
@@ -147,13 +121,13 @@ abbrev pub is_not_built : Task → List ℕ → Bool
 is_not_built Run bytes = bytes_eq bytes (codes "schedule cluster 2")
 is_not_built Check bytes = false
 
-abbrev pub heading : Task → HeaderState → List ℕ → HeaderStep → Step
-heading task state bytes (More next) = if is_not_built task bytes then Refuses kind.NotBuilt else Goes (Heading next) []
-heading task state bytes Over = entered (body_of task (head_of state)) bytes
-heading task state bytes (Bad kind) = Refuses kind
+abbrev pub heading : Task → HeaderState → List AgentState → List ℕ → HeaderStep → Step
+heading task state agents bytes (More next) = if is_not_built task bytes then Refuses kind.NotBuilt else Goes (Heading next agents) []
+heading task state agents bytes Over = entered (body_of task agents (head_of state)) bytes
+heading task state agents bytes (Bad kind) = Refuses kind
 
 abbrev pub step : Task → State → List ℕ → Step
-step task (Heading state) bytes = heading task state bytes (header_step state bytes)
+step task (Heading state agents) bytes = heading task state agents bytes (header_step state bytes)
 step task (Reading body) bytes = body_step body bytes
 
 -- why a line that is not read stops the reading
@@ -184,7 +158,7 @@ Answers (Err stop.NoMemory) is now old new = Unit {0}
 abbrev pub TakesHeader : Result Bool Stop → Task → HeaderStep → List ℕ → HeaderState → HeaderState → Type 0
 TakesHeader (Ok true) task is bytes old new = (is ≡ More new) × (is_not_built task bytes ≡ false)
 TakesHeader (Ok false) task is bytes old new = (is ≡ Over) × (new ≡ old)
-TakesHeader (Err (stop.Refused kind)) task is bytes old new = heading task old bytes is ≡ Refuses kind
+TakesHeader (Err (stop.Refused kind)) task is bytes old new = (agents : List AgentState) → heading task old agents bytes is ≡ Refuses kind
 TakesHeader (Err stop.NoMemory) task is bytes old new = Unit {0}
 TakesHeader (Err stop.Ended) task is bytes old new = ⊥
 TakesHeader (Err stop.TooLarge) task is bytes old new = ⊥

@@ -1,6 +1,8 @@
 ghost use Rattle.std.specs.Prelude.{◌≡◌, ◌≤◌, ◌↔◌, length, map, None, Some, OnOk};
 ghost use Rattle.std.specs.Io.{ReadsAtMost};
 ghost use Rattle.std.specs.Io.KnownBytes.{Keeps, ReadConsumes};
+ghost use Rattle.agents.specs.Calls.{states_of};
+ghost use Rattle.agents.specs.Stock.{kept_of, name_of};
 ghost use Rattle.cl_io.specs.Causes.{HasCause};
 ghost use Rattle.std.specs.String.{string_bytes};
 ghost use Rattle.replay.specs.declared.task.Task.{Task};
@@ -13,22 +15,23 @@ use crate::reader::Reader;
 use crate::status::Status;
 use crate::stop::Stop;
 use crate::task::{Task, read_task};
-use cl_base::Agent;
+use agents::StockAgent;
 use cl_io::{Failed, Sink, Source, write_all};
 use std::alloc::Global;
+use world::Agents;
 
 /// The most bytes that are asked of the source at once.
 const PIECE: usize = 4_096;
 
 /// Does what the words ask for: replays the schedule that the source gives and writes the trace to
 /// the sink, or checks it. What the lines that end in a piece of the input are answered is written
-/// before more is read. The agents are not asked for anything yet.
+/// before more is read. These agents carry out the methods of resource types.
 pub fn run_words<S: Source, K: Sink>(
     alloc: Global,
     words: &[String],
     source: &mut S,
     sink: &mut K,
-    agents: &mut Vec<Box<dyn Agent>>,
+    agents: Vec<StockAgent>,
 ) -> Status
     // The words are no command: nothing is read, and nothing is written.
     ensures usage { result ≡ Status.Usage ↔ (task_of (map string_bytes words.now) ≡ None) }
@@ -37,24 +40,26 @@ pub fn run_words<S: Source, K: Sink>(
 
     // They are: the status and the bytes written tell the outcome of the bytes taken.
     ensures run { (task : Task) → task_of (map string_bytes words.now) ≡ Some task
-        → IsRun task (S.left source.old) (S.left source.new) (K.held sink.old) (K.held sink.new)
+        → IsRun task (states_of name_of kept_of agents.items) (S.left source.old) (S.left source.new) (K.held sink.old) (K.held sink.new)
         (S.faults source.old) (S.faults source.new) (K.faults sink.old) (K.faults sink.new) result }
-
-    // No cluster schedule is replayed yet.
-    ensures agents { agents.new ≡ agents.old }
 {
-    let _ = agents;
     match read_task(words) {
         None => Status::Usage,
-        Some(task) => run(alloc, task, source, sink),
+        Some(task) => run(alloc, task, source, sink, Agents::new(agents)),
     }
 }
 
-fn run<S: Source, K: Sink>(alloc: Global, task: Task, source: &mut S, sink: &mut K) -> Status
-    ensures run { IsRun task (S.left source.old) (S.left source.new) (K.held sink.old) (K.held sink.new)
+fn run<S: Source, K: Sink>(
+    alloc: Global,
+    task: Task,
+    source: &mut S,
+    sink: &mut K,
+    agents: Agents,
+) -> Status
+    ensures run { IsRun task agents (S.left source.old) (S.left source.new) (K.held sink.old) (K.held sink.new)
         (S.faults source.old) (S.faults source.new) (K.faults sink.old) (K.faults sink.new) result }
 {
-    let Ok(reader) = Reader::new(alloc) else {
+    let Ok(reader) = Reader::new(alloc, agents) else {
         return Status::NoMemory;
     };
     let mut reader = reader;

@@ -1,6 +1,7 @@
 //! What follows from the definitions that `run_words` cites. Each law is a function that does
 //! nothing: its clauses are the law.
 ghost use Rattle.std.specs.Prelude.{◌≡◌, Bool, List, ℕ};
+ghost use Rattle.agents.specs.Calls.{AgentState};
 ghost use Rattle.pgr_device.specs.Device.{Device};
 ghost use Rattle.pgr_device.specs.Runs.{run_answers};
 ghost use Rattle.pgr_device.specs.declared.run.Step.{Step};
@@ -10,9 +11,10 @@ ghost use Rattle.replay.specs.declared.task.Task.TheVariants.{Run};
 
 /// A `run` that reads its schedule to the end writes what is answered to it. Of a reservation schedule
 /// that is what the device, step by step, answers to its commands and losses of power, one line each;
-/// of a cluster schedule, what the world of its header writes, event by event.
+/// of a cluster schedule, what the world of its header writes, event by event, whatever agents carry out
+/// the methods.
 pub fn completed_run_tells_its_schedule()
-    ensures { (ended : Bool) (bytes : List ℕ) → Completes (outcome_of Run ended bytes).ending → TellsReplay bytes (outcome_of Run ended bytes).text }
+    ensures { (agents : List AgentState) (ended : Bool) (bytes : List ℕ) → Completes (outcome_of Run agents ended bytes).ending → TellsReplay bytes agents (outcome_of Run agents ended bytes).text }
 {}
 
 /// The answers among these lines are those that the device gives to the commands.

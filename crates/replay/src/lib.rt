@@ -14,4 +14,4 @@ mod task;
 pub use driver::run_words;
 pub use law::{completed_run_tells_its_schedule, entries_have_the_answers};
 pub use status::Status;
-pub use task::Task;
+pub use task::{Task, read_task};

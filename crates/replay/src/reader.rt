@@ -5,12 +5,12 @@ ghost use Rattle.replay.specs.declared.session.State.TheVariants.{Heading};
 ghost use Rattle.replay.specs.Outcomes.{at_end};
 ghost use Rattle.replay.specs.Readers.{IsReader, TakesLine, TakesBytes, TakesLast, Stops, EndsWith, with_more, room};
 
-use crate::session::{Body, State, answer, enter};
+use crate::session::{Body, State, answer, enter, take, take_agents};
 use crate::stop::Stop;
 use crate::task::Task;
 use schedule_text::{HeaderReader, Kind};
 use std::alloc::{AllocError, Global};
-use std::mem;
+use world::Agents;
 
 /// The most bytes of a line.
 pub const LONGEST_LINE: usize = 4096;
@@ -41,14 +41,17 @@ pub struct Reader {
 
 impl Reader {
     /// Before the first byte, with memory for a line and for the answers of many.
-    pub fn new(alloc: Global) -> Result<Reader, AllocError>
-        ensures state { IfOk result (λ r. r.state ≡ Heading Opening) }
+    pub fn new(alloc: Global, agents: Agents) -> Result<Reader, AllocError>
+        ensures state { IfOk result (λ r. r.state ≡ Heading Opening agents) }
         ensures lines { IfOk result (λ r. r.lines ≡ 0) }
         ensures held { IfOk result (λ r. r.held.items ≡ []) }
         ensures text { IfOk result (λ r. r.text.items ≡ []) }
     {
         Ok(Reader {
-            state: State::Heading(HeaderReader::new()),
+            state: State::Heading {
+                reader: HeaderReader::new(),
+                agents,
+            },
             lines: 0,
             held: Vec::with_capacity(alloc, LONGEST_LINE)?,
             text: Vec::with_capacity(alloc, TEXT)?,
@@ -64,7 +67,7 @@ impl Reader {
         ensures most { result ≤ 4096 }
     {
         match &self.state {
-            State::Heading(_) | State::Reading(Body::Clustering { .. }) => 32,
+            State::Heading { .. } | State::Reading(Body::Clustering { .. }) => 32,
             _ => 4_096,
         }
     }
@@ -175,8 +178,8 @@ fn end(alloc: Global, task: Task, state: &mut State) -> Result<(), Stop>
 {
     match state {
         State::Reading(_) => Ok(()),
-        State::Heading(reader) => {
-            enter(alloc, task, mem::replace(reader, HeaderReader::new()))?;
+        State::Heading { reader, agents } => {
+            enter(alloc, task, take(reader), take_agents(alloc, agents))?;
             Ok(())
         }
     }

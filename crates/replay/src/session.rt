@@ -5,7 +5,7 @@ ghost use Rattle.schedule_text.specs.Headers.{head_of, header_step};
 ghost use Rattle.schedule_text.specs.Lines.{pr_line_of, cluster_line_of, so_far_after_event};
 ghost use Rattle.replay.specs.declared.session.Body.TheVariants.{CheckingPr, CheckingCluster, Replaying, Clustering};
 ghost use Rattle.replay.specs.declared.session.State.TheVariants.{Reading};
-ghost use Rattle.replay.specs.Sessions.{Answers, Enters, TakesHeader, cluster_of, step, body_step, body_of, checked_pr, checked_cluster, clustered, event_done, replayed, is_later, is_later_command, is_later_line, is_not_built, refused_kind};
+ghost use Rattle.replay.specs.Sessions.{Answers, Enters, TakesHeader, cluster_of, step, body_step, body_of, checked_pr, checked_cluster, clustered, event_done, replayed, is_not_built};
 ghost use Rattle.world_model.specs.Worlds.{WorldState};
 
 use crate::stop::Stop;
@@ -19,13 +19,18 @@ use schedule_text::{
 use status_report::{print_answer, print_powered};
 use std::alloc::Global;
 use std::mem;
-use world::World;
+use world::{Agents, World};
 
 /// How far a schedule was read.
 #[derive(Drop)]
 pub enum State {
     /// The header is being read.
-    Heading(HeaderReader),
+    Heading {
+        /// What was read of it.
+        reader: HeaderReader,
+        /// Who will carry out the methods of resource types.
+        agents: Agents,
+    },
     /// The header was read.
     Reading(Body),
 }
@@ -86,17 +91,31 @@ fn answer_in_any(
     ensures { Answers result (step task state.old line.now) state.new text.old.items text.new.items }
 {
     match state {
-        State::Heading(reader) => {
+        State::Heading { reader, agents } => {
             if take_header(alloc, task, reader, line)? {
                 return Ok(());
             }
-            let mut body = enter(alloc, task, mem::replace(reader, HeaderReader::new()))?;
+            let mut body = enter(alloc, task, take(reader), take_agents(alloc, agents))?;
             body.answer(alloc, line, text, words)?;
             *state = State::Reading(body);
             Ok(())
         }
         State::Reading(body) => body.answer(alloc, line, text, words),
     }
+}
+
+/// The reader of the header, in whose place a new one comes.
+pub fn take(reader: &mut HeaderReader) -> HeaderReader
+    ensures value { result ≡ reader.old }
+{
+    mem::replace(reader, HeaderReader::new())
+}
+
+/// The agents, in whose place none are left.
+pub fn take_agents(alloc: Global, agents: &mut Agents) -> Agents
+    ensures value { result ≡ agents.old }
+{
+    mem::replace(agents, Agents::new(Vec::new(alloc)))
 }
 
 /// Takes a line of the header; `false` where the header ends before the line.
@@ -128,12 +147,12 @@ fn is_not_built(task: Task, line: &[u8]) -> bool
 }
 
 /// What is done with the lines after this header, which ends here.
-pub fn enter(alloc: Global, task: Task, reader: HeaderReader) -> Result<Body, Stop>
-    ensures { Enters result (body_of task (head_of reader)) }
+pub fn enter(alloc: Global, task: Task, reader: HeaderReader, agents: Agents) -> Result<Body, Stop>
+    ensures { Enters result (body_of task agents (head_of reader)) }
 {
     match (task, reader.finish()?) {
         (Task::Run, Head::Pr(senders)) => Ok(Body::Replaying(Pgr::new(senders))),
-        (Task::Run, Head::Cluster(header)) => enter_cluster(alloc, header),
+        (Task::Run, Head::Cluster(header)) => enter_cluster(alloc, header, agents),
         (Task::Check, Head::Pr(_)) => Ok(Body::CheckingPr),
         (Task::Check, Head::Cluster(header)) => Ok(Body::CheckingCluster {
             header,
@@ -143,13 +162,13 @@ pub fn enter(alloc: Global, task: Task, reader: HeaderReader) -> Result<Body, St
 }
 
 /// The lines of a cluster schedule are replayed from the world of its header.
-fn enter_cluster(alloc: Global, header: Header) -> Result<Body, Stop>
+fn enter_cluster(alloc: Global, header: Header, agents: Agents) -> Result<Body, Stop>
     requires header { IsHeader header }
-    ensures { Enters result (cluster_of header.version header) }
+    ensures { Enters result (cluster_of header.version header agents) }
 {
     match header.version {
         Version::One => {
-            let world = World::new(alloc, &header)?;
+            let world = World::new(alloc, &header, agents)?;
             Ok(Body::Clustering {
                 header,
                 so_far: SoFar::new(),
@@ -267,7 +286,7 @@ fn replay_cluster(
             replay_event(alloc, header, so_far, world, &event, text)
         }
         Err(ReadError::NoMemory) => Err(Stop::NoMemory),
-        Err(ReadError::Refused(kind)) => Err(Stop::Refused(refused_kind(kind, line))),
+        Err(ReadError::Refused(kind)) => Err(Stop::Refused(kind)),
     }
 }
 
@@ -282,9 +301,6 @@ fn replay_event(
     requires allowed { IsAllowedEvent header.now so_far.old event.now }
     ensures { Answers result (event_done header.now so_far.old world.old event.now) (Reading (Clustering header.now so_far.new world.new)) text.old.items text.new.items }
 {
-    if is_later(event) {
-        return Err(Stop::Refused(Kind::NotBuilt));
-    }
     *so_far = moved_on(header, *so_far, event);
     // Many rounds write much: it is not copied, where nothing stands before it.
     if text.is_empty() {
@@ -295,42 +311,4 @@ fn replay_event(
     world.step(alloc, event, &mut entries)?;
     text.extend_from_slice(&entries)?;
     Ok(())
-}
-
-/// Whether the replay of the line is not built yet: a command about groups that run, the outcome of a
-/// call, a monitor's report.
-fn is_later(event: &Event) -> bool
-    ensures { result ≡ is_later event.now }
-{
-    match event {
-        Event::Command { words, .. } => is_later_command(words.items()),
-        Event::Outcome { .. } | Event::Probe { .. } | Event::Client { .. } => true,
-        _ => false,
-    }
-}
-
-/// Whether the command makes groups run, or asks how they stand.
-fn is_later_command(words: &[u8]) -> bool
-    ensures { result ≡ is_later_command words.now }
-{
-    words.starts_with(b"clrg online ".as_slice())
-        || words.starts_with(b"clrg switch ".as_slice())
-        || words == b"clrg status".as_slice()
-        || words == b"clrs status".as_slice()
-}
-
-/// Why a line is refused: such a line is so before its numbers and names are looked at.
-fn refused_kind(kind: Kind, line: &[u8]) -> Kind
-    ensures { result ≡ refused_kind kind line.now }
-{
-    match kind {
-        Kind::Number | Kind::Unknown if is_later_line(line) => Kind::NotBuilt,
-        _ => kind,
-    }
-}
-
-fn is_later_line(line: &[u8]) -> bool
-    ensures { result ≡ is_later_line line.now }
-{
-    line.starts_with(b"outcome ".as_slice()) || line.starts_with(b"probe ".as_slice())
 }

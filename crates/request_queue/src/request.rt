@@ -9,4 +9,6 @@ pub struct Request {
     pub text: Bytes,
     /// Whether its answer is told: that of a command is, that of a monitor's request is not.
     pub told: bool,
+    /// The second at which it was asked.
+    pub second: u64,
 }

@@ -22,6 +22,7 @@ pub use carried::Carried;
 pub use due::Due;
 pub use laws::{due_calls_are_made, flags_change_by_success, orders_call_once, restarts_are_few};
 pub use memory::NoMemory;
+pub use names::name_of;
 pub use outcomes::{is_fatal, is_start_failure, marks_after};
 pub use past::Past;
 pub use probed::Probed;

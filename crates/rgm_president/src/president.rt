@@ -55,6 +55,13 @@ impl President {
         &self.view
     }
 
+    /// The epoch of its membership.
+    pub fn epoch(&self) -> Epoch
+        ensures value { result ≡ self.now.epoch }
+    {
+        self.epoch
+    }
+
     /// How many orders it has given.
     pub fn given(&self) -> u64
         ensures value { result ≡ self.now.given }

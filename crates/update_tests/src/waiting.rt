@@ -18,6 +18,7 @@ fn ask(alloc: Global, queue: &mut RequestQueue) -> Result<(), Fail> {
         number,
         text: words(alloc)?,
         told: true,
+        second: 0,
     })?;
     Ok(())
 }

@@ -2,6 +2,8 @@
 //! schedule.
 #![tactic(auto)]
 
+mod agent_list;
+mod calls;
 mod devices;
 mod line;
 mod making;
@@ -12,4 +14,5 @@ mod rounds;
 mod telling;
 mod world;
 
+pub use agent_list::Agents;
 pub use world::World;

@@ -5,18 +5,20 @@ ghost use Rattle.status_report.specs.Lines.{printed};
 ghost use Rattle.node_model.specs.declared.input.Input.TheVariants.{Commanded};
 ghost use Rattle.node_model.specs.Inputs.{IsAnswered};
 ghost use Rattle.world_model.specs.Devices.{on_disk};
-ghost use Rattle.world_model.specs.Lines.{IsPlayable, booting, giving_up, left_by, line_on, on_packets, with_stop};
-ghost use Rattle.world_model.specs.Worlds.{play};
+ghost use Rattle.world_model.specs.Lines.{IsPlayable, booting, giving_up, left_by, line_on, monitors, on_packets, probing, with_stop};
+ghost use Rattle.world_model.specs.Worlds.{node_at, play};
 
 use crate::packets::skip;
 use crate::telling::tell;
 use crate::world::World;
-use cl_base::{Bytes, NodeId};
+use cl_base::{Bytes, Name, NodeId};
 use local_disk::Choice;
 use node::Input;
+use node_model::Node;
 use schedule_text::{Event, StopChoice};
 use status_report::{Entry, ScheduleEntry, SkipCause};
 use std::alloc::{AllocError, Global};
+use world_model::Scripted;
 
 impl World {
     /// What the line comes to: its entries are written, in order.
@@ -52,7 +54,29 @@ impl World {
                 value,
             } => self.write(alloc, *node, *device, *value, out),
             Event::Command { node, words } => self.command_at(alloc, *node, words, out),
-            Event::Clock(second) => note(alloc, out, ScheduleEntry::Clock(*second)),
+            Event::Outcome {
+                node,
+                resource,
+                method,
+                outcome,
+            } => {
+                self.script.push(Scripted {
+                    node: *node,
+                    resource: *resource,
+                    method: *method,
+                    outcome: *outcome,
+                })?;
+                note(alloc, out, ScheduleEntry::Queued)
+            }
+            Event::Probe {
+                node,
+                resource,
+                good,
+            } => self.probe(alloc, *node, resource, *good, out),
+            Event::Clock(second) => {
+                self.clock = *second;
+                note(alloc, out, ScheduleEntry::Clock(*second))
+            }
             Event::Rounds { count, nodes } => {
                 self.rounds(alloc, *count, *nodes, out)?;
                 note(alloc, out, ScheduleEntry::RoundsDone)
@@ -73,6 +97,40 @@ impl World {
     {
         let words = Bytes::new(words.items().to_vec(alloc)?);
         self.give_up(alloc, n, &Input::Commanded(words), out)
+    }
+
+    /// The monitor of the resource at the node reports, where it has one.
+    fn probe(
+        &mut self,
+        alloc: Global,
+        n: NodeId,
+        resource: &Name,
+        good: bool,
+        out: &mut Vec<u8>,
+    ) -> Result<(), AllocError>
+        ensures { OnOk result (play self.new out.new.items ≡ probing n resource.now good (play self.old out.old.items)) }
+    {
+        if !self.is_up(n) {
+            return skip(alloc, out, SkipCause::Down);
+        }
+        if !self.monitors(n, resource) {
+            return skip(alloc, out, SkipCause::NoMonitor);
+        }
+        let input = Input::Reported {
+            resource: *resource,
+            good,
+        };
+        self.give(alloc, n, &input, out)
+    }
+
+    /// Whether the resource has a monitor at the node.
+    fn monitors(&self, n: NodeId, resource: &Name) -> bool
+        ensures value { result ≡ monitors resource.now (node_at self.now n) }
+    {
+        match self.nodes.get(n.number() as usize - 1) {
+            Some(Node::Up(up)) => up.worker.monitors(resource),
+            Some(Node::Down) | None => false,
+        }
     }
 
     /// What the line comes to, where it moves a packet.

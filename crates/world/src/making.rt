@@ -6,6 +6,7 @@ ghost use Rattle.node_model.specs.declared.node.Node.TheVariants.{Down};
 ghost use Rattle.record_disk.specs.Disks.{empty_disk};
 ghost use Rattle.world_model.specs.First.{attached_from, first_cluster, first_device, first_world, quorum_devices, with_quorum};
 
+use crate::agent_list::Agents;
 use crate::world::World;
 use cl_base::{DevId, DevSet, DeviceKind, Header, HeaderDevice, HeaderDevices, NodeSet};
 use cmm_attempt::{AttachedDevice, AttachedDevices};
@@ -24,20 +25,26 @@ const MOST: usize = 131_072;
 
 impl World {
     /// The world that the header tells of: all nodes are down with empty disks, and each quorum device
-    /// has the keys of its attached nodes registered. All memory that the links ever need is taken.
-    pub fn new(alloc: Global, header: &Header) -> Result<World, AllocError>
+    /// has the keys of its attached nodes registered. These agents carry out the methods of resource
+    /// types. All memory that the links ever need is taken.
+    pub fn new(alloc: Global, header: &Header, agents: Agents) -> Result<World, AllocError>
         requires nodes { header.now.nodes ≤ most_nodes }
         requires devices { length header.now.devices ≤ most_devices }
-        ensures first { IfOk result (λ world. world ≡ first_world header.now 65536) }
+        ensures first { IfOk result (λ world. world ≡ first_world header.now 65536 agents) }
     {
-        World::with_cells(alloc, header, CELLS)
+        World::with_cells(alloc, header, CELLS, agents)
     }
 
     /// The same, with so many cells for packets.
-    pub fn with_cells(alloc: Global, header: &Header, cells: u64) -> Result<World, AllocError>
+    pub fn with_cells(
+        alloc: Global,
+        header: &Header,
+        cells: u64,
+        agents: Agents,
+    ) -> Result<World, AllocError>
         requires nodes { header.now.nodes ≤ most_nodes }
         requires devices { length header.now.devices ≤ most_devices }
-        ensures first { IfOk result (λ world. world ≡ first_world header.now cells) }
+        ensures first { IfOk result (λ world. world ≡ first_world header.now cells agents) }
     {
         let cluster = first_cluster(alloc, header)?;
         Ok(World {
@@ -47,6 +54,9 @@ impl World {
             devices: first_devices(alloc, header)?,
             faults: no_faults(alloc, header.nodes, header.devices.items().len())?,
             links: Net::new(alloc, cells)?,
+            clock: 0,
+            script: Vec::new(alloc),
+            agents,
             bytes: vec![in alloc; 0; MOST]?,
             outputs: Vec::new(alloc),
         })

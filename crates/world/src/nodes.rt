@@ -1,13 +1,13 @@
 // Something happens to a node.
 ghost use Rattle.std.specs.Prelude.{◌≡◌, [], OnOk};
 ghost use Rattle.node_model.specs.Inputs.{IsAnswered};
-ghost use Rattle.world_model.specs.Sends.{giving, passing, passing_one, posting, stepping};
+ghost use Rattle.world_model.specs.Sends.{giving, giving_so, passing, passing_one, posting, stepping};
 ghost use Rattle.world_model.specs.Worlds.{play};
 
 use crate::naming::name_of;
 use crate::telling::tell;
 use crate::world::World;
-use cl_base::{Bytes, NodeId};
+use cl_base::{Bytes, NodeId, Outcome};
 use node::{Input, step};
 use node_model::{Cluster, Node, Output};
 use record_disk::SimulatedDisk;
@@ -31,6 +31,22 @@ impl World {
         requires answer { IsAnswered input.now }
         ensures { OnOk result (play self.new out.new.items ≡ giving me input.now (play self.old out.old.items)) }
     {
+        let outcome = self.call(alloc, me, input)?;
+        self.give_so(alloc, me, input, outcome, out)
+    }
+
+    /// The same, where the method that the node calls in this, if it calls one, ends so.
+    fn give_so(
+        &mut self,
+        alloc: Global,
+        me: NodeId,
+        input: &Input,
+        outcome: Outcome,
+        out: &mut Vec<u8>,
+    ) -> Result<(), AllocError>
+        requires answer { IsAnswered input.now }
+        ensures { OnOk result (play self.new out.new.items ≡ giving_so me input.now outcome (play self.old out.old.items)) }
+    {
         let mut outputs = mem::replace(&mut self.outputs, Vec::new(alloc));
         step_in(
             alloc,
@@ -38,6 +54,8 @@ impl World {
             &mut self.nodes,
             &mut self.disks,
             me,
+            self.clock,
+            outcome,
             input,
             &mut outputs,
         )?;
@@ -118,12 +136,14 @@ fn step_in(
     nodes: &mut Vec<Node>,
     disks: &mut Vec<SimulatedDisk>,
     me: NodeId,
+    now: u64,
+    outcome: Outcome,
     input: &Input,
     given: &mut Vec<Output>,
 ) -> Result<(), AllocError>
     requires empty { given.old.items ≡ [] }
     requires answer { IsAnswered input.now }
-    ensures { OnOk result (record { nodes = nodes.new.items; disks = disks.new.items; given = given.new.items } ≡ stepping cluster.now me input.now nodes.old.items disks.old.items) }
+    ensures { OnOk result (record { nodes = nodes.new.items; disks = disks.new.items; given = given.new.items } ≡ stepping cluster.now me now outcome input.now nodes.old.items disks.old.items) }
 {
     let place = me.number() as usize - 1;
     if place >= nodes.len() || place >= disks.len() {
@@ -133,6 +153,8 @@ fn step_in(
         alloc,
         cluster,
         me,
+        now,
+        outcome,
         &mut disks[place],
         &mut nodes[place],
         input,

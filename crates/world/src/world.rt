@@ -1,8 +1,10 @@
+use crate::agent_list::Agents;
 use interconnect::Net;
 use node_model::{Cluster, Node, Output};
 use pgr_device::Pgr;
 use record_disk::SimulatedDisk;
 use std::marker::Model;
+use world_model::Scripted;
 
 /// A simulated cluster. Contracts see a `WorldState`.
 #[derive(Drop)]
@@ -19,6 +21,12 @@ pub struct World {
     pub(crate) faults: Vec<Option<bool>>,
     /// The links between the nodes.
     pub(crate) links: Net,
+    /// The second at which the clock stands.
+    pub(crate) clock: u64,
+    /// The outcomes that are queued, oldest first.
+    pub(crate) script: Vec<Scripted>,
+    /// Who carries out the methods of resource types.
+    pub(crate) agents: Agents,
     /// Room for the bytes of a packet.
     pub(crate) bytes: Vec<u8>,
     /// Room for what a node gives in a step; between steps there is nothing in it.
@@ -31,7 +39,7 @@ impl Model for World {
 
     ghost Value = { WorldState };
 
-    ghost view = { λ w. record { cluster = w.cluster; nodes = w.nodes.items; disks = w.disks.items; devices = w.devices.items; faults = w.faults.items; links = w.links } };
+    ghost view = { λ w. record { cluster = w.cluster; nodes = w.nodes.items; disks = w.disks.items; devices = w.devices.items; faults = w.faults.items; links = w.links; clock = w.clock; script = w.script.items; agents = w.agents } };
 
     ghost invariant = { λ w. (length w.bytes.items ≡ 131072) × (w.outputs.items ≡ []) };
 }

@@ -1,5 +1,6 @@
 -- The world before the first line.
 use Rattle.std.specs.Prelude.{ℕ, ◌+◌, ◌*◌, List, [], ◌∷◌, None, length, map, replicate}
+use Rattle.agents.specs.Calls.{AgentState}
 use Rattle.cl_base.specs.Numbers.{first_numbers}
 use Rattle.cl_base.specs.Sets.{set_with}
 use Rattle.cl_base.specs.declared.header.DeviceKind.{DeviceKind}
@@ -61,12 +62,15 @@ abbrev pub first_links : ℕ → Links
 first_links cells = record { packets = []; next = 1; cells = cells }
 
 -- all nodes are down, with empty disks; no fault is armed, and nothing was sent
-unfoldable pub first_world : Header → ℕ → WorldState
-first_world h cells = record {
+unfoldable pub first_world : Header → ℕ → List AgentState → WorldState
+first_world h cells agents = record {
   cluster = first_cluster h;
   nodes = replicate h.nodes Down;
   disks = replicate h.nodes (empty_disk (quorum_devices h.devices));
   devices = map (first_device h) h.devices;
   faults = replicate (h.nodes * length h.devices) None;
   links = first_links cells;
+  clock = 0;
+  script = [];
+  agents = agents;
 }

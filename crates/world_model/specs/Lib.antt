@@ -1,4 +1,5 @@
 pub mod Worlds
+pub mod Calls
 pub mod Sends
 pub mod Packets
 pub mod Devices

@@ -1,8 +1,10 @@
 -- What a node gives is told and sent.
 use Rattle.std.specs.Prelude.{ℕ, ◌-◌, ◌^◌, ◌&&◌, nat_le, nat_lt, Bool, List, [], ◌∷◌, Option, None, Some, length, slice_get, slice_set, if◌then◌else◌}
+use Rattle.cl_base.specs.declared.method.Outcome as method
 use Rattle.cl_base.specs.declared.packet.DropCause.{DropCause}
 use Rattle.cl_base.specs.declared.packet.MessageName.{MessageName}
 use Rattle.interconnect.specs.Links.{Links, Outcome as Sending, sending}
+use Rattle.rgm_member.specs.declared.due.Due.{Due}
 use Rattle.record_disk.specs.Disks as disks
 use Rattle.record_disk.specs.Disks.{DiskState}
 use Rattle.status_report.specs.declared.entry.Entry.TheVariants as entry
@@ -17,8 +19,10 @@ use Rattle.node_model.specs.declared.input.Input.{Input}
 use Rattle.node_model.specs.declared.node.Node.{Node}
 use Rattle.node_model.specs.declared.output.Output.{Output}
 use Rattle.node_model.specs.declared.output.Output.TheVariants.{Tells, Sends}
+use Rattle.node_model.specs.Calls.{call_due}
 use Rattle.node_model.specs.Steps.{DiskRules, Outcome, stepped}
-use Rattle.world_model.specs.Worlds.{Play, telling, with_world}
+use Rattle.world_model.specs.Calls.{Ended, ended}
+use Rattle.world_model.specs.Worlds.{Play, WorldState, node_at, telling, with_world}
 
 -- the number that follows a message's kind in its name
 abbrev pub number_in : Body → Option ℕ
@@ -77,16 +81,31 @@ pub record Stepping : Type 0 where
 abbrev pub stepped_to : ℕ → List Node → List DiskState → Outcome DiskState → Stepping
 stepped_to me nodes disks o = record { nodes = slice_set nodes (me - 1) o.after; disks = slice_set disks (me - 1) o.disk; given = o.given }
 
-abbrev pub stepping_at : Cluster → ℕ → Input → List Node → List DiskState → Option Node → Option DiskState → Stepping
-stepping_at c me i nodes disks (Some node) (Some disk) = stepped_to me nodes disks (stepped rules c me node disk i)
-stepping_at c me i nodes disks None disk = record { nodes = nodes; disks = disks; given = [] }
-stepping_at c me i nodes disks (Some node) None = record { nodes = nodes; disks = disks; given = [] }
+abbrev pub stepping_at : Cluster → ℕ → ℕ → method.Outcome → Input → List Node → List DiskState → Option Node → Option DiskState → Stepping
+stepping_at c me now outcome i nodes disks (Some node) (Some disk) = stepped_to me nodes disks (stepped rules c me now outcome node disk i)
+stepping_at c me now outcome i nodes disks None disk = record { nodes = nodes; disks = disks; given = [] }
+stepping_at c me now outcome i nodes disks (Some node) None = record { nodes = nodes; disks = disks; given = [] }
 
-abbrev pub stepping : Cluster → ℕ → Input → List Node → List DiskState → Stepping
-stepping c me i nodes disks = stepping_at c me i nodes disks (slice_get nodes (me - 1)) (slice_get disks (me - 1))
+abbrev pub stepping : Cluster → ℕ → ℕ → method.Outcome → Input → List Node → List DiskState → Stepping
+stepping c me now outcome i nodes disks = stepping_at c me now outcome i nodes disks (slice_get nodes (me - 1)) (slice_get disks (me - 1))
 
 abbrev pub come_to : ℕ → Stepping → Play → Play
 come_to me s p = passing me s.given (with_world p (record p.world { nodes = s.nodes; disks = s.disks }))
 
+-- The node steps; the method that it calls has ended so.
+abbrev pub giving_so : ℕ → Input → method.Outcome → Play → Play
+giving_so me i outcome p = come_to me (stepping p.world.cluster me p.world.clock outcome i p.world.nodes p.world.disks) p
+
+abbrev pub due_at : WorldState → ℕ → Input → Option Node → Option Due
+due_at w me i None = None
+due_at w me i (Some node) = call_due w.cluster me w.clock node i
+
+-- the call that it is to make
+abbrev pub due_in : WorldState → ℕ → Input → Option Due
+due_in w me i = due_at w me i (node_at w me)
+
+abbrev pub giving_with : ℕ → Input → Ended → Play → Play
+giving_with me i e p = giving_so me i e.outcome (with_world p e.world)
+
 abbrev pub giving : ℕ → Input → Play → Play
-giving me i p = come_to me (stepping p.world.cluster me i p.world.nodes p.world.disks) p
+giving me i p = giving_with me i (ended p.world (due_in p.world me i)) p

@@ -1,5 +1,6 @@
 -- The simulated cluster, and the text of its trace.
 use Rattle.std.specs.Prelude.{ℕ, ◌-◌, ◌++◌, Bool, true, false, List, Option, None, Some, slice_get}
+use Rattle.agents.specs.Calls.{AgentState}
 use Rattle.interconnect.specs.Links.{Links}
 use Rattle.pgr_device.specs.Device.{Device}
 use Rattle.record_disk.specs.Disks.{DiskState}
@@ -9,6 +10,7 @@ use Rattle.status_report.specs.declared.schedule_entry.ScheduleEntry.{ScheduleEn
 use Rattle.status_report.specs.declared.schedule_entry.ScheduleEntry.TheVariants.{Skipped}
 use Rattle.status_report.specs.declared.schedule_entry.SkipCause.{SkipCause}
 use Rattle.status_report.specs.Lines.{printed}
+use Rattle.world_model.specs.declared.scripted.Scripted.{Scripted}
 use Rattle.node_model.specs.declared.cluster.Cluster.{Cluster}
 use Rattle.node_model.specs.declared.node.Node.{Node}
 use Rattle.node_model.specs.declared.node.Node.TheVariants.{Down, Up}
@@ -21,6 +23,9 @@ pub record WorldState : Type 0 where
   pub devices : List Device
   pub faults : List (Option Bool)  -- armed for the next command of a node to a device: whether it is done
   pub links : Links
+  pub clock : ℕ
+  pub script : List Scripted  -- outcomes that are queued, oldest first
+  pub agents : List AgentState
 
 -- a world, and the text of the entries so far
 pub record Play : Type 0 where

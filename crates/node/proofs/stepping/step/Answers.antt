@@ -1,10 +1,8 @@
-use Rattle.std.proofs.Common.{rules}
-use Rattle.node.proofs.Hearing.{heard_is}
+use Rattle.node.proofs.Moving.{moved_is}
 use Rattle.node.proofs.stepping.step.Goals as goal
 
-pub returns-then-branch : goal.returns-then-branch
-returns-then-branch g c =
+pub returns : goal.returns
+returns g c =
     record {
-      step = heard_is _ c.args.cluster.now c.args.me c.args.node.now c.hears.new.node c.args.input.now c.in-Packet.from c.in-Packet.message c.in_ok-hears-in-Packet.field-0 c.args.out.now.items c.hears.new.out.items c.args.disk.now
-          (search rules) (search rules) (search rules) (search rules);
+      step = moved_is _ c.args.cluster.now c.args.me c.args.now c.args.outcome c.args.node.now c.set_second.new.node c.args.disk.now c.args.input.now _ c.move_on.result c.set_second.ensures.after c.move_on.ensures;
     }

@@ -1,6 +1,4 @@
-use Rattle.std.proofs.Common.{rules, ◌≡◌, ◌∙◌}
-use Rattle.cl_base.specs.Limits.{most_nodes}
-use Rattle.cl_base.specs.Numbers.{numbers_to}
+use Rattle.std.proofs.Common.{◌∙◌}
 use Rattle.node.proofs.Heartbeats.{sent_to}
 use Rattle.node.proofs.tick.send_heartbeats.Goals as goal
 

@@ -1,8 +1,8 @@
 use Rattle.std.proofs.Common.{rules}
-use Rattle.node.proofs.Again.{told_at_tick}
+use Rattle.node.proofs.Left.{governs_rest}
 use Rattle.node.proofs.tick.tick.Goals as goal
 
-pub returns-clause-told : goal.returns-clause-told
-returns-clause-told c =
-    told_at_tick c.args.cluster.now c.args.me c.args.up.now c.tick.new.self c.args.out.now.items c.push.new.self.items c.send_heartbeats.new.out.items c.tick_requests.new.out.items
-    (search rules) (search rules) (search rules) (search rules)
+pub returns-then-is_some-clause-rest : goal.returns-then-is_some-clause-rest
+returns-then-is_some-clause-rest c = λ outcome.
+    governs_rest c.args.cluster.now c.args.me outcome c.args.up.now c.tick_requests.new.up c.tick.new.self c.in_ok-again.again
+    (search rules) (search rules) (search rules) (search rules) (search rules)

@@ -1,4 +1,3 @@
-use Rattle.std.proofs.Common.{◌∙◌}
 use Rattle.node_acts.proofs.UnknownLines.{told_more}
 use Rattle.node_acts.proofs.ending.tell_each.Goals as goal
 

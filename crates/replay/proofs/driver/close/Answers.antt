@@ -1,5 +1,4 @@
 use Rattle.std.proofs.Common.{rules, ◌≡◌, ◌++◌, ◌∙◌}
-use Rattle.std.specs.String.{string_bytes}
 use Rattle.replay.specs.Outcomes.{closing}
 use Rattle.replay.specs.Readers.{ending_of}
 use Rattle.replay.proofs.Closes.{close_without_memory, close_failed}

@@ -1,5 +1,4 @@
 use Rattle.std.proofs.Common.{◌≡◌, []}
-use Rattle.std.specs.String.{string_bytes}
 use Rattle.replay.specs.Readers.{IsReader, room}
 use Rattle.replay.specs.Loops.{ReadsOn}
 use Rattle.replay.proofs.driver.run.Given as goal
@@ -8,7 +7,7 @@ abbrev pub invariant-pieces : goal.invariant-pieces
 invariant-pieces g l = record {
   whole : IsReader l.reader;
   written : l.reader.text.items ≡ [];
-  reads : ReadsOn l.task (g.S.Source.left l.fn.source) (g.S.Source.left l.source) (g.K.Sink.held l.fn.sink) (g.K.Sink.held l.sink) l.reader;
+  reads : ReadsOn l.task l.fn.agents (g.S.Source.left l.fn.source) (g.S.Source.left l.source) (g.K.Sink.held l.fn.sink) (g.K.Sink.held l.sink) l.reader;
   source : g.S.Source.faults l.source ≡ g.S.Source.faults l.fn.source;
   sink : g.K.Sink.faults l.sink ≡ g.K.Sink.faults l.fn.sink;
 }

@@ -1,5 +1,4 @@
 use Rattle.std.proofs.Common.{◌++◌, arith, inl, inr, length-append, sym, ◌∙◌}
-use Rattle.std.specs.String.{string_bytes}
 use Rattle.replay.proofs.Bytes.{held_stops, is_large, some_bytes}
 use Rattle.replay.proofs.reader.Reader.hold.Goals as goal
 use Rattle.replay.proofs.reader.Reader.hold.Goals.{then-self-ge-MOST_LINES-via-then-self-ge-MOST_LINES, then-self-ge-MOST_LINES-via-else-self-ge-MOST_LINES+then-beginning-len}

@@ -1,0 +1,3 @@
+mod AtStart
+mod Lists
+mod Whole

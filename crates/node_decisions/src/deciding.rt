@@ -1,0 +1,76 @@
+// The president decides.
+ghost use Rattle.std.specs.Prelude.{◌≡◌, ◌++◌, Ok, OnOk, true};
+ghost use Rattle.node_model.specs.Deciding.{deciding, is_held_up, may_order, orders_sent, with_turn};
+ghost use Rattle.node_model.specs.Plans.{Gives};
+ghost use Rattle.rgm_president.specs.Decisions.{decision};
+
+use crate::configurations::in_force;
+use crate::orders::send_orders;
+use ccr_tables::Config;
+use cl_base::NodeId;
+use node_model::{Cluster, Output, Presidency, UpNode};
+use rgm_president::President;
+use std::alloc::{AllocError, Global};
+
+/// Orders have numbers below this.
+const MOST_ORDERS: u64 = 1 << 63;
+
+/// A president decides at the second of its step: the goals anew, and then, unless a request waits or
+/// is being handled, an order to each member that has none and for which a call is allowed. Any other
+/// node decides nothing.
+pub fn decide(
+    alloc: Global,
+    cluster: &Cluster,
+    me: NodeId,
+    up: &mut UpNode,
+    out: &mut Vec<Output>,
+) -> Result<(), AllocError>
+    ensures plan { OnOk result (Gives (deciding cluster.now me up.old) out.old.items (Ok up.new) out.new.items) }
+    ensures seat { up.new.seat ≡ up.old.seat }
+{
+    let Some(mut presidency) = up.presidency.take() else {
+        return Ok(());
+    };
+    if !may_order(&presidency.groups) {
+        up.presidency = Some(presidency);
+        return Ok(());
+    }
+    let config = in_force(alloc, cluster, &mut up.made, &up.seat)?;
+    decide_under(alloc, config, me, up.second, &mut presidency, out)?;
+    up.presidency = Some(presidency);
+    Ok(())
+}
+
+/// The same, where this is the configuration in force.
+fn decide_under(
+    alloc: Global,
+    config: &Config,
+    me: NodeId,
+    now: u64,
+    presidency: &mut Presidency,
+    out: &mut Vec<Output>,
+) -> Result<(), AllocError>
+    requires number { may_order presidency.old.groups ≡ true }
+    ensures after { OnOk result (presidency.new ≡ with_turn me presidency.old (decision config.now now (is_held_up presidency.old) presidency.old.groups)) }
+    ensures told { OnOk result (out.new.items ≡ out.old.items ++ orders_sent me (decision config.now now (is_held_up presidency.old) presidency.old.groups).orders) }
+{
+    let held_up = is_held_up(presidency);
+    match presidency.groups.decide(alloc, config, now, held_up) {
+        Ok(orders) => send_orders(me, orders, &mut presidency.sent, out),
+        Err(_) => Err(AllocError),
+    }
+}
+
+/// Whether a request waits or is being handled.
+fn is_held_up(presidency: &Presidency) -> bool
+    ensures { result ≡ is_held_up presidency.now }
+{
+    presidency.proposals.first().is_some()
+}
+
+/// Whether there is a number for each order that is given next.
+pub fn may_order(president: &President) -> bool
+    ensures value { result ≡ may_order president.now }
+{
+    president.given() < MOST_ORDERS
+}

@@ -1,0 +1,15 @@
+// The node is handed back, or let go.
+ghost use Rattle.std.specs.Prelude.{◌≡◌};
+ghost use Rattle.node_groups.specs.Obeying.{left_so};
+
+use node_model::{Stop, UpNode};
+
+/// What a call has come to that had the node in hand. A node that goes down is let go here alone.
+pub(crate) fn hand_over(up: UpNode, done: Result<(), Stop>) -> Result<UpNode, Stop>
+    ensures value { result ≡ left_so up done }
+{
+    match done {
+        Ok(()) => Ok(up),
+        Err(stop) => Err(stop),
+    }
+}

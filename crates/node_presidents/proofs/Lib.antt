@@ -1,0 +1,12 @@
+pub mod Acknowledging
+pub mod Acts
+pub mod Answering
+pub mod Busy
+pub mod Cleared
+pub mod Come
+pub mod Given
+pub mod Proposed
+pub mod Sent
+pub mod TakenUp
+pub mod TurnLemmas
+pub mod Turning

@@ -1,0 +1,3 @@
+-- what only the proofs need
+pub mod Presidents
+pub mod Verdicts

@@ -1,0 +1,53 @@
+// The president takes up an update that is committed.
+ghost use Rattle.std.specs.Prelude.{◌≡◌, OnOk};
+ghost use Rattle.node_presidents.specs.Presidents.{taken_under, taking_up};
+
+use admin_words::{WordError, parse};
+use ccr_tables::{AdminCommand, Config};
+use cl_base::Bytes;
+use node_decisions::in_force;
+use node_model::{Cluster, Presidency, UpNode};
+use std::alloc::{AllocError, Global};
+
+#[tactic(auto, unfolding(crate::specs::Presidents::taking_up))]
+/// The president takes up the update of these words, which is committed. Any other node takes up nothing.
+pub fn take_up(
+    alloc: Global,
+    cluster: &Cluster,
+    up: &mut UpNode,
+    text: &Bytes,
+) -> Result<(), AllocError>
+    ensures after { OnOk result (up.new ≡ taking_up cluster.now up.old text.now) }
+    ensures seat { up.new.seat ≡ up.old.seat }
+{
+    let Some(mut presidency) = up.presidency.take() else {
+        return Ok(());
+    };
+    let config = in_force(alloc, cluster, &mut up.made, &up.seat)?;
+    take_under(alloc, cluster, config, &mut presidency, text)?;
+    up.presidency = Some(presidency);
+    Ok(())
+}
+
+/// The same, where this is the configuration in force.
+fn take_under(
+    alloc: Global,
+    cluster: &Cluster,
+    config: &Config,
+    presidency: &mut Presidency,
+    text: &Bytes,
+) -> Result<(), AllocError>
+    ensures after { OnOk result (presidency.new ≡ taken_under config.now cluster.now text.now presidency.old) }
+{
+    match parse(alloc, cluster.header.get().version, text.items()) {
+        Ok(AdminCommand::Change(u)) => {
+            match presidency.groups.changed(alloc, &u, config) {
+                Ok(()) => Ok(()),
+                Err(_) => Err(AllocError),
+            }
+        }
+        Ok(AdminCommand::Act(_) | AdminCommand::Status(_) | AdminCommand::Rows(_)) => Ok(()),
+        Err(WordError::NoMemory) => Err(AllocError),
+        Err(WordError::UnknownCommand | WordError::MissingOperand | WordError::BadValue) => Ok(()),
+    }
+}

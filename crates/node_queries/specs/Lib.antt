@@ -1,0 +1,3 @@
+pub mod Checks
+-- what only the proofs need
+pub mod Queries

@@ -1,0 +1,69 @@
+-- A Prepared of a member is taken: with the last one the president goes on.
+use Rattle.std.proofs.Common.{◌≡◌, ◌&&◌, ℕ, Bool, true, false, if◌then◌else◌, Option, Some, None, Result, Ok, Err, List, refl, ap, sym, subst, ◌∙◌}
+use Rattle.cmm_member.specs.Records.{NodeRecord}
+use Rattle.proposals.specs.Proposing.{is_prepared, prepared_by}
+use Rattle.proposals.specs.State.{State}
+use Rattle.record_disk.specs.Savings.{Saving}
+use Rattle.node_model.specs.declared.cluster.Cluster.{Cluster}
+use Rattle.node_model.specs.declared.node.UpNode.{UpNode}
+use Rattle.node_model.specs.declared.output.Output.{Output}
+use Rattle.node_model.specs.declared.presidency.Presidency.{Presidency}
+use Rattle.node_model.specs.declared.stop.Stop.{Stop}
+use Rattle.node_model.specs.Plans.{Plan, Follows, IsDone, and_then}
+use Rattle.node_model.specs.Plans.Plan.{Stays}
+use Rattle.node_model.specs.Presidents.{acknowledging, handling}
+use Rattle.node_model.specs.Seats.{is_in, is_member}
+use Rattle.node_model.specs.Updates.{is_of_member, on_prepared, prepared_at}
+use Rattle.node_model.proofs.Plans.{done_then, stopped_then}
+use Rattle.node_updates.specs.Preparing.{goes_on}
+
+gone : (c : Cluster) (me : ℕ) (y : UpNode) (b : Bool) → (if b then and_then (acknowledging c me y) (handling c me) else Stays y) ≡ goes_on c me y b
+unfolding goes_on
+gone c me y true = refl
+gone c me y false = refl
+
+stays : (c : Cluster) (me : ℕ) (y : UpNode) → Stays y ≡ goes_on c me y false
+unfolding goes_on
+stays c me y = refl
+
+pub of_another : (c : Cluster) (me : ℕ) (x : UpNode) (from e place : ℕ) (b : Bool) → b ≡ is_of_member x from e → b ≡ false → on_prepared c me x from e place ≡ goes_on c me x false
+of_another c me x from e place b is cannot = ap (λ (k : Bool). if k then prepared_at c me x from place x.presidency else Stays x) (sym is ∙ cannot) ∙ stays c me x
+
+pub of_none : (c : Cluster) (me : ℕ) (x y : UpNode) (from e place : ℕ) (b : Bool) → b ≡ is_of_member x from e → b ≡ true → x.presidency ≡ None → y ≡ record x { presidency = None }
+    → on_prepared c me x from e place ≡ goes_on c me y false
+of_none c me x y from e place b is member none left =
+    ap (λ (k : Bool). if k then prepared_at c me x from place x.presidency else Stays x) (sym is ∙ member)
+    ∙ ap (λ o. prepared_at c me x from place o) none
+    ∙ ap (λ o. Stays (record x { presidency = o })) none
+    ∙ ap Stays (sym left) ∙ stays c me y
+
+pub of_president : (c : Cluster) (me : ℕ) (x y : UpNode) (p : Presidency) (q : State) (from e place : ℕ) (b last : Bool) → b ≡ is_of_member x from e → b ≡ true → x.presidency ≡ Some p
+    → q ≡ prepared_by p.proposals from place → y ≡ record x { presidency = Some (record p { proposals = q }) } → last ≡ is_prepared q
+    → on_prepared c me x from e place ≡ goes_on c me y last
+of_president c me x y p q from e place b last is member office prepared left all =
+    ap (λ (k : Bool). if k then prepared_at c me x from place x.presidency else Stays x) (sym is ∙ member)
+    ∙ ap (λ o. prepared_at c me x from place o) office
+    ∙ ap (λ s. prepared_so s) (sym prepared)
+    ∙ ap (λ z. if is_prepared q then and_then (acknowledging c me z) (handling c me) else Stays z) (sym left)
+    ∙ ap (λ (k : Bool). if k then and_then (acknowledging c me y) (handling c me) else Stays y) (sym all)
+    ∙ gone c me y last
+  where
+    prepared_so : State → Plan
+    prepared_so s = if is_prepared s then and_then (acknowledging c me (record x { presidency = Some (record p { proposals = s }) })) (handling c me) else Stays (record x { presidency = Some (record p { proposals = s }) })
+
+pub then_handles : {K : Type 0} → (saving : K → NodeRecord → Saving K) (c : Cluster) (me : ℕ) (x y : UpNode) (given mid after : List Output) (disk between left : K) (result : Result UpNode Stop)
+    → IsDone saving (acknowledging c me x) given disk y mid between → Follows saving (handling c me y) mid between result after left → Follows saving (goes_on c me x true) given disk result after left
+unfolding goes_on
+then_handles saving c me x y given mid after disk between left result done follows = done_then saving (acknowledging c me x) (handling c me) given mid after disk between left y result done follows
+
+pub stops_there : {K : Type 0} → (saving : K → NodeRecord → Saving K) (c : Cluster) (me : ℕ) (x : UpNode) (given after : List Output) (disk left : K) (stop : Stop)
+    → Follows saving (acknowledging c me x) given disk (Err stop) after left → Follows saving (goes_on c me x true) given disk (Err stop) after left
+unfolding goes_on
+stops_there saving c me x given after disk left stop h = stopped_then saving (acknowledging c me x) (handling c me) given after disk left stop h
+
+first : (a b : Bool) → (a && b) ≡ true → a ≡ true
+first true b h = refl
+first false b h = absurd (cc)
+
+pub of_a_member : (x : UpNode) (from e : ℕ) (b : Bool) → b ≡ is_of_member x from e → b ≡ true → is_member x.seat ≡ true
+of_a_member x from e b is holds = first (is_member x.seat) (is_in x e) (first (is_member x.seat && is_in x e) _ (sym is ∙ holds))
