@@ -17,5 +17,5 @@ mod score;
 pub use eligibility::eligible;
 pub use goals::goal;
 pub use loads::{is_fixed, load_of};
-pub use resources::{has_enabled, is_stop_failed};
+pub use resources::{has_enabled, is_online, is_stop_failed};
 pub use score::Score;

@@ -58,7 +58,7 @@ fn is_down_at(g: &Groups, view: &GroupView, group: &Name, n: NodeId, place: usiz
 /// Whether the group is online on the node: it has an enabled resource, and every enabled one runs
 /// there.
 pub fn is_online(g: &Groups, view: &GroupView, group: &Name, n: NodeId) -> bool
-    ensures { result ≡ is_online g.now view.entry.now group.now n }
+    ensures value { result ≡ is_online g.now view.entry.now group.now n }
 {
     has_enabled(g, group) && !has_down(g, view, group, n)
 }
