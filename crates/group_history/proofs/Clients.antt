@@ -9,6 +9,7 @@ use Rattle.std.proofs.lemmas.Bool.Decides.{nat_tests}
 use Rattle.std.proofs.lemmas.List.{length-replicate, map-append, nil_from_length, get_or-replicate, get_or_append_left, get_or-append_right}
 use Rattle.std.proofs.lemmas.List.Elements.{All-cons, All-nil, All-head, All-tail}
 use Rattle.std.proofs.lemmas.List.Sums.{sum_by-cons}
+use Rattle.address_targets.proofs.Ascending.{HasWeight}
 use Rattle.cl_base.specs.declared.command.Policy.TheVariants.{StickyPort, Sticky}
 use Rattle.shared_address.specs.declared.choice.Client.{Client}
 use Rattle.shared_address.specs.declared.choice.Target.{Target}
@@ -23,7 +24,6 @@ use Rattle.shared_address.proofs.Sticks.{clients_stick, ports_stick}
 use Rattle.shared_address.proofs.TurnLemmas.{same_targets}
 use Rattle.group_history.specs.Addresses.{Answered, requests_of}
 use Rattle.group_history.specs.Served.{IsByTarget, IsChoice, StaysTold, outcomes_told, told}
-use Rattle.group_history.proofs.Ascending.{HasWeight}
 use Rattle.group_history.proofs.Due.{AreDue, IsDue}
 
 -- ---- served by targets
@@ -48,7 +48,7 @@ turn_is_target (t ∷ ts) i lt = by (nat_lt i t.weight) refl (turn_is_target ts 
 
 some_weight : (ts : List Target) → AllByRecursion HasWeight ts → 0 < length ts → 0 < total_weight ts
 some_weight [] all some = absurd (omega arith)
-some_weight (t ∷ ts) all some = let first = all.0 in let count = sum_by-cons (λ (x : Target). x.weight) t ts in omega arith
+some_weight (t ∷ ts) all some = let first = all.0.0 in let count = sum_by-cons (λ (x : Target). x.weight) t ts in omega arith
 
 seen_turn : (turns : TurnState) (ts : List Target) → IsInRound turns → 0 < total_weight ts → is_target ts (next_node (seen turns ts)) ≡ true
 seen_turn turns ts within some = by (pointwise same_target turns.targets ts) refl

@@ -5,6 +5,7 @@ use Rattle.std.specs.List.Sorted.{IsStrictlyIncreasing}
 use Rattle.std.specs.Str.{bytes_eq}
 use Rattle.std.specs.Cmp.Lexicographic.{same_text}
 use Rattle.std.proofs.lemmas.Bool.{eqb-true}
+use Rattle.address_targets.proofs.Ascending.{HasWeight, ascending, weighted}
 use Rattle.ccr_tables.specs.declared.address.Address.{Address}
 use Rattle.rg_props.specs.Lookups.{named}
 use Rattle.schedule_text.specs.declared.event.Event.TheVariants as event
@@ -20,7 +21,6 @@ use Rattle.history.specs.Member.{member_of}
 use Rattle.group_history.specs.Setting.{Groups, config_of}
 use Rattle.group_history.specs.Doings.{forgot}
 use Rattle.group_history.specs.KnownMap.{known_of}
-use Rattle.group_history.proofs.Ascending.{HasWeight, ascending, weighted}
 use Rattle.group_history.specs.Addresses.{Answered, IsServed, IsServedAt, answer_at, answer_of, answer_told, answers_in, deletes, entries_for, lines_of, presides, request_at, requests_of}
 
 -- ---- answers

@@ -1,4 +1,3 @@
 pub mod Within
-pub mod Ascending
 pub mod Due
 pub mod Clients

@@ -1,45 +1,27 @@
 -- Shared addresses: what a client's request at a president is answered is what the requests for the address in this membership since it was last
 -- deleted, its policy and its targets at each of them give.
-use Rattle.std.specs.Prelude.{◌≡◌, ℕ, ◌==◌, nat_lt, ◌&&◌, not, Bool, false, if◌then◌else◌, List, map, [], ◌∷◌, ◌++◌, Option, Some, None}
-use Rattle.std.specs.List.{flat_map, find}
-use Rattle.std.specs.Option.{option_map_or}
-use Rattle.ccr_tables.specs.State.{ConfigState}
+use Rattle.std.specs.Prelude.{◌≡◌, ℕ, ◌==◌, ◌&&◌, not, Bool, false, if◌then◌else◌, List, map, [], ◌∷◌, ◌++◌, Option, Some, None}
+use Rattle.address_targets.specs.Targets.{targets_of}
 use Rattle.ccr_tables.specs.declared.address.Address.{Address}
-use Rattle.ccr_tables.specs.declared.address.Weight.{Weight}
 use Rattle.ccr_tables.specs.declared.command.AdminCommand.{AdminCommand}
 use Rattle.ccr_tables.specs.declared.command.AdminCommand.TheVariants.{Change}
 use Rattle.ccr_tables.specs.declared.update.Update.TheVariants.{DeleteAddress}
-use Rattle.placement.specs.Resources.{is_online}
 use Rattle.rg_props.specs.Lookups.{named}
-use Rattle.rg_view.specs.declared.view.GroupView.{GroupView}
 use Rattle.schedule_text.specs.declared.event.Event.TheVariants as event
 use Rattle.schedule_text.specs.declared.line.Line.TheVariants as line
 use Rattle.std.specs.Str.{bytes_eq}
 use Rattle.shared_address.specs.Choosing.{Outcome, Request, asked}
 use Rattle.shared_address.specs.History.{outcome_after}
 use Rattle.shared_address.specs.declared.choice.Client.{Client}
-use Rattle.shared_address.specs.declared.choice.Target.{Target}
 use Rattle.status_report.specs.declared.schedule_entry.SkipCause.TheVariants as skip
 use Rattle.history.specs.Moment.{Moment, Said}
 use Rattle.history.specs.Trace.{member, ack, served, skipped}
 use Rattle.history.specs.Order.{EachEvent, Unless}
-use Rattle.history.specs.Setting.{coordinator, nodes_of}
+use Rattle.history.specs.Setting.{coordinator}
 use Rattle.history.specs.Member.{member_of}
 use Rattle.group_history.specs.Setting.{Groups, config_of}
 use Rattle.group_history.specs.Doings.{forgot}
 use Rattle.group_history.specs.KnownMap.{known_of}
-
--- ---- targets: the nodes, ascending, where the group of the address is online by what is known, with their weights where these are positive
-
-abbrev pub weight_of : List Weight → ℕ → ℕ
-weight_of weights n = option_map_or (λ (w : Weight). w.weight) (find (λ w. w.node == n) weights) 1
-
-abbrev pub target_on : ConfigState → GroupView → Address → ℕ → List Target
-target_on c v a n =
-    if is_online c.groups v a.group n && nat_lt 0 (weight_of a.weights n) then record { node = n; weight = weight_of a.weights n } ∷ [] else []
-
-abbrev pub targets_of : ConfigState → GroupView → Address → List Target
-targets_of c v a = flat_map (target_on c v a) (nodes_of v.members)
 
 -- ---- the requests for an address at the president of e since it became one or the address was deleted, newest first, with what their lines tell
 

@@ -1,6 +1,9 @@
 -- What must be of groups in what happened, beside what `history` says, for it to be the history of one cluster.
 use Rattle.std.specs.Prelude.{◌≡◌, List, None}
-use Rattle.history.specs.Moment.{Moment}
+use Rattle.schedule_text.specs.declared.line.Line.{Line}
+use Rattle.status_report.specs.declared.entry.Entry.{Entry}
+use Rattle.history.specs.History.{History}
+use Rattle.history.specs.Moment.{Moment, lines_of, entries_of}
 use Rattle.group_history.specs.Setting.{Groups}
 use Rattle.group_history.specs.AllowedCalls.{AllowedCalls}
 use Rattle.group_history.specs.Calls.{Calls, CallsEnd, under_call}
@@ -57,3 +60,17 @@ pub record GroupsWhole (S : Groups) (moments : List Moment) : Type 0 where
   pub adopts : adopt_due S moments ≡ None
   pub calls : under_call moments ≡ None
   pub panics : panic_due S moments ≡ None
+
+-- The whole of it: the history of one cluster with its groups.
+pub record ClusterHistory (S : Groups) (moments : List Moment) : Type 0 where
+  pub cluster : History S.cluster moments
+  pub holds : GroupsHold S moments
+  pub answers : GroupAnswers S moments
+  pub whole : GroupsWhole S moments
+
+-- These lines have these entries, both newest first, in one such history.
+pub record IsClusterHistory (S : Groups) (lines : List Line) (entries : List Entry) : Type 0 where
+  pub moments : List Moment
+  pub said : lines_of moments ≡ lines
+  pub told : entries_of moments ≡ entries
+  pub history : ClusterHistory S moments

@@ -1,6 +1,7 @@
 -- The sample of the second version meets the definitions.
 use Rattle.std.proofs.Common.{arith}
 use Rattle.group_samples.proofs.Allowed as call
+use Rattle.address_targets.specs.Targets.{targets_of}
 use Rattle.cl_base.specs.Sets.{has, set_with}
 use Rattle.placement.specs.Decisions.{decided}
 use Rattle.placement.specs.Eligibility.{group_reason, node_reason, target_reason, reason_of, online_targets, score_of, eligibility_of}
@@ -43,7 +44,7 @@ holds = record {
 }
 
 pub answers : GroupAnswers sticking sample.cleared
-unfolding has set_with decided group_reason node_reason target_reason reason_of online_targets score_of eligibility_of kept best_of placed goal_by_rule is_fixed counted passed_limit soft_passed has_enabled has_down is_stop_failed forbidding without_goal lacking is_callable is_allowed has_lost has_shaken has_going follows has_reason going_of others_load is_too_much next_call_of outlook_of is_tied is_ordered is_online is_up is_group_up has_missing is_group_online has_room is_supported has_groups are_suited is_avoided waits may_begin is_held has_follower is_awaited has_up has_online with_listed with_decided with_ended with_goals groups_in_order members_in_order load name_in
+unfolding targets_of has set_with decided group_reason node_reason target_reason reason_of online_targets score_of eligibility_of kept best_of placed goal_by_rule is_fixed counted passed_limit soft_passed has_enabled has_down is_stop_failed forbidding without_goal lacking is_callable is_allowed has_lost has_shaken has_going follows has_reason going_of others_load is_too_much next_call_of outlook_of is_tied is_ordered is_online is_up is_group_up has_missing is_group_online has_room is_supported has_groups are_suited is_avoided waits may_begin is_held has_follower is_awaited has_up has_online with_listed with_decided with_ended with_goals groups_in_order members_in_order load name_in
 answers = record {
   outcomes = search;
   panics = search;

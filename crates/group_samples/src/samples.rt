@@ -1,6 +1,6 @@
 //! Whole traces that meet the definitions: so they can be met.
 ghost use Rattle.history.specs.History.{History};
-ghost use Rattle.group_history.specs.GroupHistory.{GroupsHold, GroupAnswers, GroupsWhole};
+ghost use Rattle.group_history.specs.GroupHistory.{ClusterHistory, GroupsHold, GroupAnswers, GroupsWhole};
 ghost use Rattle.group_samples.specs.SampleConfigurations.{staying, moving};
 ghost use Rattle.group_samples.specs.SampleFault.{faulted};
 ghost use Rattle.group_samples.specs.SampleFailover.{failed_over};
@@ -43,3 +43,17 @@ pub fn the_failover_is_a_history()
 pub fn the_client_is_served_in_a_history()
     ensures history { History sticking.cluster cleared }
 {}
+
+/// So each of them is one history of its cluster with its groups.
+pub fn they_are_histories_with_groups()
+    ensures fault { ClusterHistory staying faulted }
+    ensures failover { ClusterHistory moving failed_over }
+    ensures served { ClusterHistory sticking cleared }
+{
+    a_fault();
+    the_fault_is_a_history();
+    a_failover();
+    the_failover_is_a_history();
+    a_client_served();
+    the_client_is_served_in_a_history();
+}

@@ -8,6 +8,7 @@ use Rattle.node_model.specs.declared.cluster.Cluster.{Cluster}
 use Rattle.node_model.specs.declared.input.Input.TheVariants.{Tick}
 use Rattle.node_model.specs.declared.node.UpNode.{UpNode}
 use Rattle.node_model.specs.declared.presidency.Presidency.{Presidency}
+use Rattle.node_model.specs.Configurations.{configured_at}
 use Rattle.node_model.specs.Deciding.{deciding}
 use Rattle.node_model.specs.Groups.{orders_again_by, orders_again_of, own_order, own_turn}
 use Rattle.node_model.specs.Plans.{Plan, and_then}
@@ -51,15 +52,15 @@ by_office c me outcome x again (Some p) is some prepares orders =
     (same_after (own_turn c me outcome (later c x) (own_order me (later c x))) (going_again c me x) (sent_and_decided c me again)
     (λ y. ap (λ os. Says os (deciding c me y)) (same_output x y p again is prepares orders)))
 
-later_is : (c : Cluster) (x y : UpNode) (beats : State) → beats ≡ ticked x.beats c.configured → y ≡ with_later (beating x beats) → y ≡ later c x
-later_is c x y beats is now = now ∙ ap (λ b. with_later (beating x b)) is
+later_is : (c : Cluster) (x y : UpNode) (set : ℕ) (beats : State) → set ≡ configured_at c x → beats ≡ ticked x.beats set → y ≡ with_later (beating x beats) → y ≡ later c x
+later_is c x y set beats configured is now = now ∙ ap (λ b. with_later (beating x b)) (is ∙ ap (λ s. ticked x.beats s) configured)
 
-pub governs_rest : (c : Cluster) (me : ℕ) (outcome : Outcome) (x y : UpNode) (beats : State) (again : Again) → beats ≡ ticked x.beats c.configured → y ≡ with_later (beating x beats)
+pub governs_rest : (c : Cluster) (me : ℕ) (outcome : Outcome) (x y : UpNode) (set : ℕ) (beats : State) (again : Again) → set ≡ configured_at c x → beats ≡ ticked x.beats set → y ≡ with_later (beating x beats)
     → is_some y.presidency ≡ true → again.prepares.items ≡ prepares_again (beating x beats) → again.orders ≡ orders_due x.presidency
     → left_of c me outcome x x.presidency ≡ rest_of c me outcome y Tick (Govern again)
-governs_rest c me outcome x y beats again is now some prepares orders =
-    by_office c me outcome x again x.presidency refl (subst (λ z. is_some z.presidency ≡ true) (later_is c x y beats is now) some) (prepares ∙ same_prepares x beats) orders
-    ∙ ap (λ z. governed c me outcome again z) (sym (later_is c x y beats is now))
+governs_rest c me outcome x y set beats again configured is now some prepares orders =
+    by_office c me outcome x again x.presidency refl (subst (λ z. is_some z.presidency ≡ true) (later_is c x y set beats configured is now) some) (prepares ∙ same_prepares x beats) orders
+    ∙ ap (λ z. governed c me outcome again z) (sym (later_is c x y set beats configured is now))
 
 -- a node that is no president has at most something to do for attempts
 without_office : (c : Cluster) (me : ℕ) (outcome : Outcome) (x : UpNode) (office : Option Presidency) → is_some (later_presidency office) ≡ false
@@ -67,9 +68,9 @@ without_office : (c : Cluster) (me : ℕ) (outcome : Outcome) (x : UpNode) (offi
 without_office c me outcome x None none = refl
 without_office c me outcome x (Some p) none = absurd (cc)
 
-pub attempts_rest : (c : Cluster) (me : ℕ) (outcome : Outcome) (x y z : UpNode) (beats : State) (due : AttemptDue) → beats ≡ ticked x.beats c.configured → y ≡ with_later (beating x beats)
+pub attempts_rest : (c : Cluster) (me : ℕ) (outcome : Outcome) (x y z : UpNode) (set : ℕ) (beats : State) (due : AttemptDue) → set ≡ configured_at c x → beats ≡ ticked x.beats set → y ≡ with_later (beating x beats)
     → is_some y.presidency ≡ false → attempt_ticked c me y y.attempt ≡ attempt_rest c me z due
     → left_of c me outcome x x.presidency ≡ rest_of c me outcome z Tick (Attempt due)
-attempts_rest c me outcome x y z beats due is now none rest =
-    without_office c me outcome x x.presidency (subst (λ u. is_some u.presidency ≡ false) (later_is c x y beats is now) none)
-    ∙ ap (λ u. attempt_of c me u) (sym (later_is c x y beats is now)) ∙ rest
+attempts_rest c me outcome x y z set beats due configured is now none rest =
+    without_office c me outcome x x.presidency (subst (λ u. is_some u.presidency ≡ false) (later_is c x y set beats configured is now) none)
+    ∙ ap (λ u. attempt_of c me u) (sym (later_is c x y set beats configured is now)) ∙ rest

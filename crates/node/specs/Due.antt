@@ -8,7 +8,7 @@ use Rattle.record_disk.specs.Savings.{Saving}
 use Rattle.wire.specs.declared.message.Message.{Message}
 use Rattle.node_model.specs.declared.cluster.Cluster.{Cluster}
 use Rattle.node_model.specs.declared.input.Input.{Input}
-use Rattle.node_model.specs.declared.input.Input.TheVariants.{Boot, Crash, Tick, Packet, CommandDue, Answered, Wrote, Commanded, Reported}
+use Rattle.node_model.specs.declared.input.Input.TheVariants.{Boot, Crash, Tick, Packet, CommandDue, Answered, Wrote, Commanded, Reported, Client}
 use Rattle.node_model.specs.declared.node.Node.{Node}
 use Rattle.node_model.specs.declared.node.Node.TheVariants as node
 use Rattle.node_model.specs.declared.node.UpNode.{UpNode}
@@ -53,6 +53,7 @@ untouched c me outcome x (Answered a) = plan_of c me outcome x (Answered a)
 untouched c me outcome x (Wrote d value a) = plan_of c me outcome x (Wrote d value a)
 untouched c me outcome x (Commanded words) = plan_of c me outcome x (Commanded words)
 untouched c me outcome x (Reported r good) = plan_of c me outcome x (Reported r good)
+untouched c me outcome x (Client address client port) = plan_of c me outcome x (Client address client port)
 
 -- What a president does at a tick: its own order is carried out, this goes again, and it decides.
 

@@ -3,6 +3,7 @@ ghost use Rattle.std.specs.Prelude.{◌≡◌, ◌++◌, ◌∷◌, [], None, If
 ghost use Rattle.status_report.specs.declared.entry.Entry.TheVariants as trace;
 ghost use Rattle.status_report.specs.declared.node_entry.NodeEntry.TheVariants as note;
 ghost use Rattle.node_model.specs.declared.output.Output.TheVariants.{Tells};
+ghost use Rattle.node_model.specs.Clusters.{first_valid_of};
 ghost use Rattle.node_model.specs.Plans.{KeepFails};
 ghost use Rattle.node_model.specs.Seats.{up_with};
 
@@ -26,14 +27,14 @@ pub fn boot<K: RecordDisk>(
     disk: &mut K,
     out: &mut Vec<Output>,
 ) -> Result<UpNode, Stop>
-    ensures up { IfOk result (λ up. up ≡ up_with me cluster.now.first_valid (K.kept disk.old)) }
+    ensures up { IfOk result (λ up. up ≡ up_with me (first_valid_of cluster.now me) (K.kept disk.old)) }
     ensures told { OnOk result (out.new.items ≡ out.old.items ++ Tells (trace.Node me note.Up) ∷ []) }
     ensures mounted { OnOk result ((K.mounting disk.old).lost ≡ None) }
     ensures left { OnOk result (disk.new ≡ (K.mounting disk.old).after) }
     ensures lost { IfErr result (KeepFails (K.mounting disk.old) (out.old.items ++ Tells (trace.Node me note.Up) ∷ []) out.new.items disk.new) }
 {
     tell_of(out, me, NodeEntry::Up)?;
-    match disk.mount(alloc, DownNode::new(me, cluster.first_valid)) {
+    match disk.mount(alloc, DownNode::new(me, cluster.first_valid_of(me))) {
         Ok(node) => {
             let beats = Heartbeats::new(alloc, me)?;
             Ok(UpNode {

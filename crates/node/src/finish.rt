@@ -4,14 +4,17 @@ ghost use Rattle.status_report.specs.declared.entry.Entry.TheVariants as trace;
 ghost use Rattle.status_report.specs.declared.node_entry.NodeEntry.TheVariants as note;
 ghost use Rattle.node_model.specs.declared.output.Output.TheVariants.{Tells};
 ghost use Rattle.node_model.specs.Inputs.{IsAnswered};
-ghost use Rattle.node_model.specs.Plans.{Follows};
+ghost use Rattle.node_model.specs.Addresses.{on_client};
+ghost use Rattle.node_model.specs.Plans.{Follows, Gives};
 ghost use Rattle.node.specs.Due.{IsDueAt, MayFollow, finished, rest_of, untouched};
 
 use crate::due::Due;
 use crate::govern::govern;
+use crate::handing::hand_back;
 use crate::packet::take_packet;
 use crate::tick::tick_attempt;
-use cl_base::{NodeId, Outcome};
+use cl_base::{Name, NodeId, Outcome};
+use node_addresses::on_client;
 use node_devices::{before_command, take_device_answer, take_write_answer};
 use node_groups::take_report;
 use node_model::{Cluster, Input, Node, Output, Stop, UpNode};
@@ -116,5 +119,27 @@ fn step_up<K: RecordDisk>(
         Input::Reported { resource, good } => {
             take_report(alloc, cluster, me, disk, up, resource, *good, out)
         }
+        Input::Client {
+            address,
+            client,
+            port,
+        } => take_client(alloc, cluster, up, address, *client, *port, out),
     }
+}
+
+/// A client's request is served.
+#[tactic(auto, using(crate::proofs::Handed::kept_gives))]
+fn take_client(
+    alloc: Global,
+    cluster: &Cluster,
+    mut up: UpNode,
+    address: &Name,
+    client: u32,
+    port: u16,
+    out: &mut Vec<Output>,
+) -> Result<UpNode, Stop>
+    ensures { Gives (on_client cluster.now up address.now client port) out.old.items result out.new.items }
+{
+    let done = on_client(alloc, cluster, &mut up, address, client, port, out);
+    hand_back(up, done)
 }

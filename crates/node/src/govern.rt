@@ -28,7 +28,7 @@ pub(crate) fn govern<K: RecordDisk>(
     ensures { Follows K.saving (governed cluster.now me outcome again up) out.old.items disk.old result out.new.items disk.new }
 {
     let mut up = preside(alloc, cluster, me, outcome, disk, up, again, out)?;
-    let due = attempt_due(cluster, me, &mut up);
+    let due = attempt_due(alloc, cluster, me, &mut up)?;
     tick_attempt(alloc, cluster, me, disk, up, due, out)
 }
 

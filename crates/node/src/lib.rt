@@ -2,6 +2,7 @@
 #![tactic(auto)]
 
 mod boot;
+mod configured;
 mod due;
 mod finish;
 mod govern;
@@ -10,6 +11,7 @@ mod packet;
 mod stepping;
 mod tick;
 
+pub use node_addresses::client_refusal;
 pub use node_devices::may_write;
 pub use node_groups::call_due;
 pub use node_model::Input;

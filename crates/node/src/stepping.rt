@@ -77,7 +77,8 @@ fn move_on<K: RecordDisk>(
         | Input::Answered(_)
         | Input::Wrote { .. }
         | Input::Commanded(_)
-        | Input::Reported { .. } => {
+        | Input::Reported { .. }
+        | Input::Client { .. } => {
             finish(
                 alloc,
                 cluster,

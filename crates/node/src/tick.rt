@@ -12,6 +12,7 @@ ghost use Rattle.heartbeats.specs.Views.{receivers_of};
 ghost use Rattle.node.specs.Due.{MayBegin, MayFollow, attempt_rest, going_on_with, rest_of};
 ghost use Rattle.node.specs.Ticks.{left_of};
 
+use crate::configured::configured_at;
 use crate::due::{AttemptDue, Due};
 use cl_base::{NodeId, NodeSet};
 use heartbeats::Membership;
@@ -42,25 +43,27 @@ pub(crate) fn tick(
         entry: NodeEntry::Ticked,
     };
     out.push(Output::Tells(entry))?;
-    up.beats.tick(cluster.configured);
-    send_heartbeats(alloc, cluster, up, out)?;
+    let configured = configured_at(alloc, cluster, up)?;
+    up.beats.tick(configured);
+    send_heartbeats(alloc, configured, up, out)?;
     let again = tick_requests(alloc, up, out)?;
     if up.presidency.is_some() {
         return Ok(Due::Govern(again));
     }
-    Ok(Due::Attempt(attempt_due(cluster, me, up)))
+    Ok(Due::Attempt(attempt_due(alloc, cluster, me, up)?))
 }
 
-/// A heartbeat goes to every other configured node, ascending.
+/// A heartbeat goes to every other of the nodes that are configured, ascending; that of a node which is not, to each that it has
+/// heard.
 fn send_heartbeats(
     alloc: Global,
-    cluster: &Cluster,
+    configured: NodeSet,
     up: &UpNode,
     out: &mut Vec<Output>,
 ) -> Result<(), AllocError>
-    ensures sent { OnOk result (out.new.items ≡ out.old.items ++ heartbeats_to up.now (receivers_of up.now.beats cluster.now.configured)) }
+    ensures sent { OnOk result (out.new.items ≡ out.old.items ++ heartbeats_to up.now (receivers_of up.now.beats configured)) }
 {
-    let receivers = up.beats.receivers(cluster.configured).nodes(alloc)?;
+    let receivers = up.beats.receivers(configured).nodes(alloc)?;
     send_to_each(up, &receivers, out)
 }
 
@@ -92,19 +95,24 @@ fn heartbeat(up: &UpNode) -> Body
 }
 
 /// What is due of attempts. Without one the node waits, or begins one.
-pub(crate) fn attempt_due(cluster: &Cluster, me: NodeId, up: &mut UpNode) -> AttemptDue
-    ensures rest { attempt_ticked cluster.now me up.old up.old.attempt ≡ attempt_rest cluster.now me up.new result }
-    ensures ready { MayBegin me up.new result }
+pub(crate) fn attempt_due(
+    alloc: Global,
+    cluster: &Cluster,
+    me: NodeId,
+    up: &mut UpNode,
+) -> Result<AttemptDue, AllocError>
+    ensures rest { IfOk result (λ due. attempt_ticked cluster.now me up.old up.old.attempt ≡ attempt_rest cluster.now me up.new due) }
+    ensures ready { IfOk result (λ due. MayBegin me up.new due) }
 {
     if up.attempt.get().is_some() {
-        return AttemptDue::GoesOn;
+        return Ok(AttemptDue::GoesOn);
     }
     if up.beats.waits() {
-        return AttemptDue::Nothing;
+        return Ok(AttemptDue::Nothing);
     }
-    match members_to_form(cluster, me, up) {
-        Some(members) => AttemptDue::Begins(members),
-        None => AttemptDue::Nothing,
+    match members_to_form(alloc, cluster, me, up)? {
+        Some(members) => Ok(AttemptDue::Begins(members)),
+        None => Ok(AttemptDue::Nothing),
     }
 }
 
@@ -147,19 +155,26 @@ fn go_on_with<K: RecordDisk>(
 }
 
 /// The members of the attempt that the node is to begin, if it is to.
-fn members_to_form(cluster: &Cluster, me: NodeId, up: &UpNode) -> Option<NodeSet>
-    ensures value { result ≡ members_to_form cluster.now me up.now }
-    ensures member { IfSome result (λ members. has members me ≡ true) }
-    ensures count { IfSome result (λ members. up.now.greatest / 64 < 2 ^ 56) }
+fn members_to_form(
+    alloc: Global,
+    cluster: &Cluster,
+    me: NodeId,
+    up: &mut UpNode,
+) -> Result<Option<NodeSet>, AllocError>
+    ensures value { IfOk result (λ formed. formed ≡ members_to_form cluster.now me up.old) }
+    ensures member { IfOk result (λ formed. IfSome formed (λ members. has members me ≡ true)) }
+    ensures count { IfOk result (λ formed. IfSome formed (λ members. up.old.greatest / 64 < 2 ^ 56)) }
+    ensures same { up.new ≡ up.old }
 {
     let Some(view) = up.beats.view() else {
-        return None;
+        return Ok(None);
     };
-    let begins = up.beats.begins(cluster.configured, membership(&up.seat));
+    let configured = configured_at(alloc, cluster, up)?;
+    let begins = up.beats.begins(configured, membership(&up.seat));
     if up.greatest.number() / 64 < 1 << 56 && begins && view.has(me) {
-        Some(view)
+        Ok(Some(view))
     } else {
-        None
+        Ok(None)
     }
 }
 

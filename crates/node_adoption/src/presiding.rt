@@ -13,6 +13,7 @@ use node_model::{Cluster, Presidency, UpNode};
 use proposals::Proposals;
 use rgm_president::President;
 use sent_orders::SentOrders;
+use shared_address::Balancer;
 use std::alloc::{AllocError, Global};
 use wire::Report;
 
@@ -36,6 +37,7 @@ pub fn preside(
         held: attempt.held_devices(),
         groups,
         sent: SentOrders::new(),
+        balancer: Balancer::new(alloc),
     })
 }
 

@@ -25,6 +25,8 @@ use Rattle.wire.specs.declared.message.Body.TheVariants as body
 use Rattle.wire.specs.declared.message.Install.{Install}
 use Rattle.wire.specs.declared.message.Message.{Message}
 use Rattle.wire.specs.Spelling.{IsNode}
+use Rattle.node_bounds.proofs.Clients.{client_costs}
+use Rattle.node_model.specs.Configurations.{configured_at}
 use Rattle.node_model.specs.declared.cluster.Cluster.{Cluster}
 use Rattle.node_model.specs.declared.input.Input.{Input}
 use Rattle.node_model.specs.declared.input.Input.TheVariants as input
@@ -83,7 +85,7 @@ ticks_by c n x None few f h =
 
 ticked_few : (c : Cluster) (before x : UpNode) → sends_of (ticks.ticked_output c before x) ≤ 33
 ticked_few c before x =
-    let beats : ℕ = receivers_of x.beats c.configured in
+    let beats : ℕ = receivers_of x.beats (configured_at c x) in
     omega (arith, sends_append (heartbeats_to x beats) (request_again before), heartbeats_few x beats, request_again_few before)
 
 again_few : (before x : UpNode) → sends_of (ticks.again_output before x) ≤ 64
@@ -258,6 +260,7 @@ step_costs c n outcome x (input.Wrote d value a) few is from h =
     costs_less _ 0 3587 (omega arith) (tells _ (devices.write_ended n x d value a) 0 refl (write_costs n x d value a h))
 step_costs c n outcome x (input.Commanded words) few is from h = of_president _ (command_costs c n x words is h)
 step_costs c n outcome x (input.Reported r good) few is from h = of_president _ (report_costs c n x r good is h)
+step_costs c n outcome x (input.Client address client port) few is from h = costs_less _ 0 3587 (omega arith) (client_costs c x address client port h)
 
 far_below : (k : ℕ) → k ≤ 3587 → k ≤ 4096
 far_below k h = omega (arith, h)

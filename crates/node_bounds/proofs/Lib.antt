@@ -1,6 +1,7 @@
 pub mod Counts
 pub mod Plans
 pub mod Calls
+pub mod Clients
 pub mod Deciding
 pub mod Attempts
 pub mod Queues

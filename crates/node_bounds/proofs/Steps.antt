@@ -9,9 +9,10 @@ use Rattle.status_report.specs.declared.entry.Entry.TheVariants as entry
 use Rattle.status_report.specs.declared.node_entry.DownCause.{DownCause}
 use Rattle.status_report.specs.declared.node_entry.NodeEntry.TheVariants as note
 use Rattle.wire.specs.Spelling.{IsNode}
+use Rattle.node_model.specs.Clusters.{first_valid_of}
 use Rattle.node_model.specs.declared.cluster.Cluster.{Cluster}
 use Rattle.node_model.specs.declared.input.Input.{Input}
-use Rattle.node_model.specs.declared.input.Input.TheVariants.{Boot, Crash, Tick, Packet, CommandDue, Answered, Wrote, Commanded, Reported}
+use Rattle.node_model.specs.declared.input.Input.TheVariants.{Boot, Crash, Tick, Packet, CommandDue, Answered, Wrote, Commanded, Reported, Client}
 use Rattle.node_model.specs.declared.node.UpNode.{UpNode}
 use Rattle.node_model.specs.declared.node.Node.{Node}
 use Rattle.node_model.specs.declared.node.Node.TheVariants.{Down, Up}
@@ -58,8 +59,8 @@ stepped_few rules c n now outcome (Up x) disk i few is from h =
     carried_few rules.saving n (plan_of c n outcome y i) [] disk 4096 (steps_stay_bounded c n outcome y i few is from k) (omega (arith, steps_send_few c n outcome y i few is from k))
 stepped_few rules c n now outcome Down disk Boot few is from h =
     unless_few n (Tells (entry.Node n note.Up) ∷ []) (rules.mounting disk).after (rules.mounting disk).lost
-    (record { after = Up (up_with n c.first_valid (rules.kept disk)); given = Tells (entry.Node n note.Up) ∷ []; disk = (rules.mounting disk).after }) 4096 (omega arith)
-    (omega arith, boots n c.first_valid (rules.kept disk))
+    (record { after = Up (up_with n (first_valid_of c n) (rules.kept disk)); given = Tells (entry.Node n note.Up) ∷ []; disk = (rules.mounting disk).after }) 4096 (omega arith)
+    (omega arith, boots n (first_valid_of c n) (rules.kept disk))
 stepped_few rules c n now outcome Down disk Crash few is from h = (omega arith, tt)
 stepped_few rules c n now outcome Down disk Tick few is from h = (omega arith, tt)
 stepped_few rules c n now outcome Down disk (Packet sender m) few is from h = (omega arith, tt)
@@ -68,3 +69,4 @@ stepped_few rules c n now outcome Down disk (Answered a) few is from h = (omega 
 stepped_few rules c n now outcome Down disk (Wrote d value a) few is from h = (omega arith, tt)
 stepped_few rules c n now outcome Down disk (Commanded words) few is from h = (omega arith, tt)
 stepped_few rules c n now outcome Down disk (Reported r good) few is from h = (omega arith, tt)
+stepped_few rules c n now outcome Down disk (Client address client port) few is from h = (omega arith, tt)

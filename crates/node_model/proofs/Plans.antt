@@ -1,5 +1,5 @@
 -- Plans one after another, plans that save nothing, and plans as functions.
-use Rattle.std.specs.Prelude.{ℕ, ◌≡◌, ◌⊎◌, List, [], ◌∷◌, ◌++◌, Option, None, Some, Result, Ok, Err}
+use Rattle.std.specs.Prelude.{ℕ, ◌≡◌, List, ◌++◌, Option, None, Some, Result, Ok, Err}
 use Rattle.std.proofs.Common.{refl, inl, inr, subst, sym, ap, ◌∙◌}
 use Rattle.cmm_member.specs.Records.{NodeRecord}
 use Rattle.record_disk.specs.Savings.{Saving}

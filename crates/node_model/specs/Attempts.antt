@@ -1,12 +1,11 @@
 -- What a coordinator does: it begins an attempt, and carries out the steps that the attempt gives.
-use Rattle.std.specs.Prelude.{ℕ, ◌+◌, ◌/◌, ◌%◌, ◌*◌, ◌^◌, ◌==◌, ◌&&◌, ◌||◌, nat_le, nat_lt, not, Bool, true, false, List, [], ◌∷◌, ◌++◌, length, flat_map, Option, None, Some, is_some, if◌then◌else◌}
+use Rattle.std.specs.Prelude.{ℕ, ◌+◌, ◌/◌, ◌*◌, ◌^◌, ◌==◌, ◌&&◌, ◌||◌, nat_le, nat_lt, not, Bool, true, false, List, [], ◌∷◌, length, flat_map, Option, None, Some, is_some, if◌then◌else◌}
 use Rattle.std.specs.Option.{unwrap_or}
 use Rattle.cl_base.specs.Limits.{most_nodes}
 use Rattle.cl_base.specs.Numbers.{numbers_to}
 use Rattle.cl_base.specs.Sets.{has}
 use Rattle.cl_base.specs.declared.panic.Panic.TheVariants as panic
-use Rattle.ccr_commit.specs.Entries.{EntryList, all_committed}
-use Rattle.cmm_attempt.specs.declared.attached.AttachedDevice.{AttachedDevice}
+use Rattle.ccr_commit.specs.Entries.{all_committed}
 use Rattle.cmm_attempt.specs.declared.counting.BothVotes.{BothVotes}
 use Rattle.cmm_attempt.specs.declared.phase.Phase.{Phase}
 use Rattle.cmm_attempt.specs.declared.phase.Phase.TheVariants.{Collecting, Choosing, SeizingVotes, SeizingOthers, Installing, Over}
@@ -65,7 +64,7 @@ use Rattle.node_model.specs.Entries.{answering, keeping, telling, telling_of, un
 use Rattle.node_model.specs.Plans.{Plan, and_then}
 use Rattle.node_model.specs.Plans.Plan.{Stays, Falls, Says}
 use Rattle.node_model.specs.Presidents.{tidied}
-use Rattle.node_model.specs.Seats.{promised_of, promising, record_of, state_of}
+use Rattle.node_model.specs.Seats.{promised_of, promising, record_of}
 
 -- the node's record as it is shown in a Promise of p, and whether a resource has a flag there
 abbrev pub shown_in : NodeRecord → Bool → ℕ → Body
@@ -197,6 +196,7 @@ presiding c me x a = record {
   held = held_set a.devices;
   groups = president_of (own_config c x) a.plan.epoch a.plan.members (reports_of me (report_of x.worker (own_config c x)) a) x.second;
   sent = nothing_sent;
+  balancer = [];
 }
 
 abbrev pub starting_as : Cluster → ℕ → UpNode → AttemptState → NodeState → UpNode

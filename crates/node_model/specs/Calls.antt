@@ -1,5 +1,5 @@
 -- Which method a node is to call in a step, if it is to call one: that of an order that comes, or at a tick of the president's own.
-use Rattle.std.specs.Prelude.{ℕ, ◌&&◌, not, Bool, Option, None, Some, if◌then◌else◌}
+use Rattle.std.specs.Prelude.{ℕ, ◌&&◌, Bool, Option, None, Some, if◌then◌else◌}
 use Rattle.rgm_member.specs.Dues.{due_of}
 use Rattle.rgm_member.specs.declared.due.Due.{Due}
 use Rattle.wire.specs.declared.message.Body.{Body}
@@ -7,7 +7,7 @@ use Rattle.wire.specs.declared.message.Body.TheVariants as body
 use Rattle.wire.specs.declared.message.Order.{Order}
 use Rattle.node_model.specs.declared.cluster.Cluster.{Cluster}
 use Rattle.node_model.specs.declared.input.Input.{Input}
-use Rattle.node_model.specs.declared.input.Input.TheVariants.{Boot, Crash, Tick, Packet, CommandDue, Answered, Wrote, Commanded, Reported}
+use Rattle.node_model.specs.declared.input.Input.TheVariants.{Boot, Crash, Tick, Packet, CommandDue, Answered, Wrote, Commanded, Reported, Client}
 use Rattle.node_model.specs.declared.node.Node.{Node}
 use Rattle.node_model.specs.declared.node.Node.TheVariants as node
 use Rattle.node_model.specs.declared.node.UpNode.{UpNode}
@@ -40,6 +40,7 @@ order_due me x (Answered a) = None
 order_due me x (Wrote d value a) = None
 order_due me x (Commanded words) = None
 order_due me x (Reported r good) = None
+order_due me x (Client address client port) = None
 
 abbrev pub call_due : Cluster → ℕ → ℕ → Node → Input → Option Due
 call_due c me now node.Down i = None

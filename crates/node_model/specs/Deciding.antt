@@ -1,6 +1,5 @@
 -- The president decides: the goals anew, and then orders to the members that have none.
 use Rattle.std.specs.Prelude.{ℕ, ◌==◌, ◌^◌, nat_lt, Bool, true, false, List, [], ◌∷◌, Option, None, Some, fold, flat_map, if◌then◌else◌}
-use Rattle.ccr_tables.specs.State.{ConfigState}
 use Rattle.proposals.specs.declared.arrived.Arrived.{Arrived}
 use Rattle.rgm_president.specs.Decisions.{Turn, decision}
 use Rattle.rgm_president.specs.State.{PresidentState}

@@ -1,5 +1,5 @@
 -- What a node does at devices. The devices' answers come from outside.
-use Rattle.std.specs.Prelude.{ℕ, ◌==◌, ◌&&◌, max, Bool, true, false, List, [], ◌∷◌, Option, None, Some, Result, Ok, Err, if◌then◌else◌}
+use Rattle.std.specs.Prelude.{ℕ, ◌==◌, Option, None, Some, Result, Ok, Err, if◌then◌else◌}
 use Rattle.cl_base.specs.Sets.{has, set_without}
 use Rattle.cl_base.specs.Seizings.{SeizeResult}
 use Rattle.cl_base.specs.declared.panic.Panic.TheVariants as panic
@@ -7,8 +7,7 @@ use Rattle.cmm_attempt.specs.Attempts.{AttemptState, own_answering}
 use Rattle.cmm_member.specs.Nodes.{with_valid, with_joined}
 use Rattle.device_queue.specs.declared.progress.Progress.{Progress}
 use Rattle.device_queue.specs.declared.progress.Progress.TheVariants.{GoesOn, Seized, Joined}
-use Rattle.device_queue.specs.Queue.{after_answer, begins_plainly, due_device, joins, next_of, progress_after}
-use Rattle.pgr_device.specs.declared.command.PrAnswer.{PrAnswer}
+use Rattle.device_queue.specs.Queue.{after_answer, begins_plainly, due_device, next_of, progress_after}
 use Rattle.pgr_device.specs.declared.command.PrAnswer.TheVariants as given
 use Rattle.pgr_device.specs.declared.command.PrCommand.{PrCommand}
 use Rattle.pgr_device.specs.declared.command.PrCommand.TheVariants as command

@@ -1,5 +1,5 @@
 -- Orders are carried out by members, and told to the president; monitors report.
-use Rattle.std.specs.Prelude.{ℕ, ◌==◌, ◌&&◌, not, Bool, false, List, [], ◌∷◌, flat_map, Option, None, Some, if◌then◌else◌}
+use Rattle.std.specs.Prelude.{ℕ, ◌&&◌, not, Bool, false, List, [], ◌∷◌, flat_map, Option, None, Some, if◌then◌else◌}
 use Rattle.std.specs.Option.{option_map}
 use Rattle.cl_base.specs.Limits.{most_nodes}
 use Rattle.cl_base.specs.Numbers.{numbers_to}
@@ -42,7 +42,7 @@ use Rattle.node_model.specs.declared.output.Output.TheVariants.{Tells, Sends}
 use Rattle.node_model.specs.declared.presidency.Presidency.{Presidency}
 use Rattle.node_model.specs.Configurations.{in_force, own_config}
 use Rattle.node_model.specs.Deciding.{deciding}
-use Rattle.node_model.specs.Entries.{answering, telling}
+use Rattle.node_model.specs.Entries.{answering}
 use Rattle.node_model.specs.Plans.{Plan, and_then}
 use Rattle.node_model.specs.Plans.Plan.{Stays, Says, Falls}
 use Rattle.node_model.specs.Presidents.{handling}

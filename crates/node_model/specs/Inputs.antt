@@ -2,7 +2,7 @@
 use Rattle.std.specs.Prelude.{IfOk}
 use Rattle.pgr_device.specs.Keys.{HasNoZeroKey}
 use Rattle.node_model.specs.declared.input.Input.{Input}
-use Rattle.node_model.specs.declared.input.Input.TheVariants.{Boot, Crash, Tick, Packet, CommandDue, Answered, Wrote, Commanded, Reported}
+use Rattle.node_model.specs.declared.input.Input.TheVariants.{Boot, Crash, Tick, Packet, CommandDue, Answered, Wrote, Commanded, Reported, Client}
 
 -- no key of a device's answer is zero
 abbrev pub IsAnswered : Input → Type 0
@@ -15,3 +15,4 @@ IsAnswered CommandDue = Unit {0}
 IsAnswered (Wrote d value a) = Unit {0}
 IsAnswered (Commanded words) = Unit {0}
 IsAnswered (Reported r good) = Unit {0}
+IsAnswered (Client address client port) = Unit {0}

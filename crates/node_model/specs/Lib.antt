@@ -7,6 +7,7 @@ pub mod Deciding
 pub mod Presidents
 pub mod Requests
 pub mod Updates
+pub mod Addresses
 pub mod Groups
 pub mod Attempts
 pub mod Members

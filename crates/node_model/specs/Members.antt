@@ -1,5 +1,5 @@
 -- What a node does with a message.
-use Rattle.std.specs.Prelude.{ℕ, ◌%◌, ◌==◌, ◌&&◌, ◌||◌, nat_le, nat_lt, not, Bool, true, false, ◌+◌, List, [], ◌∷◌, ◌++◌, length, Option, None, Some, is_some, Result, Ok, Err, if◌then◌else◌, max}
+use Rattle.std.specs.Prelude.{ℕ, ◌%◌, ◌==◌, ◌&&◌, ◌||◌, nat_lt, not, Bool, true, false, ◌+◌, List, [], ◌∷◌, ◌++◌, length, Option, None, Some, is_some, Result, Ok, Err, if◌then◌else◌}
 use Rattle.std.specs.List.{list_all}
 use Rattle.admin_words.specs.Commands.{request_of}
 use Rattle.answer_words.specs.Answers.{answer_in}
@@ -9,11 +9,8 @@ use Rattle.cl_base.specs.Seizings.{SeizeResult}
 use Rattle.cl_base.specs.declared.method.Outcome.{Outcome}
 use Rattle.cl_base.specs.declared.panic.Panic.TheVariants as panic
 use Rattle.cl_base.specs.declared.seizing.SeizeEnd.TheVariants as seized
-use Rattle.cmm_attempt.specs.declared.attached.AttachedDevice.{AttachedDevice}
-use Rattle.cmm_attempt.specs.declared.step.AttemptEnd.TheVariants as end
 use Rattle.cmm_attempt.specs.Attempts.{AttemptState, taking}
 use Rattle.cmm_member.specs.Nodes.{NodeState, started}
-use Rattle.device_queue.specs.declared.task.Task.{Task}
 use Rattle.device_queue.specs.Queue.{after_seize, joins, kept_of}
 use Rattle.heartbeats.specs.declared.peer.Beat.{Beat}
 use Rattle.heartbeats.specs.Peers.{heard}
@@ -37,10 +34,10 @@ use Rattle.node_model.specs.declared.cluster.Cluster.{Cluster}
 use Rattle.node_model.specs.declared.node.UpNode.{UpNode}
 use Rattle.node_model.specs.declared.seat.Seat.{Seat}
 use Rattle.node_model.specs.declared.seat.Seat.TheVariants.{Forming, Member}
-use Rattle.node_model.specs.Attempts.{entering, going_on, installed_so, installing, installs_now, keeping_if, promise_of, resting, starts_now}
+use Rattle.node_model.specs.Attempts.{entering, going_on, installed_so, installing, keeping_if, promise_of, resting, starts_now}
 use Rattle.node_model.specs.Clusters.{is_within}
 use Rattle.node_model.specs.Configurations.{own_config}
-use Rattle.node_model.specs.Entries.{answering, keeping, sending, telling, telling_of, unknown_lines}
+use Rattle.node_model.specs.Entries.{answering, keeping, telling, telling_of, unknown_lines}
 use Rattle.node_model.specs.Groups.{on_done, on_order}
 use Rattle.node_model.specs.Plans.{Plan}
 use Rattle.node_model.specs.Plans.Plan.{Stays, Falls, Says}

@@ -1,5 +1,5 @@
 -- What a node does in one step: what it gives and saves, in order, and how it ends. Each save may be lost.
-use Rattle.std.specs.Prelude.{◌≡◌, ◌⊎◌, List, [], ◌∷◌, ◌++◌, Option, None, Some, Result, Ok, Err}
+use Rattle.std.specs.Prelude.{◌≡◌, ◌⊎◌, List, ◌++◌, None, Some, Result, Ok, Err}
 use Rattle.std.specs.Option.{option_map}
 use Rattle.cl_base.specs.declared.panic.Panic.TheVariants as panic
 use Rattle.cmm_member.specs.Records.{NodeRecord}

@@ -17,6 +17,8 @@ use Rattle.ccr_commit.specs.Entries.{all_committed, texts_of, with_next}
 use Rattle.ccr_tables.specs.State.{ConfigState}
 use Rattle.ccr_tables.specs.declared.command.AdminCommand.{AdminCommand}
 use Rattle.ccr_tables.specs.declared.command.AdminCommand.TheVariants.{Change, Act, Status, Rows}
+use Rattle.ccr_tables.specs.declared.update.Update.{Update}
+use Rattle.ccr_tables.specs.declared.update.Update.TheVariants.{DeleteAddress}
 use Rattle.cl_base.specs.Limits.{most_nodes}
 use Rattle.cl_base.specs.Numbers.{numbers_to}
 use Rattle.cl_base.specs.Sets.{set_without}
@@ -45,6 +47,8 @@ use Rattle.rg_view.specs.declared.orders.Outstanding.{Outstanding}
 use Rattle.rgm_member.specs.Keeping.{kept_under}
 use Rattle.rgm_president.specs.Acts.{with_ask, with_update}
 use Rattle.rgm_president.specs.State.{PresidentState, next_order}
+use Rattle.shared_address.specs.History.{without_address}
+use Rattle.shared_address.specs.States.{AddressState}
 use Rattle.status_report.specs.CommandLines.{reply_text}
 use Rattle.status_report.specs.declared.command_entry.Answer.{Answer}
 use Rattle.status_report.specs.declared.command_entry.Answer.TheVariants as answer
@@ -126,9 +130,14 @@ committing x = with_node x (with_entries (state_of x.seat) (all_committed (recor
 abbrev pub last_place : UpNode → ℕ
 last_place x = length (texts_of (record_of x).entries)
 
+-- of an address that is deleted the president keeps nothing
+abbrev pub balanced_under : Update → List (List ℕ × AddressState) → List (List ℕ × AddressState)
+balanced_under (DeleteAddress name) balancer = without_address balancer name
+balanced_under _ balancer = balancer
+
 -- the president takes up an update that is committed
 abbrev pub taken_up : ConfigState → Presidency → Result AdminCommand WordError → Presidency
-taken_up s p (Ok (Change u)) = record p { groups = with_update s u p.groups }
+taken_up s p (Ok (Change u)) = record p { groups = with_update s u p.groups; balancer = balanced_under u p.balancer }
 taken_up s p (Ok (Act a)) = p
 taken_up s p (Ok (Status q)) = p
 taken_up s p (Ok (Rows name)) = p

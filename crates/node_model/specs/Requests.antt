@@ -15,8 +15,6 @@ use Rattle.wire.specs.declared.message.Body.TheVariants as body
 use Rattle.node_model.specs.declared.cluster.Cluster.{Cluster}
 use Rattle.node_model.specs.declared.node.UpNode.{UpNode}
 use Rattle.node_model.specs.declared.presidency.Presidency.{Presidency}
-use Rattle.node_model.specs.declared.seat.Seat.{Seat}
-use Rattle.node_model.specs.declared.seat.Seat.TheVariants.{Forming, Member}
 use Rattle.node_model.specs.Entries.{answering, replying, telling}
 use Rattle.node_model.specs.Plans.{Plan}
 use Rattle.node_model.specs.Plans.Plan.{Stays, Says}

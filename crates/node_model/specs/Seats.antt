@@ -1,9 +1,8 @@
 -- A node that is up, and what it is seen to be.
-use Rattle.std.specs.Prelude.{ℕ, ◌%◌, ◌==◌, ◌&&◌, nat_le, max, Bool, true, false, List, [], Option, None, Some, Result, Ok, Err, if◌then◌else◌}
+use Rattle.std.specs.Prelude.{ℕ, ◌%◌, ◌==◌, ◌&&◌, nat_le, max, Bool, true, false, [], Option, None, Some, if◌then◌else◌}
 use Rattle.cl_base.specs.Limits.{most_nodes}
-use Rattle.cl_base.specs.Sets.{has, set_without}
 use Rattle.cmm_member.specs.Records.{NodeRecord}
-use Rattle.cmm_member.specs.Nodes.{NodeState, DownState, booted, promised_to, with_valid, with_joined}
+use Rattle.cmm_member.specs.Nodes.{NodeState, booted, promised_to}
 use Rattle.cl_base.specs.declared.header.Version.{Version}
 use Rattle.heartbeats.specs.Peers.{at_boot}
 use Rattle.request_queue.specs.Queue.{ended, nothing_asked}

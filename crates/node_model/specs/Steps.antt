@@ -4,20 +4,20 @@ use Rattle.cl_base.specs.declared.method.Outcome as method
 use Rattle.cmm_member.specs.Records.{NodeRecord}
 use Rattle.record_disk.specs.Savings.{Saving}
 use Rattle.record_disk.specs.declared.error.Loss.{Loss}
-use Rattle.seize.specs.Answers.{Answer}
 use Rattle.status_report.specs.declared.entry.Entry.TheVariants as entry
 use Rattle.status_report.specs.declared.node_entry.DownCause.{DownCause}
 use Rattle.status_report.specs.declared.node_entry.DownCause.TheVariants as down
 use Rattle.status_report.specs.declared.node_entry.NodeEntry.TheVariants as note
-use Rattle.wire.specs.declared.message.Message.{Message}
 use Rattle.node_model.specs.declared.cluster.Cluster.{Cluster}
 use Rattle.node_model.specs.declared.input.Input.{Input}
-use Rattle.node_model.specs.declared.input.Input.TheVariants.{Boot, Crash, Tick, Packet, CommandDue, Answered, Wrote, Commanded, Reported}
+use Rattle.node_model.specs.declared.input.Input.TheVariants.{Boot, Crash, Tick, Packet, CommandDue, Answered, Wrote, Commanded, Reported, Client}
 use Rattle.node_model.specs.declared.node.Node.{Node}
 use Rattle.node_model.specs.declared.node.Node.TheVariants as node
 use Rattle.node_model.specs.declared.node.UpNode.{UpNode}
 use Rattle.node_model.specs.declared.output.Output.{Output}
 use Rattle.node_model.specs.declared.output.Output.TheVariants.{Tells}
+use Rattle.node_model.specs.Addresses.{on_client}
+use Rattle.node_model.specs.Clusters.{first_valid_of}
 use Rattle.node_model.specs.Groups.{on_report}
 use Rattle.node_model.specs.Devices.{before_command, on_answer_of_device, wrote}
 use Rattle.node_model.specs.Members.{on_packet}
@@ -38,6 +38,7 @@ plan_of c me outcome x (Answered a) = on_answer_of_device c me x a
 plan_of c me outcome x (Wrote d value a) = wrote me x d value a
 plan_of c me outcome x (Commanded words) = on_command c me x words
 plan_of c me outcome x (Reported r good) = on_report c me x r good
+plan_of c me outcome x (Client address client port) = on_client c x address client port
 
 -- at this second of the clock
 abbrev pub at_second : ℕ → UpNode → UpNode
@@ -79,7 +80,7 @@ pub record DiskRules (K : Type 0) : Type 0 where
   pub mounting : K → Saving K
 
 abbrev pub down_stepped : {K : Type 0} → DiskRules K → Cluster → ℕ → K → Input → Outcome K
-down_stepped rules c me disk Boot = booted_with me c.first_valid (rules.kept disk) (rules.mounting disk)
+down_stepped rules c me disk Boot = booted_with me (first_valid_of c me) (rules.kept disk) (rules.mounting disk)
 down_stepped rules c me disk _ = stays_down disk
 
 -- the step, at this second of the clock; a method that the node calls in it ends so

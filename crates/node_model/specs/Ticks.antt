@@ -1,13 +1,11 @@
 -- What a node does at a tick, and at its boot.
-use Rattle.std.specs.Prelude.{ℕ, zero, suc, ◌-◌, ◌==◌, ◌&&◌, nat_le, Bool, true, false, List, [], ◌∷◌, ◌++◌, map, Option, None, Some, if◌then◌else◌}
+use Rattle.std.specs.Prelude.{ℕ, ◌-◌, ◌&&◌, nat_le, List, ◌++◌, map, Option, None, Some, if◌then◌else◌}
 use Rattle.cl_base.specs.Limits.{most_nodes}
 use Rattle.cl_base.specs.Numbers.{numbers_to}
 use Rattle.cl_base.specs.Sets.{has}
 use Rattle.cl_base.specs.declared.method.Outcome.{Outcome}
 use Rattle.cmm_attempt.specs.Attempts.{AttemptState, ticking}
-use Rattle.cmm_member.specs.Records.{NodeRecord}
 use Rattle.heartbeats.specs.declared.due.Membership.{Membership}
-use Rattle.heartbeats.specs.State.{State}
 use Rattle.heartbeats.specs.Due.{begins}
 use Rattle.heartbeats.specs.Views.{receivers_of, ticked}
 use Rattle.status_report.specs.declared.node_entry.NodeEntry.TheVariants as node
@@ -20,12 +18,13 @@ use Rattle.node_model.specs.declared.output.Output.TheVariants.{Sends}
 use Rattle.node_model.specs.declared.seat.Seat.{Seat}
 use Rattle.node_model.specs.declared.seat.Seat.TheVariants.{Forming, Member}
 use Rattle.node_model.specs.Attempts.{going_on, leading, may_count_on}
+use Rattle.node_model.specs.Configurations.{configured_at}
 use Rattle.node_model.specs.Deciding.{deciding}
 use Rattle.node_model.specs.Entries.{telling_of}
 use Rattle.node_model.specs.Groups.{orders_again, own_order, own_turn}
 use Rattle.node_model.specs.Plans.{Plan, and_then}
 use Rattle.node_model.specs.Plans.Plan.{Stays, Says}
-use Rattle.node_model.specs.Seats.{is_member, promised_of, record_of, session_of}
+use Rattle.node_model.specs.Seats.{is_member, promised_of, session_of}
 use Rattle.node_model.specs.Updates.{prepares_again, request_again, with_later}
 
 abbrev pub membership_of : Seat → Option Membership
@@ -42,7 +41,7 @@ heartbeats_to x receivers = map (λ n. Sends n (heartbeat_of x)) (numbers_to rec
 -- the members of the attempt that the node is to begin where none is under way and it does not wait: its view, if one is to begin
 abbrev pub to_form_in : Cluster → ℕ → UpNode → Option ℕ → Option ℕ
 to_form_in c me x None = None
-to_form_in c me x (Some view) = if may_count_on x.greatest && begins x.beats c.configured (membership_of x.seat) && has view me then Some view else None
+to_form_in c me x (Some view) = if may_count_on x.greatest && begins x.beats (configured_at c x) (membership_of x.seat) && has view me then Some view else None
 
 abbrev pub members_to_form : Cluster → ℕ → UpNode → Option ℕ
 members_to_form c me x = to_form_in c me x x.beats.view
@@ -62,11 +61,11 @@ attempt_ticked c me x None =
     else forming c me (waiting_less x) (members_to_form c me (waiting_less x))
 
 abbrev pub later : Cluster → UpNode → UpNode
-later c x = with_later (record x { beats = ticked x.beats c.configured })
+later c x = with_later (record x { beats = ticked x.beats (configured_at c x) })
 
 -- What goes at a tick: heartbeats, and again a request that is not answered; whether it is due is read off the node before the tick.
 abbrev pub ticked_output : Cluster → UpNode → UpNode → List Output
-ticked_output c before x = heartbeats_to x (receivers_of x.beats c.configured) ++ request_again before
+ticked_output c before x = heartbeats_to x (receivers_of x.beats (configured_at c x)) ++ request_again before
 
 -- A president goes on: its own order is carried out, what is not answered goes again, and it decides.
 

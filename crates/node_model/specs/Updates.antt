@@ -1,6 +1,6 @@
 -- What members and their president do for an update: it is prepared by each, and committed.
-use Rattle.std.specs.Prelude.{ℕ, ◌+◌, ◌==◌, ◌&&◌, Bool, true, false, List, [], ◌∷◌, ◌++◌, length, Option, None, Some, is_some, Result, Ok, Err, if◌then◌else◌}
-use Rattle.ccr_commit.specs.Entries.{EntryList, all_committed, answer_for, left_by, texts_of}
+use Rattle.std.specs.Prelude.{ℕ, ◌+◌, ◌==◌, ◌&&◌, Bool, List, [], ◌∷◌, length, Option, None, Some, is_some, if◌then◌else◌}
+use Rattle.ccr_commit.specs.Entries.{all_committed, answer_for, left_by, texts_of}
 use Rattle.ccr_commit.specs.declared.entries.Prepared.{Prepared}
 use Rattle.ccr_commit.specs.declared.entries.Prepared.TheVariants.{Taken, Already, Gap}
 use Rattle.cl_base.specs.Sets.{has}
@@ -21,7 +21,7 @@ use Rattle.node_model.specs.declared.seat.Seat.{Seat}
 use Rattle.node_model.specs.declared.seat.Seat.TheVariants.{Forming, Member}
 use Rattle.node_model.specs.Entries.{answering, keeping}
 use Rattle.node_model.specs.Plans.{Plan, and_then}
-use Rattle.node_model.specs.Plans.Plan.{Stays, Says}
+use Rattle.node_model.specs.Plans.Plan.{Stays}
 use Rattle.node_model.specs.Presidents.{acknowledging, arriving, handling, sent_to, tidied, with_proposals}
 use Rattle.node_model.specs.Seats.{coordinator_of, is_in, is_member, record_of, session_of}
 

@@ -1,5 +1,5 @@
 ghost use Rattle.std.specs.Prelude.{◌≡◌};
-ghost use Rattle.node_model.specs.Clusters.{has_path, is_within};
+ghost use Rattle.node_model.specs.Clusters.{first_valid_of, has_path, is_within};
 
 use crate::first_header::FirstHeader;
 use cl_base::{DevId, DevSet, NodeId, NodeSet};
@@ -21,7 +21,7 @@ pub struct Cluster {
     pub devices: DevSet,
     /// These devices, by number, and the nodes that have a path to each.
     pub attached: AttachedDevices,
-    /// The devices that are valid to each node before its first record: the quorum devices.
+    /// The devices that are valid to each configured node before its first record: the quorum devices.
     pub first_valid: DevSet,
     /// The votes at first.
     pub votes: Votes,
@@ -36,6 +36,17 @@ impl Cluster {
             .items()
             .iter()
             .any(|a| a.device == d && a.nodes.has(n))
+    }
+
+    /// The devices that are valid to the node before its first record.
+    pub fn first_valid_of(&self, me: NodeId) -> DevSet
+        ensures value { result ≡ first_valid_of self.now me }
+    {
+        if self.configured.has(me) {
+            self.first_valid
+        } else {
+            DevSet::empty()
+        }
     }
 
     /// Whether each of these nodes is there.

@@ -40,4 +40,13 @@ pub enum Input {
         /// Whether it is well.
         good: bool,
     },
+    /// A request of a client of a shared address comes to it.
+    Client {
+        /// The shared address.
+        address: Name,
+        /// The client.
+        client: u32,
+        /// The port that it asks for.
+        port: u16,
+    },
 }

@@ -2,6 +2,7 @@ use cl_base::DevSet;
 use proposals::Proposals;
 use rgm_president::President;
 use sent_orders::SentOrders;
+use shared_address::Balancer;
 
 /// What a node has in hand as the president of its membership.
 #[derive(Drop)]
@@ -14,4 +15,6 @@ pub struct Presidency {
     pub groups: President,
     /// When orders to other members go again.
     pub sent: SentOrders,
+    /// Which nodes serve the clients of shared addresses.
+    pub balancer: Balancer,
 }

@@ -49,6 +49,8 @@ use Rattle.wire.specs.declared.message.Body.TheVariants as body
 use Rattle.wire.specs.declared.message.Install.{Install}
 use Rattle.wire.specs.declared.message.Message.{Message}
 use Rattle.wire.specs.Spelling.{FitsResult, IsDevice, IsNode, IsNodes, IsWord}
+use Rattle.node_widths.proofs.Clients.{client_so}
+use Rattle.node_model.specs.Configurations.{configured_at}
 use Rattle.node_model.specs.declared.cluster.Cluster.{Cluster}
 use Rattle.node_model.specs.declared.input.Input.TheVariants as input
 use Rattle.node_model.specs.declared.node.UpNode.{UpNode}
@@ -243,7 +245,7 @@ leads c n x p members are small set h =
 -- the members are the view, and there is an epoch above
 formed : (c : Cluster) (n : ℕ) (x : UpNode) (o : Option ℕ) (members : ℕ) → IfSome o IsNodes → to_form_in c n x o ≡ Some members → (may_count_on x.greatest ≡ true) × IsNodes members
 formed c n x None members f h = absurd (none_some members h)
-formed c n x (Some view) members f h = by_test (may_count_on x.greatest) (begins x.beats c.configured (membership_of x.seat)) (has view n) h
+formed c n x (Some view) members f h = by_test (may_count_on x.greatest) (begins x.beats (configured_at c x) (membership_of x.seat)) (has view n) h
   where
     by_test : (first second third : Bool) → (if first && second && third then Some view else None) ≡ Some members → (first ≡ true) × IsNodes members
     by_test true true true is = (refl, subst IsNodes (same_some view members is) f)
@@ -271,7 +273,7 @@ ticks_by c n x None are is f h =
 
 ticked_fits : (c : Cluster) (n : ℕ) (before x : UpNode) → UpFits c n before → StateFits (state_of x.seat) → AllFit (ticks.ticked_output c before x)
 ticked_fits c n before x h state =
-    both_fit (heartbeats_to x (receivers_of x.beats c.configured)) (request_again before) (heartbeats_fit x (receivers_of x.beats c.configured) state) (request_again_fits c n before h)
+    both_fit (heartbeats_to x (receivers_of x.beats (configured_at c x))) (request_again before) (heartbeats_fit x (receivers_of x.beats (configured_at c x)) state) (request_again_fits c n before h)
 
 again_output_fits : (c : Cluster) (n : ℕ) (before x : UpNode) → UpFits c n before → UpFits c n x → AllFit (ticks.again_output before x)
 again_output_fits c n before x h k = both_fit (prepares_again before) (orders_again before x) (prepares_again_fits c n before h) (orders_again_fits c n before x k)
@@ -453,3 +455,4 @@ steps_keep_widths c n outcome x (input.Answered a) are is h f = answered_so c n 
 steps_keep_widths c n outcome x (input.Wrote d value a) are is h f = (tt, written c n x d value a h)
 steps_keep_widths c n outcome x (input.Commanded words) are is h f = command_so c n x words is h
 steps_keep_widths c n outcome x (input.Reported r good) are is h f = report_so c n x r good is h
+steps_keep_widths c n outcome x (input.Client address client port) are is h f = client_so c n x address client port h

@@ -10,6 +10,7 @@ pub mod Names
 pub mod Orders
 pub mod Deciding
 pub mod Clears
+pub mod Clients
 pub mod Presidents
 pub mod Requests
 pub mod Updates

@@ -29,6 +29,7 @@ use Rattle.wire.specs.declared.message.Body.{Body}
 use Rattle.wire.specs.declared.message.Body.TheVariants as body
 use Rattle.wire.specs.declared.message.Install.{Install}
 use Rattle.wire.specs.Spelling.{FitsReading, IsDevice, IsDevices, IsNode, IsWord}
+use Rattle.node_model.specs.Configurations.{configured_at}
 use Rattle.node_model.specs.declared.cluster.Cluster.{Cluster}
 use Rattle.node_model.specs.declared.node.UpNode.{UpNode}
 use Rattle.node_model.specs.declared.output.Output.{Output}
@@ -238,7 +239,7 @@ later_fits c n x h = record {
   state = h.state;
   all_tasks = h.all_tasks;
   own = h.own;
-  seen = nodes_where (is_in_view x.beats.me (map older x.beats.peers) c.configured) 32 (omega arith);
+  seen = nodes_where (is_in_view x.beats.me (map older x.beats.peers) (configured_at c x)) 32 (omega arith);
   asked = h.asked;
   works = h.works;
   clock = h.clock;

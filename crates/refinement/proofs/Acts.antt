@@ -24,6 +24,7 @@ use Rattle.membership_machine.specs.State.{Memberships}
 use Rattle.membership_machine.specs.Votes.{Setting}
 use Rattle.membership_machine.proofs.Growth.{grows_over}
 use Rattle.attempt_laws.specs.Machine.{is_member, record_in}
+use Rattle.node_model.specs.Configurations.{configured_at}
 use Rattle.node_model.specs.declared.cluster.Cluster.{Cluster}
 use Rattle.node_model.specs.declared.node.Node.{Node}
 use Rattle.node_model.specs.declared.node.Node.TheVariants.{Down, Up}
@@ -391,8 +392,8 @@ told_request_by M n x (Some p) = tt
 
 told_tick : (c : Cluster) (M : Memberships) (n : ℕ) (x : UpNode) → AllTold M n (ticked_output c x (later c x))
 told_tick c M n x =
-    let beats : List Output = heartbeats_to (later c x) (receivers_of (later c x).beats c.configured) in
-    told_append M n beats (request_again x) (told_heartbeats M n (later c x) (receivers_of (later c x).beats c.configured)) (told_request_by M n x x.presidency)
+    let beats : List Output = heartbeats_to (later c x) (receivers_of (later c x).beats (configured_at c (later c x))) in
+    told_append M n beats (request_again x) (told_heartbeats M n (later c x) (receivers_of (later c x).beats (configured_at c (later c x)))) (told_request_by M n x x.presidency)
 
 -- A president with something else in hand.
 

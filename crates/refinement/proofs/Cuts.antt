@@ -75,9 +75,14 @@ use Rattle.wire.specs.declared.message.Body.TheVariants as body
 use Rattle.wire.specs.declared.message.Install.{Install}
 use Rattle.wire.specs.declared.message.Message.{Message}
 use Rattle.wire.specs.declared.message.Order.{Order}
+use Rattle.node_model.specs.Addresses as addresses
+use Rattle.ccr_tables.specs.declared.address.Address.{Address}
+use Rattle.rg_props.specs.Lookups.{named}
+use Rattle.shared_address.specs.Choosing as serving
+use Rattle.shared_address.specs.History as clients
 use Rattle.node_model.specs.declared.cluster.Cluster.{Cluster}
 use Rattle.node_model.specs.declared.input.Input.{Input}
-use Rattle.node_model.specs.declared.input.Input.TheVariants.{Boot, Crash, Tick, Packet, CommandDue, Answered, Wrote, Commanded, Reported}
+use Rattle.node_model.specs.declared.input.Input.TheVariants.{Boot, Crash, Tick, Packet, CommandDue, Answered, Wrote, Commanded, Reported, Client}
 use Rattle.node_model.specs.declared.node.UpNode.{UpNode}
 use Rattle.node_model.specs.declared.output.Output.{Output}
 use Rattle.node_model.specs.declared.output.Output.TheVariants.{Tells}
@@ -835,6 +840,21 @@ reporting_cut saving c me x r (probe.Failed a) =
     let y : UpNode = reported x c r (probe.Failed a) in
     same_says saving me (report_told me r (result_of a) ∷ []) _ _ (asking_this_cut saving c me y (asked_by a r))
 
+-- A client's request.
+
+serving_at_cut : {K : Type 0} → (saving : K → NodeRecord → Saving K) (c : Cluster) (me : ℕ) (s : ConfigState) (x : UpNode) (p : Presidency) (name : List ℕ) (client port : ℕ) (o : Option Address)
+    → Cut saving c me x (addresses.serving_at s x p name client port o) (cuts.serving_at_course s x p name client port o)
+serving_at_cut saving c me s x p name client port None = same saving me (Stays x)
+serving_at_cut saving c me s x p name client port (Some a) =
+    let o : serving.Outcome = serving.chosen (clients.state_of p.balancer name) (addresses.request_for s p a client port) in
+    let y : UpNode = record x { presidency = Some (cuts.balanced p name o) } in
+    same_gives saving me (addresses.served_lines name client port o) (Stays y) (Stays y) (same saving me (Stays y))
+
+serving_by_cut : {K : Type 0} → (saving : K → NodeRecord → Saving K) (c : Cluster) (me : ℕ) (x : UpNode) (name : List ℕ) (client port : ℕ) (o : Option Presidency)
+    → Cut saving c me x (addresses.serving_by c x name client port o) (cuts.serving_by_course c x name client port o)
+serving_by_cut saving c me x name client port None = same saving me (Stays x)
+serving_by_cut saving c me x name client port (Some p) = serving_at_cut saving c me (in_force c x) x p name client port (named (in_force c x).addresses name)
+
 -- Each message.
 
 answer_cut : {K : Type 0} → (saving : K → NodeRecord → Saving K) (c : Cluster) (me : ℕ) (x : UpNode) (from : ℕ) (m : Message) (o : Option AttemptState)
@@ -942,6 +962,7 @@ step_is_its_course saving c me outcome x (Answered a) = answered_cut saving c me
 step_is_its_course saving c me outcome x (Commanded words) = command_cut saving c me x words
 step_is_its_course saving c me outcome x (Wrote d value a) = same_says saving me (Tells (devices.write_told me d value a) ∷ []) _ _ (wrote_cut saving c me x d value a)
 step_is_its_course saving c me outcome x (Reported r good) = reporting_cut saving c me x r (probed x.worker (own_config c x) r good x.second)
+step_is_its_course saving c me outcome x (Client name client port) = serving_by_cut saving c me x name client port x.presidency
 
 -- .. at a second of the clock
 pub step_of_node_is_its_course : {K : Type 0} → (saving : K → NodeRecord → Saving K) (c : Cluster) (me : ℕ) (now : ℕ) (outcome : Outcome) (x : UpNode) (i : Input)

@@ -14,7 +14,7 @@ use Rattle.record_disk.specs.Disks.{DiskState, armed}
 use Rattle.wire.specs.declared.message.Body.{Body}
 use Rattle.node_model.specs.declared.cluster.Cluster.{Cluster}
 use Rattle.node_model.specs.declared.input.Input.{Input}
-use Rattle.node_model.specs.declared.input.Input.TheVariants.{Boot, Crash, Tick, Packet, CommandDue, Answered, Wrote, Commanded, Reported}
+use Rattle.node_model.specs.declared.input.Input.TheVariants.{Boot, Crash, Tick, Packet, CommandDue, Answered, Wrote, Commanded, Reported, Client}
 use Rattle.node_model.specs.declared.node.Node.{Node}
 use Rattle.node_model.specs.declared.output.Output.{Output}
 use Rattle.node_model.specs.declared.output.Output.TheVariants.{Tells, Sends}
@@ -57,6 +57,7 @@ is_true M w (Answered a) h all = tt
 is_true M w (Wrote d value a) h all = tt
 is_true M w (Commanded words) h all = tt
 is_true M w (Reported r good) h all = tt
+is_true M w (Client name client port) h all = tt
 
 stands_stay : (c : Cluster) (M N : Memberships) (n : ℕ) (node : Node) (disk : NodeRecord) → Holds (setting_of c) M → Grows M N → N.node n ≡ M.node n → Stands c M n node disk → Stands c N n node disk
 stands_stay c M N n node disk i g same h = record { tied = node_stays c M N n disk node i g same h.tied; joins = h.joins }

@@ -15,7 +15,7 @@ use Rattle.attempt_laws.proofs.Goes.{chosen_reached, goes_by_call}
 use Rattle.attempt_laws.proofs.Stays.{plan_stays}
 use Rattle.node_model.specs.declared.cluster.Cluster.{Cluster}
 use Rattle.node_model.specs.declared.input.Input.{Input}
-use Rattle.node_model.specs.declared.input.Input.TheVariants.{Boot, Crash, Tick, Packet, CommandDue, Answered, Wrote, Commanded, Reported}
+use Rattle.node_model.specs.declared.input.Input.TheVariants.{Boot, Crash, Tick, Packet, CommandDue, Answered, Wrote, Commanded, Reported, Client}
 use Rattle.node_model.specs.declared.node.Node.{Node}
 use Rattle.node_model.specs.declared.node.Node.TheVariants.{Down, Up}
 use Rattle.node_model.specs.declared.node.UpNode.{UpNode}
@@ -186,6 +186,7 @@ step_may c M n now ends Down disk (Answered a) replies low fits holds tied joins
 step_may c M n now ends Down disk (Wrote d value a) replies low fits holds tied joins = tt
 step_may c M n now ends Down disk (Commanded words) replies low fits holds tied joins = tt
 step_may c M n now ends Down disk (Reported r good) replies low fits holds tied joins = tt
+step_may c M n now ends Down disk (Client name client port) replies low fits holds tied joins = tt
 
 pub known_by : (M : Memberships) (i : Input) → IsTrue M i → Known M (delivered_by i)
 known_by M (Packet from m) h = h
@@ -197,6 +198,7 @@ known_by M (Answered a) h = tt
 known_by M (Wrote d value a) h = tt
 known_by M (Commanded words) h = tt
 known_by M (Reported r good) h = tt
+known_by M (Client name client port) h = tt
 
 pub steps_go : {K : Type 0} → (rules : DiskRules K) → IsDisk rules → StepsGo rules
 steps_go {K} rules good c M n now ends node disk i low fits holds is_true stands =

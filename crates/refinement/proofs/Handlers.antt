@@ -38,9 +38,10 @@ use Rattle.attempt_laws.specs.Staying.{IsOf}
 use Rattle.attempt_laws.proofs.Stays.{plan_begins}
 use Rattle.attempt_laws.proofs.Walk.{if_with}
 use Rattle.heartbeats.specs.Due.{begins}
+use Rattle.node_model.specs.Configurations.{configured_at}
 use Rattle.node_model.specs.declared.cluster.Cluster.{Cluster}
 use Rattle.node_model.specs.declared.input.Input.{Input}
-use Rattle.node_model.specs.declared.input.Input.TheVariants.{Boot, Crash, Tick, Packet, CommandDue, Answered, Wrote, Commanded, Reported}
+use Rattle.node_model.specs.declared.input.Input.TheVariants.{Boot, Crash, Tick, Packet, CommandDue, Answered, Wrote, Commanded, Reported, Client}
 use Rattle.node_model.specs.declared.node.UpNode.{UpNode}
 use Rattle.node_model.specs.declared.presidency.Presidency.{Presidency}
 use Rattle.node_model.specs.declared.seat.Seat.{Seat}
@@ -66,7 +67,7 @@ use Rattle.refinement.specs.Ties.{Delivered, IsLog, ShowsLog}
 use Rattle.refinement.proofs.Calls.{Any, MayTo, called_to, choosing_is, fit_to, go, going_to, joined_to as then_to, readied_to, started_same}
 use Rattle.refinement.proofs.Changes.{first_not_installing}
 use Rattle.refinement.proofs.Fits.{first_fits}
-use Rattle.refinement.proofs.Requests.{President, any, asked_to, command_to, commit_to, done_to, facts_of, governing_to, in_session, or_second, order_to, prepare_to, prepared_to, president_of, reply_to, report_to}
+use Rattle.refinement.proofs.Requests.{President, any, asked_to, command_to, commit_to, done_to, facts_of, governing_to, in_session, or_second, order_to, prepare_to, prepared_to, president_of, reply_to, report_to, client_to}
 use Rattle.refinement.proofs.Texts.{state_with}
 
 -- The same facts, of a node with another view of the others, or other tasks.
@@ -156,7 +157,7 @@ leading_to c me told x p members low fits f own member small =
 formed_view : (c : Cluster) (me : ℕ) (x : UpNode) (o : Option ℕ) (members : ℕ) → to_form_in c me x o ≡ Some members → has members me ≡ true
 formed_view c me x None members h = absurd (none_some members h)
 formed_view c me x (Some view) members h =
-    by_test (may_count_on x.greatest && begins x.beats c.configured (membership_of x.seat)) (has view me) refl h
+    by_test (may_count_on x.greatest && begins x.beats (configured_at c x) (membership_of x.seat)) (has view me) refl h
   where
     by_test : (first second : Bool) → has view me ≡ second → (if first && second then Some view else None) ≡ Some members → has members me ≡ true
     by_test true true is some = subst (λ v. has v me ≡ true) (same_some view members some) is
@@ -166,7 +167,7 @@ formed_view c me x (Some view) members h =
 -- .. and there is an epoch above
 formed_count : (c : Cluster) (me : ℕ) (x : UpNode) (o : Option ℕ) (members : ℕ) → to_form_in c me x o ≡ Some members → may_count_on x.greatest ≡ true
 formed_count c me x None members h = absurd (none_some members h)
-formed_count c me x (Some view) members h = by_test (may_count_on x.greatest) (begins x.beats c.configured (membership_of x.seat)) (has view me) h
+formed_count c me x (Some view) members h = by_test (may_count_on x.greatest) (begins x.beats (configured_at c x) (membership_of x.seat)) (has view me) h
   where
     by_test : (first second third : Bool) → (if first && second && third then Some view else None) ≡ Some members → first ≡ true
     by_test true second third is = refl
@@ -519,6 +520,7 @@ step_to c me outcome x (Answered a) low fits f = answered_to c me None x a (due_
 step_to c me outcome x (Commanded words) low fits f = any c me None President x (cuts.command_course c me x words) (command_to c me None x words (president_of x f))
 step_to c me outcome x (Wrote d value a) low fits f = (tt, fenced_to c me None x d a)
 step_to c me outcome x (Reported r good) low fits f = any c me None President x (cuts.report_course c me x r good) (report_to c me None x r good (president_of x f))
+step_to c me outcome x (Client name client port) low fits f = any c me None President x (cuts.client_course c x name client port) (client_to c me None x name client port (president_of x f))
 
 pub step_may_go : (c : Cluster) (me now : ℕ) (outcome : Outcome) (x : UpNode) (i : Input) → me ≤ 32 → All IsDevice c.attached → Facts x
     → MayGo c me (delivered_by i) x (course_at c me now outcome x i)

@@ -2,7 +2,9 @@
 use Rattle.std.specs.Prelude.{ℕ, zero, suc, ◌-◌, ◌+◌, ◌^◌, ◌≡◌, ◌≢◌, ◌≤◌, ◌<◌, ◌⊎◌, ◌++◌, ◌==◌, nat_lt, Bool, true, false, All, List, [], ◌∷◌, Option, None, Some, Result, Ok, Err, length, map, replicate, slice_get, slice_set}
 use Rattle.std.proofs.Common.{refl, sym, ap, subst, ◌∙◌, inl, inr, arith}
 use Rattle.std.specs.List.{AllByRecursion}
-use Rattle.std.proofs.lemmas.List.{get_or-replicate, length-replicate}
+use Rattle.std.proofs.Math.ListN.{get_or}
+use Rattle.std.proofs.Math.Seq.{get_or-append_seam}
+use Rattle.std.proofs.lemmas.List.{get_or_append_left, get_or-replicate, length-append, length-replicate}
 use Rattle.std.proofs.lemmas.List.Elements.{All-nil, All-cons}
 use Rattle.std.proofs.lemmas.Option.{get_or_from_slice_get, slice_get_within}
 use Rattle.agents.specs.Calls.{AgentState}
@@ -33,11 +35,13 @@ use Rattle.schedule_text.specs.declared.event.Event.TheVariants as event
 use Rattle.status_report.specs.declared.device_entry.WriteRefusal.{WriteRefusal}
 use Rattle.status_report.specs.declared.entry.Entry.TheVariants as entry
 use Rattle.status_report.specs.declared.packet_entry.PacketEntry.TheVariants as packet
+use Rattle.status_report.specs.declared.schedule_entry.SkipCause.{SkipCause}
 use Rattle.status_report.specs.declared.schedule_entry.SkipCause.TheVariants as skip
 use Rattle.wire.specs.declared.message.Message.{Message}
 use Rattle.wire.specs.Reads.{whole_of}
 use Rattle.wire.specs.Spelling as wire
 use Rattle.wire.specs.Spelling.{IsDevices}
+use Rattle.node_model.specs.Clusters.{first_valid_of}
 use Rattle.node_model.specs.declared.cluster.Cluster.{Cluster}
 use Rattle.node_model.specs.declared.input.Input.{Input}
 use Rattle.node_model.specs.declared.input.Input.TheVariants as input
@@ -49,8 +53,8 @@ use Rattle.world_model.specs.Sends.{giving, with_links}
 use Rattle.world_model.specs.Packets.{copying, delivering, delivering_as, losing, losing_as, repeating_as, repeating_one, taking, with_oldest}
 use Rattle.world_model.specs.Devices.{Commanded, Executed, commanded, commanded_at, doing_command, doing_due, due, executed, fault_at, on_disk, on_disk_due, with_fault, writing_at, writing_if}
 use Rattle.world_model.specs.Rounds.{bringing, bringing_all, bringing_below, doing_all, doing_one, doing_some, for_each, is_between, round_of, rounds, rounds_of, ticking_one}
-use Rattle.world_model.specs.First.{attached_from, first_cluster, first_device, first_world, quorum_devices, quorum_from, with_quorum}
-use Rattle.world_model.specs.Lines.{giving_up, left_by, line_on, monitors, on_packets, probing, probing_up, with_stop_at}
+use Rattle.world_model.specs.First.{attached_from, first_cluster, first_device, first_disks, first_world, quorum_from, with_quorum}
+use Rattle.world_model.specs.Lines.{asking, asking_at, giving_up, left_by, line_on, monitors, on_packets, probing, probing_up, refusal_in, with_stop_at}
 use Rattle.node_widths.specs.Widths.{AnswerFits}
 use Rattle.refinement.specs.Runs.{AnswersFit, InTime, IsAmong, Nodes, WasSent, first_nodes, moved}
 use Rattle.refinement.specs.Runs.Move.{Arms}
@@ -334,6 +338,16 @@ probe_so c gives p n resource good low h =
     (given_so c gives p n (input.Reported resource good) h low tt tt) h)
     h
 
+asked_at : (c : Cluster) → GivesFit c → (p : Play) (n : ℕ) (address : List ℕ) (client port : ℕ) (o : Option SkipCause) → 1 ≤ n → Played c p.world
+    → Played c (asking_at n (input.Client address client port) o p).world
+asked_at c gives p n address client port None low h = given_so c gives p n (input.Client address client port) h low tt tt
+asked_at c gives p n address client port (Some why) low h = h
+
+client_line_so : (c : Cluster) → GivesFit c → (p : Play) (n : ℕ) (address : List ℕ) (client port : ℕ) → 1 ≤ n → Played c p.world → Played c (asking n address client port p).world
+client_line_so c gives p n address client port low h =
+    if_either (λ (r : Play). Played c r.world) (is_up p.world n) (asking_at n (input.Client address client port) (refusal_in p.world address (node_at p.world n)) p) (skipping skip.Down p)
+    (asked_at c gives p n address client port (refusal_in p.world address (node_at p.world n)) low h) h
+
 line_so : (c : Cluster) → GivesFit c → DevicesFit c → (p : Play) (e : Event) → IsNamed e → Played c p.world → Played c (line_on e p).world
 line_so c gives fit p (event.Boot n) low h =
     if_either (λ (r : Play). Played c r.world) (is_up p.world n) (skipping skip.Up p) (giving n input.Boot p) h (given_so c gives p n input.Boot h low tt tt)
@@ -354,7 +368,7 @@ line_so c gives fit p (event.Again from to) low h = packets_so c gives p (event.
 line_so c gives fit p (event.Command n words) low h = up_so c gives p n (input.Commanded words) low (λ v. tt) tt h
 line_so c gives fit p (event.Outcome n resource method outcome) low h = calls_played c p.world _ p.world.agents h
 line_so c gives fit p (event.Probe n resource good) low h = probe_so c gives p n resource good low h
-line_so c gives fit p (event.Client n address client port) low h = packets_so c gives p (event.Client n address client port) h
+line_so c gives fit p (event.Client n address client port) low h = client_line_so c gives p n address client port low h
 
 lines_so : (c : Cluster) → GivesFit c → DevicesFit c → (events : List Event) (p : Play) → AllByRecursion IsNamed events → Played c p.world → Played c (lines_on events p).world
 lines_so c gives fit [] p named h = h
@@ -365,6 +379,39 @@ lines_so c gives fit (e ∷ events) p named h = lines_so c gives fit events (lin
 one_of : {X : Type 0} (k j : ℕ) (a z : X) → slice_get (replicate k a) j ≡ Some z → a ≡ z
 one_of k j a z e =
     sym (get_or-replicate k j a z (subst (λ n. j < n) (length-replicate k a) (slice_get_within (replicate k a) j z e))) ∙ get_or_from_slice_get (replicate k a) j z z e
+
+disks_length : (c : Cluster) (k : ℕ) → length (first_disks c k) ≡ k
+disks_length c zero = refl
+disks_length c (suc k) = omega (arith, length-append (first_disks c k) (disks.empty_disk (first_valid_of c (suc k)) ∷ []), disks_length c k)
+
+less_so : (i n : ℕ) → nat_lt i n ≡ true → i < n
+less_so i n h = grind arith
+
+last_so : (i n : ℕ) → nat_lt i n ≡ false → i < suc n → i ≡ n
+last_so i n h l = grind arith
+
+one_more_disk : (c : Cluster) (k j : ℕ) (d : DiskState) (b : Bool) → nat_lt j k ≡ b → j < suc k
+    → (j < k → get_or (first_disks c k) j d ≡ disks.empty_disk (first_valid_of c (suc j))) → get_or (first_disks c (suc k)) j d ≡ disks.empty_disk (first_valid_of c (suc j))
+one_more_disk c k j d true e low before =
+    get_or_append_left (first_disks c k) (disks.empty_disk (first_valid_of c (suc k)) ∷ []) d j (subst (λ n. j < n) (sym (disks_length c k)) (less_so j k e)) ∙ before (less_so j k e)
+one_more_disk c k j d false e low before =
+    let last : DiskState = disks.empty_disk (first_valid_of c (suc k)) in
+    let here : j ≡ k = last_so j k e low in
+    ap (λ n. get_or (first_disks c k ++ last ∷ []) n d) (here ∙ sym (disks_length c k)) ∙ get_or-append_seam (first_disks c k) last [] d
+    ∙ ap (λ n. disks.empty_disk (first_valid_of c (suc n))) (sym here)
+
+disk_at : (c : Cluster) (k j : ℕ) (d : DiskState) → j < k → get_or (first_disks c k) j d ≡ disks.empty_disk (first_valid_of c (suc j))
+disk_at c zero j d low = absurd (omega (arith, low))
+disk_at c (suc k) j d low = one_more_disk c k j d (nat_lt j k) refl low (disk_at c k j d)
+
+-- the disk of node n
+first_of_disks : (c : Cluster) (k n : ℕ) (disk : DiskState) → 1 ≤ n → slice_get (first_disks c k) (n - 1) ≡ Some disk → disks.empty_disk (first_valid_of c n) ≡ disk
+first_of_disks c k n disk low e =
+    let within : n - 1 < k = subst (λ m. n - 1 < m) (disks_length c k) (slice_get_within (first_disks c k) (n - 1) disk e) in
+    ap (λ m. disks.empty_disk (first_valid_of c m)) (sym (number n low)) ∙ sym (disk_at c k (n - 1) disk within) ∙ get_or_from_slice_get (first_disks c k) (n - 1) disk disk e
+  where
+    number : (m : ℕ) → 1 ≤ m → suc (m - 1) ≡ m
+    number m h = omega (arith, h)
 
 first_played : (h : Header) (cells : ℕ) (agents : List AgentState) → h.nodes ≤ 32 → ((d : ℕ) (device : Device) → slice_get (map (first_device h) h.devices) d ≡ Some device → DeviceFits device) → Played (first_cluster h) (first_world h cells agents)
 unfolding first_world
@@ -377,7 +424,7 @@ first_played h cells agents few fits = record {
     cluster = refl;
     few = subst (λ k. k ≤ 32) (sym (length-replicate h.nodes Down)) few;
     node = λ n node low e. one_of h.nodes (n - 1) Down node e;
-    disk = λ n disk low e. one_of h.nodes (n - 1) (disks.empty_disk (quorum_devices h.devices)) disk e;
+    disk = λ n disk low e. first_of_disks (first_cluster h) h.nodes n disk low e;
     device = fits;
     packets = tt;
     clock = omega arith;

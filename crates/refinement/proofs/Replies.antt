@@ -8,9 +8,10 @@ use Rattle.record_disk.specs.Savings.{Saving}
 use Rattle.record_disk.specs.declared.error.Loss.{Loss}
 use Rattle.status_report.specs.declared.node_entry.DownCause.{DownCause}
 use Rattle.status_report.specs.declared.node_entry.NodeEntry.TheVariants as note
+use Rattle.node_model.specs.Clusters.{first_valid_of}
 use Rattle.node_model.specs.declared.cluster.Cluster.{Cluster}
 use Rattle.node_model.specs.declared.input.Input.{Input}
-use Rattle.node_model.specs.declared.input.Input.TheVariants.{Boot, Crash, Tick, Packet, CommandDue, Answered, Wrote, Commanded, Reported}
+use Rattle.node_model.specs.declared.input.Input.TheVariants.{Boot, Crash, Tick, Packet, CommandDue, Answered, Wrote, Commanded, Reported, Client}
 use Rattle.node_model.specs.declared.node.Node.{Node}
 use Rattle.node_model.specs.declared.node.Node.TheVariants.{Down, Up}
 use Rattle.node_model.specs.declared.node.UpNode.{UpNode}
@@ -146,7 +147,7 @@ boot_is_cut : {K : Type 0} → (rules : DiskRules K) → IsDisk rules → (c : C
 boot_is_cut {K} rules good c me now ends disk = by_loss (rules.mounting disk).lost
   where
     up : UpNode
-    up = up_with me c.first_valid (rules.kept disk)
+    up = up_with me (first_valid_of c me) (rules.kept disk)
 
     after : K
     after = (rules.mounting disk).after
@@ -170,3 +171,4 @@ steps_are_cut rules good c me now ends Down disk (Answered a) = record { replies
 steps_are_cut rules good c me now ends Down disk (Commanded words) = record { replies = []; comes = stays_down rules c me disk }
 steps_are_cut rules good c me now ends Down disk (Wrote d value a) = record { replies = []; comes = stays_down rules c me disk }
 steps_are_cut rules good c me now ends Down disk (Reported r good_one) = record { replies = []; comes = stays_down rules c me disk }
+steps_are_cut rules good c me now ends Down disk (Client name client port) = record { replies = []; comes = stays_down rules c me disk }

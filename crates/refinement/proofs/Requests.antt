@@ -60,6 +60,15 @@ use Rattle.update_words.specs.Words.{ask_words_of, words_of}
 use Rattle.wire.specs.declared.message.Body.TheVariants as body
 use Rattle.wire.specs.declared.message.Message.{Message}
 use Rattle.wire.specs.declared.message.Order.{Order}
+use Rattle.status_report.specs.declared.entry.Entry.TheVariants as entry
+use Rattle.node_model.specs.declared.output.Output.TheVariants.{Tells}
+use Rattle.node_model.specs.Addresses.{forgot_lines, request_for}
+use Rattle.ccr_tables.specs.declared.address.Address.{Address}
+use Rattle.rg_props.specs.Lookups.{named}
+use Rattle.shared_address.specs.Choosing as serving
+use Rattle.shared_address.specs.History as clients
+use Rattle.shared_address.specs.declared.choice.Client.{Client}
+use Rattle.status_report.specs.declared.address_entry.AddressEntry.TheVariants.{Served}
 use Rattle.node_model.specs.declared.cluster.Cluster.{Cluster}
 use Rattle.node_model.specs.declared.node.UpNode.{UpNode}
 use Rattle.node_model.specs.declared.presidency.Presidency.{Presidency}
@@ -691,6 +700,29 @@ reporting_to c me told x r (probe.Failed a) h = ((tt, tt), (tt, asking_this_to c
 
 pub report_to : (c : Cluster) (me : ℕ) (told : Delivered) (x : UpNode) (r : List ℕ) (good : Bool) → President x → MayTo c me told President x (cuts.report_course c me x r good)
 report_to c me told x r good h = reporting_to c me told x r (probed x.worker (own_config c x) r good x.second) h
+
+-- A client's request.
+
+served_nothing : (name : List ℕ) (client port : ℕ) (o : Option Client) (n : Option ℕ) → TellNothing (forgot_lines name o ++ Tells (entry.Address (Served name client port n)) ∷ [])
+served_nothing name client port None n = (tt, tt)
+served_nothing name client port (Some k) n = (tt, (tt, tt))
+
+serving_at_to : (c : Cluster) (me : ℕ) (told : Delivered) (s : ConfigState) (x : UpNode) (p : Presidency) (name : List ℕ) (client port : ℕ) (o : Option Address) → x.presidency ≡ Some p → President x
+    → MayTo c me told President x (cuts.serving_at_course s x p name client port o)
+serving_at_to c me told s x p name client port None is h = h
+serving_at_to c me told s x p name client port (Some a) is h =
+    let o : serving.Outcome = serving.chosen (clients.state_of p.balancer name) (request_for s p a client port) in
+    let q : Presidency = cuts.balanced p name o in
+    let same : SameProposed x.presidency (Some q) = subst (λ (z : Option Presidency). SameProposed z (Some q)) (sym is) refl in
+    (served_nothing name client port o.forgot o.node, (same, minded_president x x.requests (Some q) same h))
+
+serving_by_to : (c : Cluster) (me : ℕ) (told : Delivered) (x : UpNode) (name : List ℕ) (client port : ℕ) (o : Option Presidency) → x.presidency ≡ o → President x
+    → MayTo c me told President x (cuts.serving_by_course c x name client port o)
+serving_by_to c me told x name client port None is h = h
+serving_by_to c me told x name client port (Some p) is h = serving_at_to c me told (in_force c x) x p name client port (named (in_force c x).addresses name) is h
+
+pub client_to : (c : Cluster) (me : ℕ) (told : Delivered) (x : UpNode) (name : List ℕ) (client port : ℕ) → President x → MayTo c me told President x (cuts.client_course c x name client port)
+client_to c me told x name client port h = serving_by_to c me told x name client port x.presidency refl h
 
 -- Prepare.
 

@@ -10,7 +10,7 @@ use Rattle.wire.specs.declared.message.Body.{Body}
 use Rattle.wire.specs.Spelling.{IsNode}
 use Rattle.node_model.specs.declared.cluster.Cluster.{Cluster}
 use Rattle.node_model.specs.declared.input.Input.{Input}
-use Rattle.node_model.specs.declared.input.Input.TheVariants.{Boot, Crash, Tick, Packet, CommandDue, Answered, Wrote, Commanded, Reported}
+use Rattle.node_model.specs.declared.input.Input.TheVariants.{Boot, Crash, Tick, Packet, CommandDue, Answered, Wrote, Commanded, Reported, Client}
 use Rattle.node_model.specs.declared.node.Node.{Node}
 use Rattle.node_model.specs.declared.output.Output.{Output}
 use Rattle.node_model.specs.declared.output.Output.TheVariants.{Tells, Sends}
@@ -42,6 +42,7 @@ arrives_from v (Answered a) h all = tt
 arrives_from v (Wrote d value a) h all = tt
 arrives_from v (Commanded words) h all = tt
 arrives_from v (Reported r good) h all = tt
+arrives_from v (Client name client port) h all = tt
 
 letters_from : (n : ℕ) (os : List Output) (old : List Letter) → IsNode n → AllByRecursion (λ (l : Letter). IsNode l.from) old → AllByRecursion (λ (l : Letter). IsNode l.from) (letters_of n os ++ old)
 letters_from n [] old is h = h

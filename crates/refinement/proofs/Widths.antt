@@ -6,7 +6,7 @@ use Rattle.std.specs.List.{AllByRecursion}
 use Rattle.std.proofs.lemmas.Option.{slice_get_within}
 use Rattle.cl_base.specs.Keys.{key_of}
 use Rattle.cl_base.specs.declared.method.Outcome as method
-use Rattle.cmm_attempt.proofs.Basics.{none_some, same_some}
+use Rattle.cmm_attempt.proofs.Basics.{none_some, same_some, if_either}
 use Rattle.cmm_member.specs.Records.{NodeRecord}
 use Rattle.device_queue.specs.declared.task.Task.{Task}
 use Rattle.device_queue.specs.declared.task.Work.{Work}
@@ -27,10 +27,12 @@ use Rattle.status_report.specs.declared.node_entry.DownCause.{DownCause}
 use Rattle.status_report.specs.declared.entry.Entry.TheVariants as entry
 use Rattle.status_report.specs.declared.node_entry.NodeEntry.TheVariants as note
 use Rattle.wire.specs.declared.message.Body.{Body}
-use Rattle.wire.specs.Spelling.{IsNode}
+use Rattle.wire.specs.Spelling.{IsDevices, IsNode}
+use Rattle.cl_base.specs.Sets.{has}
+use Rattle.node_model.specs.Clusters.{first_valid_of}
 use Rattle.node_model.specs.declared.cluster.Cluster.{Cluster}
 use Rattle.node_model.specs.declared.input.Input.{Input}
-use Rattle.node_model.specs.declared.input.Input.TheVariants.{Boot, Crash, Tick, Packet, CommandDue, Answered, Wrote, Commanded, Reported}
+use Rattle.node_model.specs.declared.input.Input.TheVariants.{Boot, Crash, Tick, Packet, CommandDue, Answered, Wrote, Commanded, Reported, Client}
 use Rattle.node_model.specs.declared.node.Node.{Node}
 use Rattle.node_model.specs.declared.node.Node.TheVariants.{Down, Up}
 use Rattle.node_model.specs.declared.node.UpNode.{UpNode}
@@ -114,7 +116,7 @@ step_fits c n now ends (Up x) disk i fits is time arrives h r =
     let y : UpNode = at_second now x in
     carried_fits c n (plan_of c n ends y i) [] disk (steps_keep_widths c n ends y i fits.devices is (dated_fits c n now x time h) arrives) tt r
 step_fits c n now ends Down disk Boot fits is time arrives h r =
-    let x : UpNode = up_with n c.first_valid disk.kept in
+    let x : UpNode = up_with n (first_valid_of c n) disk.kept in
     let up : UpFits c n x = record { state = record { session = none_fits; record_fits = r; joined = omega arith }; all_tasks = tt; own = tt; seen = tt; asked = (omega arith, tt); works = (none_fits, tt, tt, tt); clock = none_fits; presides = tt } in
     let next : Outcome DiskState = record { after = Up x; given = Tells (entry.Node n note.Up) ∷ []; disk = (mounting disk).after } in
     let next_fits : StepFits c n next = record { node = up; disk = kept; given = tt } in
@@ -130,6 +132,7 @@ step_fits c n now ends Down disk (Answered a) fits is time arrives h r = record 
 step_fits c n now ends Down disk (Wrote d value a) fits is time arrives h r = record { node = tt; disk = r; given = tt }
 step_fits c n now ends Down disk (Commanded words) fits is time arrives h r = record { node = tt; disk = r; given = tt }
 step_fits c n now ends Down disk (Reported m good) fits is time arrives h r = record { node = tt; disk = r; given = tt }
+step_fits c n now ends Down disk (Client name client port) fits is time arrives h r = record { node = tt; disk = r; given = tt }
 
 -- A run.
 
@@ -148,6 +151,7 @@ arrives_fit v (Answered a) h f all = f
 arrives_fit v (Wrote d value a) h f all = tt
 arrives_fit v (Commanded words) h f all = tt
 arrives_fit v (Reported r good) h f all = tt
+arrives_fit v (Client name client port) h f all = tt
 
 letters_fit : (n : ℕ) (os : List Output) (old : List Letter) → IsNode n → widths.AllFit os → AllByRecursion LetterFits old → AllByRecursion LetterFits (letters_of n os ++ old)
 letters_fit n [] old is h k = k
@@ -192,7 +196,7 @@ fits_moves c fits v (m ∷ moves) w run time h = fits_moves c fits (moved c v m)
 run_fits : (c : Cluster) → ClusterFits c → (moves : List Move) (w : Nodes) → Moves c (first_nodes c) moves w → AllByRecursion InTime moves → RunFits c w
 run_fits c fits moves w run time = fits_moves c fits (first_nodes c) moves w run time (record {
   nodes = λ n. tt;
-  disks = λ n. record { promised = none_fits; installed = none_fits; members = omega arith; valid = fits.first_valid; places = none_fits };
+  disks = λ n. record { promised = none_fits; installed = none_fits; members = omega arith; valid = if_either IsDevices (has c.configured n) c.first_valid 0 fits.first_valid (omega arith); places = none_fits };
   sent = tt;
 })
 

@@ -73,9 +73,15 @@ use Rattle.wire.specs.declared.message.Body.TheVariants as body
 use Rattle.wire.specs.declared.message.Install.{Install}
 use Rattle.wire.specs.declared.message.Message.{Message}
 use Rattle.wire.specs.declared.message.Order.{Order}
+use Rattle.node_model.specs.Addresses.{request_for, served_lines}
+use Rattle.ccr_tables.specs.declared.address.Address.{Address}
+use Rattle.rg_props.specs.Lookups.{named}
+use Rattle.shared_address.specs.Choosing as serving
+use Rattle.shared_address.specs.History.{with_state}
+use Rattle.shared_address.specs.History as clients
 use Rattle.node_model.specs.declared.cluster.Cluster.{Cluster}
 use Rattle.node_model.specs.declared.input.Input.{Input}
-use Rattle.node_model.specs.declared.input.Input.TheVariants.{Boot, Crash, Tick, Packet, CommandDue, Answered, Wrote, Commanded, Reported}
+use Rattle.node_model.specs.declared.input.Input.TheVariants.{Boot, Crash, Tick, Packet, CommandDue, Answered, Wrote, Commanded, Reported, Client}
 use Rattle.node_model.specs.declared.node.Node.{Node}
 use Rattle.node_model.specs.declared.node.Node.TheVariants.{Down, Up}
 use Rattle.node_model.specs.declared.node.UpNode.{UpNode}
@@ -592,6 +598,25 @@ reporting_course c me x r (probe.Failed a) =
 abbrev pub report_course : Cluster → ℕ → UpNode → List ℕ → Bool → Course
 report_course c me x r good = reporting_course c me x r (probed x.worker (own_config c x) r good x.second)
 
+-- A client's request.
+
+abbrev pub balanced : Presidency → List ℕ → serving.Outcome → Presidency
+balanced p name o = record p { balancer = with_state p.balancer name o.after }
+
+abbrev pub serving_course : UpNode → Presidency → List ℕ → ℕ → ℕ → serving.Outcome → Course
+serving_course x p name client port o = Acts (Gives (served_lines name client port o)) (Acts (Minds x.requests (Some (balanced p name o))) Stops)
+
+abbrev pub serving_at_course : ConfigState → UpNode → Presidency → List ℕ → ℕ → ℕ → Option Address → Course
+serving_at_course s x p name client port None = Stops
+serving_at_course s x p name client port (Some a) = serving_course x p name client port (serving.chosen (clients.state_of p.balancer name) (request_for s p a client port))
+
+abbrev pub serving_by_course : Cluster → UpNode → List ℕ → ℕ → ℕ → Option Presidency → Course
+serving_by_course c x name client port None = Stops
+serving_by_course c x name client port (Some p) = serving_at_course (in_force c x) x p name client port (named (in_force c x).addresses name)
+
+abbrev pub client_course : Cluster → UpNode → List ℕ → ℕ → ℕ → Course
+client_course c x name client port = serving_by_course c x name client port x.presidency
+
 -- The answers to its own attempt, and each message.
 
 abbrev pub answer_course : Cluster → ℕ → UpNode → ℕ → Message → Option AttemptState → Course
@@ -674,6 +699,7 @@ course_of c me outcome x (Answered a) = answered_course c me x a (due_device x.t
 course_of c me outcome x (Wrote d value a) = Acts (Stores d value a) (fenced_course d a)
 course_of c me outcome x (Commanded words) = command_course c me x words
 course_of c me outcome x (Reported r good) = report_course c me x r good
+course_of c me outcome x (Client name client port) = client_course c x name client port
 
 -- .. at this second of the clock
 abbrev pub course_at : Cluster → ℕ → ℕ → Outcome → UpNode → Input → Course

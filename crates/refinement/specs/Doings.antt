@@ -27,6 +27,7 @@ use Rattle.status_report.specs.declared.node_entry.NodeEntry.TheVariants as note
 use Rattle.status_report.specs.declared.update_entry.UpdateEntry.TheVariants as update
 use Rattle.wire.specs.declared.message.Body.{Body}
 use Rattle.wire.specs.declared.message.Install.{Install}
+use Rattle.node_model.specs.Clusters.{first_valid_of}
 use Rattle.node_model.specs.declared.cluster.Cluster.{Cluster}
 use Rattle.node_model.specs.declared.node.Node.{Node}
 use Rattle.node_model.specs.declared.node.Node.TheVariants.{Down, Up}
@@ -220,7 +221,7 @@ said c me x (Works w) = []
 -- What they make of a node with its disk. One that does not fit, as a change of a node that is down, is nothing.
 
 abbrev pub come_up : Cluster → ℕ → NodeRecord → Node → Node
-come_up c me disk Down = Up (up_with me c.first_valid disk)
+come_up c me disk Down = Up (up_with me (first_valid_of c me) disk)
 come_up c me disk (Up x) = Up x
 
 abbrev pub acted_in : Cluster → ℕ → Act → Node → Node

@@ -13,6 +13,7 @@ use Rattle.wire.specs.declared.message.Body.TheVariants as body
 use Rattle.wire.specs.declared.message.Install.{Install}
 use Rattle.ccr_commit.specs.Entries.{listed}
 use Rattle.attempt_laws.specs.Machine.{is_member}
+use Rattle.node_model.specs.Clusters.{first_valid_of}
 use Rattle.node_model.specs.declared.cluster.Cluster.{Cluster}
 use Rattle.node_model.specs.declared.input.Input.{Input}
 use Rattle.node_model.specs.declared.input.Input.TheVariants.{Answered, Packet}
@@ -39,7 +40,7 @@ pub record Nodes : Type 0 where
 
 -- all are down, with empty disks
 abbrev pub first_nodes : Cluster → Nodes
-first_nodes c = record { node = λ n. Down; disk = λ n. empty_disk c.first_valid; sent = [] }
+first_nodes c = record { node = λ n. Down; disk = λ n. empty_disk (first_valid_of c n); sent = [] }
 
 pub data Move : Type 0 where
   Takes : (n now : ℕ) (ends : method.Outcome) (i : Input) → Move  -- something happens to node n, at this second of the clock; a method that it calls ends so

@@ -91,6 +91,7 @@ IsNamed (event.Disk n) = 1 ≤ n
 IsNamed (event.Write n d value) = 1 ≤ n
 IsNamed (event.Command n words) = 1 ≤ n
 IsNamed (event.Probe n r good) = 1 ≤ n
+IsNamed (event.Client n address client port) = 1 ≤ n
 IsNamed (event.Clock second) = second < 2 ^ 64
 IsNamed _ = Unit {0}
 

@@ -4,6 +4,7 @@
 
 mod agent_list;
 mod calls;
+mod clients;
 mod devices;
 mod line;
 mod making;

@@ -73,6 +73,12 @@ impl World {
                 resource,
                 good,
             } => self.probe(alloc, *node, resource, *good, out),
+            Event::Client {
+                node,
+                address,
+                client,
+                port,
+            } => self.ask(alloc, *node, address, *client, *port, out),
             Event::Clock(second) => {
                 self.clock = *second;
                 note(alloc, out, ScheduleEntry::Clock(*second))

@@ -3,12 +3,11 @@ ghost use Rattle.std.specs.Prelude.{◌≡◌, ◌≤◌, ◌<◌, ◌+◌, ◌*
 ghost use Rattle.cl_base.specs.Limits.{most_devices, most_nodes};
 ghost use Rattle.cl_base.specs.Numbers.{first_numbers};
 ghost use Rattle.node_model.specs.declared.node.Node.TheVariants.{Down};
-ghost use Rattle.record_disk.specs.Disks.{empty_disk};
-ghost use Rattle.world_model.specs.First.{attached_from, first_cluster, first_device, first_world, quorum_devices, with_quorum};
+ghost use Rattle.world_model.specs.First.{attached_from, first_cluster, first_device, first_disks, first_world, quorum_devices, with_quorum};
 
 use crate::agent_list::Agents;
 use crate::world::World;
-use cl_base::{DevId, DevSet, DeviceKind, Header, HeaderDevice, HeaderDevices, NodeSet};
+use cl_base::{DevId, DevSet, DeviceKind, Header, HeaderDevice, HeaderDevices, NodeId, NodeSet};
 use cmm_attempt::{AttachedDevice, AttachedDevices};
 use interconnect::Net;
 use node_model::{Cluster, FirstHeader, Node};
@@ -49,7 +48,7 @@ impl World {
         let cluster = first_cluster(alloc, header)?;
         Ok(World {
             nodes: down_nodes(alloc, header.nodes)?,
-            disks: empty_disks(alloc, header.nodes, cluster.first_valid)?,
+            disks: first_disks(alloc, &cluster, header.nodes)?,
             cluster,
             devices: first_devices(alloc, header)?,
             faults: no_faults(alloc, header.nodes, header.devices.items().len())?,
@@ -163,18 +162,29 @@ fn down_nodes(alloc: Global, count: u64) -> Result<Vec<Node>, AllocError>
     Ok(nodes)
 }
 
-fn empty_disks(
+/// The disks of so many nodes.
+fn first_disks(
     alloc: Global,
+    cluster: &Cluster,
     count: u64,
-    first_valid: DevSet,
 ) -> Result<Vec<SimulatedDisk>, AllocError>
-    ensures { IfOk result (λ disks. disks.items ≡ replicate count (empty_disk first_valid)) }
+    requires few { count ≤ most_nodes }
+    ensures { IfOk result (λ disks. disks.items ≡ first_disks cluster.now count) }
 {
     let mut disks = Vec::new(alloc);
-    for _ in 0..count {
+    for index in 0..count {
+        let first_valid = cluster.first_valid_of(node_at(index));
         disks.push(SimulatedDisk::new(alloc, first_valid)?)?;
     }
     Ok(disks)
+}
+
+/// The node at this place of the header.
+fn node_at(index: u64) -> NodeId
+    requires within { index < most_nodes }
+    ensures { result ≡ index + 1 }
+{
+    NodeId::new(index + 1).unwrap()
 }
 
 fn first_devices(alloc: Global, header: &Header) -> Result<Vec<Pgr>, AllocError>

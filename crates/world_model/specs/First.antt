@@ -1,5 +1,5 @@
 -- The world before the first line.
-use Rattle.std.specs.Prelude.{ℕ, ◌+◌, ◌*◌, List, [], ◌∷◌, None, length, map, replicate}
+use Rattle.std.specs.Prelude.{ℕ, zero, suc, ◌+◌, ◌*◌, List, [], ◌∷◌, ◌++◌, None, length, map, replicate}
 use Rattle.agents.specs.Calls.{AgentState}
 use Rattle.cl_base.specs.Numbers.{first_numbers}
 use Rattle.cl_base.specs.Sets.{set_with}
@@ -11,9 +11,10 @@ use Rattle.cmm_attempt.specs.declared.attached.AttachedDevice.{AttachedDevice}
 use Rattle.interconnect.specs.Links.{Links}
 use Rattle.node_model.specs.declared.cluster.Cluster.{Cluster}
 use Rattle.node_model.specs.declared.node.Node.TheVariants.{Down}
+use Rattle.node_model.specs.Clusters.{first_valid_of}
 use Rattle.pgr_device.specs.Device.{Device, fresh, with_keys}
 use Rattle.quorum_votes.specs.Votes.{first_of}
-use Rattle.record_disk.specs.Disks.{empty_disk}
+use Rattle.record_disk.specs.Disks.{DiskState, empty_disk}
 use Rattle.world_model.specs.Worlds.{WorldState}
 
 -- the set, and the number if it is that of a quorum device
@@ -61,12 +62,17 @@ first_device h d = first_device_of d.kind d.attached h.configured h.cluster
 abbrev pub first_links : ℕ → Links
 first_links cells = record { packets = []; next = 1; cells = cells }
 
+-- the disks of the nodes 1 to k
+abbrev pub first_disks : Cluster → ℕ → List DiskState
+first_disks c zero = []
+first_disks c (suc k) = first_disks c k ++ empty_disk (first_valid_of c (suc k)) ∷ []
+
 -- all nodes are down, with empty disks; no fault is armed, and nothing was sent
 unfoldable pub first_world : Header → ℕ → List AgentState → WorldState
 first_world h cells agents = record {
   cluster = first_cluster h;
   nodes = replicate h.nodes Down;
-  disks = replicate h.nodes (empty_disk (quorum_devices h.devices));
+  disks = first_disks (first_cluster h) h.nodes;
   devices = map (first_device h) h.devices;
   faults = replicate (h.nodes * length h.devices) None;
   links = first_links cells;

@@ -9,7 +9,9 @@ use Rattle.schedule_text.specs.declared.event.Event.TheVariants as event
 use Rattle.schedule_text.specs.declared.event.StopChoice.{StopChoice}
 use Rattle.schedule_text.specs.declared.event.StopChoice.TheVariants as choice
 use Rattle.status_report.specs.declared.schedule_entry.ScheduleEntry.TheVariants.{Clock, Armed, Queued, RoundsDone}
+use Rattle.status_report.specs.declared.schedule_entry.SkipCause.{SkipCause}
 use Rattle.status_report.specs.declared.schedule_entry.SkipCause.TheVariants as skip
+use Rattle.node_model.specs.Addresses.{refusal_at}
 use Rattle.node_model.specs.declared.input.Input.{Input}
 use Rattle.node_model.specs.declared.input.Input.TheVariants as input
 use Rattle.node_model.specs.declared.node.Node.{Node}
@@ -57,6 +59,22 @@ probing_up n r good p = if monitors r (node_at p.world n) then giving n (input.R
 abbrev pub probing : ℕ → List ℕ → Bool → Play → Play
 probing n r good p = if is_up p.world n then probing_up n r good p else skipping skip.Down p
 
+-- A client's request is taken by a president that has its address.
+
+abbrev pub asking_at : ℕ → Input → Option SkipCause → Play → Play
+asking_at n i None p = giving n i p
+asking_at n i (Some why) p = skipping why p
+
+abbrev pub refusal_in : WorldState → List ℕ → Option Node → Option SkipCause
+refusal_in w address None = None
+refusal_in w address (Some node) = refusal_at w.cluster address node
+
+abbrev pub asking : ℕ → List ℕ → ℕ → ℕ → Play → Play
+asking n address client port p =
+    if is_up p.world n
+    then asking_at n (input.Client address client port) (refusal_in p.world address (node_at p.world n)) p
+    else skipping skip.Down p
+
 -- lines that move a packet
 abbrev pub on_packets : Event → Play → Play
 on_packets (event.Deliver number) p = delivering number p
@@ -78,6 +96,7 @@ line_on (event.Write n d value) p = writing n d value p
 line_on (event.Command n words) p = giving_up n (input.Commanded words) p
 line_on (event.Outcome n r m outcome) p = noting Queued (with_world p (with_outcome p.world (record { node = n; resource = r; method = m; outcome = outcome })))
 line_on (event.Probe n r good) p = probing n r good p
+line_on (event.Client n address client port) p = asking n address client port p
 line_on (event.Clock second) p = noting (Clock second) (with_world p (record p.world { clock = second }))
 line_on (event.Rounds count nodes) p = noting RoundsDone (rounds nodes count p)
 line_on e p = on_packets e p

@@ -1,8 +1,9 @@
--- Targets stand in ascending order, and each has a weight.
-use Rattle.std.proofs.Common.{◌≡◌, ℕ, zero, suc, ◌+◌, ◌<◌, ◌≤◌, Bool, true, false, ◌&&◌, nat_lt, if◌then◌else◌, List, [], ◌∷◌, ◌++◌, map, slice_index, refl, subst, arith}
+-- Targets stand in ascending order, and each has a weight with which it is chosen.
+use Rattle.std.proofs.Common.{◌≡◌, ℕ, zero, suc, ◌+◌, ◌<◌, ◌≤◌, Bool, true, false, ◌&&◌, if◌then◌else◌, List, [], ◌∷◌, ◌++◌, map, slice_index, refl, subst, arith}
 use Rattle.std.specs.List.{AllByRecursion, flat_map}
 use Rattle.std.specs.List.Sorted.{IsStrictlyIncreasing}
 use Rattle.std.proofs.lemmas.Bool.Decides.{nat_tests}
+use Rattle.std.proofs.lemmas.List.Elements.{All-from_recursion}
 use Rattle.cl_base.specs.Limits.{most_nodes}
 use Rattle.cl_base.specs.Numbers.{numbers_to}
 use Rattle.cl_base.specs.Sets.{has}
@@ -10,11 +11,12 @@ use Rattle.ccr_tables.specs.State.{ConfigState}
 use Rattle.ccr_tables.specs.declared.address.Address.{Address}
 use Rattle.placement.specs.Resources.{is_online}
 use Rattle.rg_view.specs.declared.view.GroupView.{GroupView}
+use Rattle.shared_address.specs.Choosing.{HaveWeights}
 use Rattle.shared_address.specs.declared.choice.Target.{Target}
-use Rattle.group_history.specs.Addresses.{target_on, targets_of, weight_of}
+use Rattle.address_targets.specs.Targets.{is_chosen, is_target, target_on, targets_of, weight_of}
 
 abbrev pub HasWeight : Target → Type 0
-HasWeight t = 0 < t.weight
+HasWeight t = (1 ≤ t.weight) × (t.weight ≤ 1000)
 
 -- numbers that rise from above low to at most high
 abbrev Rises : ℕ → ℕ → List ℕ → Type 0
@@ -55,7 +57,7 @@ module _ (c : ConfigState) (v : GroupView) (a : Address) where
 
   targets_rise : (low high : ℕ) (ns : List ℕ) → Rises low high ns → Rises low high (nodes (flat_map (target_on c v a) ns))
   targets_rise low high [] h = h
-  targets_rise low high (n ∷ ns) h = by (is_online c.groups v a.group n && nat_lt 0 (weight_of a.weights n)) h.0 (targets_rise n high ns h.1)
+  targets_rise low high (n ∷ ns) h = by (is_target c v a n) h.0 (targets_rise n high ns h.1)
     where
       by : (b : Bool) → low < n → Rises n high (nodes (flat_map (target_on c v a) ns))
           → Rises low high (nodes ((if b then record { node = n; weight = weight_of a.weights n } ∷ [] else []) ++ flat_map (target_on c v a) ns))
@@ -63,17 +65,22 @@ module _ (c : ConfigState) (v : GroupView) (a : Address) where
       by false lt rest = rises_from low n high (nodes (flat_map (target_on c v a) ns)) lt rest
 
   pub ascending : IsStrictlyIncreasing (nodes (targets_of c v a))
+  unfolding targets_of
   ascending = rising 0 most_nodes (nodes (targets_of c v a)) (targets_rise 0 most_nodes (numbers_to v.members most_nodes) (numbers_rise v.members most_nodes))
 
-  have_weight : (ns : List ℕ) → AllByRecursion HasWeight (flat_map (target_on c v a) ns)
-  have_weight [] = tt
-  have_weight (n ∷ ns) = by (is_online c.groups v a.group n) (nat_lt 0 (weight_of a.weights n)) refl (have_weight ns)
+  weighted_among : (ns : List ℕ) → AllByRecursion HasWeight (flat_map (target_on c v a) ns)
+  weighted_among [] = tt
+  weighted_among (n ∷ ns) = by (is_online c.groups v a.group n) (is_chosen (weight_of a.weights n)) refl (weighted_among ns)
     where
-      by : (p q : Bool) → nat_lt 0 (weight_of a.weights n) ≡ q → AllByRecursion HasWeight (flat_map (target_on c v a) ns)
+      by : (p q : Bool) → is_chosen (weight_of a.weights n) ≡ q → AllByRecursion HasWeight (flat_map (target_on c v a) ns)
           → AllByRecursion HasWeight ((if p && q then record { node = n; weight = weight_of a.weights n } ∷ [] else []) ++ flat_map (target_on c v a) ns)
       by false q h rest = rest
       by true false h rest = rest
-      by true true h rest = (grind (arith, nat_tests), rest)
+      by true true h rest = ((grind (arith, nat_tests), grind (arith, nat_tests)), rest)
 
   pub weighted : AllByRecursion HasWeight (targets_of c v a)
-  weighted = have_weight (numbers_to v.members most_nodes)
+  unfolding targets_of
+  weighted = weighted_among (numbers_to v.members most_nodes)
+
+  pub have_weights : HaveWeights (targets_of c v a)
+  have_weights = All-from_recursion HasWeight (targets_of c v a) weighted

@@ -1,0 +1,8 @@
+use Rattle.std.proofs.Common.{rules, None}
+use Rattle.node_updates.proofs.Ticking.{prepares_at_tick}
+use Rattle.node_updates.proofs.again.tick_requests.Goals as goal
+
+pub returns-clause-prepares : goal.returns-clause-prepares
+returns-clause-prepares c =
+    prepares_at_tick c.args.up.now c.tick-request_is_due.new.self None c.in-Some.presidency c.tick-prepares_are_due.result c.proposed-proposed.result c.in_ok-prepares.prepares.items
+    (search rules) (search rules) (search rules) c.in_ok-prepares.ensures.value
