@@ -8,10 +8,13 @@ pub const VERSION: &str = "clreplay 0.1.0";
 /// What `--help` prints.
 pub const HELP: &str = "usage: clreplay run < SCHEDULE
        clreplay check < SCHEDULE
+       clreplay gen SEED COUNT
        clreplay --help | --version
 
 run      replays the schedule on standard input and writes its trace
 check    reads the schedule alone and writes `checked K`, K being its lines
+gen      makes the schedule of the number SEED, with COUNT lines behind its
+         opening, 0 to 90000, replays it and writes a summary of its trace
 
 exit status
   0  the schedule was read to its end, or to its line `end`

@@ -3,9 +3,10 @@
 
 ghost use Rattle.std.specs.Prelude.{◌≡◌, ◌≢◌, ◌⊎◌, ◌↔◌, map, None};
 ghost use Rattle.std.specs.String.{string_bytes};
+ghost use Rattle.replay.specs.Gens.{making_of};
 ghost use Rattle.replay.specs.Tasks.{task_of};
 ghost use Rattle.replay.specs.Statuses.{code_of};
-ghost use Rattle.clreplay.specs.Exits.{IsExit};
+ghost use Rattle.clreplay.specs.Exits.{IsExit, IsGenExit};
 
 mod help;
 
@@ -13,7 +14,7 @@ use agents::{EveryThird, Obedient, StockAgent};
 use cl_base::Name;
 use cl_io::{StdinSource, StdoutSink};
 use help::{Answer, early_answer};
-use replay::{Status, read_task, run_words};
+use replay::{Status, read_making, read_task, run_words};
 use std::alloc::Global;
 use std::io::ErrorKind;
 use std::process::ExitCode;
@@ -78,13 +79,14 @@ fn show(rt: &HostRuntime, text: &str) -> u8
 
 /// Runs the words over standard input and output, and tells the exit code.
 fn run(rt: &HostRuntime, words: &[String]) -> u8
-    ensures usage { result ≡ code_of Status.Usage ↔ (task_of (map string_bytes words.now) ≡ None) }
+    ensures usage { result ≡ code_of Status.Usage ↔ ((task_of (map string_bytes words.now) ≡ None) × (making_of (map string_bytes words.now) ≡ None)) }
     ensures code { IsExit result }
+    ensures made { making_of (map string_bytes words.now) ≢ None → IsGenExit result }
 {
-    if read_task(words).is_none() {
+    if read_task(words).is_none() && read_making(words).is_none() {
         return Status::Usage.code();
     }
-    let Some(agents) = agents(rt.alloc()) else {
+    let Some(agents) = stock_agents(rt.alloc()) else {
         return Status::NoMemory.code();
     };
     let mut source = StdinSource::new(rt.reader());
@@ -93,7 +95,7 @@ fn run(rt: &HostRuntime, words: &[String]) -> u8
 }
 
 /// The agents that types of resources may name: `obedient` and `thirds`.
-fn agents(alloc: Global) -> Option<Vec<StockAgent>> {
+fn stock_agents(alloc: Global) -> Option<Vec<StockAgent>> {
     let obedient = Name::new(b"obedient".as_slice()).ok()?;
     let thirds = Name::new(b"thirds".as_slice()).ok()?;
     let mut agents = Vec::new(alloc);

@@ -1,4 +1,5 @@
 ghost use Rattle.std.specs.Prelude.{Some};
+ghost use Rattle.world_model.specs.Lines.{IsPlayable};
 
 use cl_base::{
     DevId, DevSet, DeviceKind, Header, HeaderDevice, HeaderDevices, NodeId, NodeSet, Outcome,
@@ -181,13 +182,105 @@ fn faults_are_told(rt: HostRuntime) -> Result<(), Fail> {
     )
 }
 
+/// One node forms a membership, and writes to its disk.
+fn one_node() -> &'static [u8] {
+    b"schedule cluster 1\ncluster 2a\nnodes 1\ndevice 1 data 1\nboot 1\ntick 1\ntick 1\ntick 1\n\
+        disk 1\ndisk 1\ndisk 1\ndisk 1\ndisk 1\ndisk 1\nwrite 1 1 7\n"
+}
+
+/// What that writes.
+fn one_node_text() -> &'static [u8] {
+    b"up 1\nticked 1\nticked 1\nticked 1\nsaved 1\nattempt 65 1\n\
+        device 1 1 ignore 2a00000001 = good\ndevice 1 1 word = word 0\n\
+        device 1 1 swap 0 65 = good\ndevice 1 1 reserve 5 2a00000001 = good\n\
+        device 1 1 keys = keys 2a00000001\ndevice 1 1 word = word 65\nsaved 1\ninstalled 1 65\n\
+        start 65 1 held 1 base 0\nmember 1 65\ndevice 1 1 write 7 = good\n\
+        write 65 1 1 7 accepted\n"
+}
+
+/// These calls of the source and of the sink fail, counted from 0: what is written is a beginning of
+/// the text.
+fn expect_refused(
+    rt: &impl Abort,
+    alloc: Global,
+    reads: &[u64],
+    writes: &[u64],
+    room: u64,
+    status: Status,
+) -> Result<(), Fail> {
+    let mut source = source_of(alloc, one_node(), reads)?;
+    let mut sink = sink_of(alloc, room, writes)?;
+    let ended = status_of(alloc, "run", &mut source, &mut sink)?;
+    assert_eq!(rt; ended, status);
+    assert!(rt; one_node_text().starts_with(sink.bytes()));
+    Ok(())
+}
+
+/// The source fails at its first calls; the sink takes nothing, and fails at each of the four calls
+/// that the text takes.
+#[test]
+fn refused_calls(rt: HostRuntime) -> Result<(), Fail> {
+    let alloc = rt.alloc();
+    expect_refused(&rt, alloc, &[0], &[], 4096, Status::ReadFault)?;
+    expect_refused(&rt, alloc, &[1], &[], 4096, Status::ReadFault)?;
+    expect_refused(&rt, alloc, &[], &[], 0, Status::WriteFault)?;
+    for call in 0..4 {
+        expect_refused(&rt, alloc, &[], &[call], 4096, Status::WriteFault)?;
+    }
+    let (input, text) = (one_node(), one_node_text());
+    expect(&rt, alloc, "run", input, text, Status::Done)
+}
+
+/// `gen 7 0` over a sink with a room.
+fn expect_made(
+    rt: &impl Abort,
+    alloc: Global,
+    room: u64,
+    output: &[u8],
+    status: Status,
+) -> Result<(), Fail> {
+    let mut words = Vec::new(alloc);
+    words.push(String::from_str(alloc, "gen")?)?;
+    words.push(String::from_str(alloc, "7")?)?;
+    words.push(String::from_str(alloc, "0")?)?;
+    let mut source = source_of(alloc, b"end\n", &[])?;
+    let mut sink = sink_of(alloc, room, &[])?;
+    let ended = run_words(alloc, &words, &mut source, &mut sink, Vec::new(alloc));
+    assert_eq!(rt; sink.bytes(), output);
+    assert_eq!(rt; ended, status);
+    Ok(())
+}
+
+#[test]
+fn made_schedule(rt: HostRuntime) -> Result<(), Fail> {
+    let alloc = rt.alloc();
+    let summary = b"lines 10\nstarts 1\nacks 0\naccepted 0\nrefused 0\ncalls 0\n".as_slice();
+    expect_made(&rt, alloc, 4096, summary, Status::Done)?;
+    expect_made(&rt, alloc, 12, b"lines 10\nsta", Status::WriteFault)
+}
+
 /// With one cell of 256 bytes for all packets node 1, which ticks first, never hears node 2: its
 /// heartbeats find no room. So it forms a membership alone.
 #[test]
 fn one_cell(rt: HostRuntime) -> Result<(), Fail> {
     let alloc = rt.alloc();
-    let (one, two) = (NodeId::new(1)?, NodeId::new(2)?);
-    let nodes = NodeSet::empty().with(one).with(two);
+    let text = played_in_one_cell(alloc)?;
+    assert!(rt; text.ends_with(b"rounds done\nwrite 2 1 5 refused not-member\n".as_slice()));
+    Ok(())
+}
+
+fn played_in_one_cell(alloc: Global) -> Result<Vec<u8>, Fail> {
+    let mut world = two_nodes(alloc)?;
+    let mut text = Vec::new(alloc);
+    match play(alloc, &mut world, &mut text) {
+        Ok(()) => Ok(text),
+        Err(fail) => Err(fail),
+    }
+}
+
+/// Two nodes with a quorum device, and one cell for all packets.
+fn two_nodes(alloc: Global) -> Result<World, Fail> {
+    let nodes = NodeSet::first(2);
     let device = HeaderDevice {
         kind: DeviceKind::Quorum,
         attached: nodes,
@@ -199,19 +292,29 @@ fn one_cell(rt: HostRuntime) -> Result<(), Fail> {
         configured: nodes,
         devices: HeaderDevices::new(vec![in alloc; device]?),
     };
-    let mut world = World::with_cells(alloc, &header, 1, Agents::new(Vec::new(alloc)))?;
-    let mut text = Vec::new(alloc);
-    let device = DevId::new(1)?;
-    world.step(alloc, &Event::Boot(one), &mut text)?;
-    world.step(alloc, &Event::Boot(two), &mut text)?;
-    world.step(alloc, &Event::Rounds { count: 60, nodes }, &mut text)?;
+    let agents = Agents::new(Vec::new(alloc));
+    Ok(World::with_cells(alloc, &header, 1, agents)?)
+}
+
+/// Both come up and have rounds, and the second writes.
+fn play(alloc: Global, world: &mut World, text: &mut Vec<u8>) -> Result<(), Fail> {
+    let (one, two) = (NodeId::new(1)?, NodeId::new(2)?);
+    let nodes = NodeSet::first(2);
+    do_line(alloc, world, Event::Boot(one), text)?;
+    do_line(alloc, world, Event::Boot(two), text)?;
+    do_line(alloc, world, Event::Rounds { count: 60, nodes }, text)?;
     let write = Event::Write {
         node: two,
-        device,
+        device: DevId::new(1)?,
         value: 5,
     };
-    world.step(alloc, &write, &mut text)?;
-    assert!(rt; text.ends_with(b"rounds done\nwrite 2 1 5 refused not-member\n".as_slice()));
+    do_line(alloc, world, write, text)
+}
+
+fn do_line(alloc: Global, world: &mut World, event: Event, text: &mut Vec<u8>) -> Result<(), Fail>
+    requires playable { IsPlayable event }
+{
+    world.step(alloc, &event, text)?;
     Ok(())
 }
 
@@ -269,13 +372,7 @@ fn tick(
     Ok(given)
 }
 
-/// The node comes up with one disk, and has another from then on, which was not mounted.
-fn lose_a_save(
-    alloc: Global,
-    cluster: &Cluster,
-    me: NodeId,
-    node: &mut Node,
-) -> Result<Vec<Output>, Fail> {
+fn come_up(alloc: Global, cluster: &Cluster, me: NodeId, node: &mut Node) -> Result<(), Fail> {
     let mut disk = SimulatedDisk::new(alloc, DevSet::empty())?;
     let mut given = Vec::new(alloc);
     step(
@@ -289,11 +386,21 @@ fn lose_a_save(
         &Input::Boot,
         &mut given,
     )?;
-    let mut other = SimulatedDisk::new(alloc, DevSet::empty())?;
+    Ok(())
+}
+
+/// What the node gives at the third tick.
+fn tick_thrice(
+    alloc: Global,
+    cluster: &Cluster,
+    me: NodeId,
+    disk: &mut SimulatedDisk,
+    node: &mut Node,
+) -> Result<Vec<Output>, Fail> {
     for _ in 0..2 {
-        tick(alloc, cluster, me, &mut other, node)?;
+        tick(alloc, cluster, me, disk, node)?;
     }
-    tick(alloc, cluster, me, &mut other, node)
+    tick(alloc, cluster, me, disk, node)
 }
 
 /// The first save of a node fails that came up with one disk and has another now, which was not mounted.
@@ -302,9 +409,35 @@ fn failed_disk(rt: HostRuntime) -> Result<(), Fail> {
     let alloc = rt.alloc();
     let me = NodeId::new(1)?;
     let cluster = cluster_of(alloc, me);
-    let mut node = Node::Down;
-    let given = lose_a_save(alloc, &cluster, me, &mut node)?;
-    assert!(rt; matches!(node, Node::Down));
-    assert!(rt; given.iter().any(is_disk_panic));
+    let falls = falls_by_its_disk(alloc, &cluster, me)?;
+    assert!(rt; falls);
     Ok(())
+}
+
+fn falls_by_its_disk(alloc: Global, cluster: &Cluster, me: NodeId) -> Result<bool, Fail> {
+    let mut node = Node::Down;
+    lose_a_save(alloc, cluster, me, &mut node)
+}
+
+/// The node comes up with one disk, and has another from then on. Whether it is down then, and has told why.
+fn lose_a_save(
+    alloc: Global,
+    cluster: &Cluster,
+    me: NodeId,
+    node: &mut Node,
+) -> Result<bool, Fail> {
+    come_up(alloc, cluster, me, node)?;
+    let given = tick_elsewhere(alloc, cluster, me, node)?;
+    Ok(matches!(node, Node::Down) && given.iter().any(is_disk_panic))
+}
+
+/// What the node gives at its third tick with an empty disk.
+fn tick_elsewhere(
+    alloc: Global,
+    cluster: &Cluster,
+    me: NodeId,
+    node: &mut Node,
+) -> Result<Vec<Output>, Fail> {
+    let mut other = SimulatedDisk::new(alloc, DevSet::empty())?;
+    tick_thrice(alloc, cluster, me, &mut other, node)
 }

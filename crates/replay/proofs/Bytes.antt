@@ -17,7 +17,7 @@ some_pieces : (bytes : List ℕ) → (length (pieces bytes) == 0) ≡ false
 some_pieces bytes = rw (length-slice_split (λ b. b == 10) bytes) (grind (arith, nat_tests))
 
 -- a line with its newline is the first piece
-first_piece : (held line more : List ℕ) → All (λ b. (b == 10) ≡ false) (held ++ line)
+pub first_piece : (held line more : List ℕ) → All (λ b. (b == 10) ≡ false) (held ++ line)
     → pieces (held ++ ((line ++ (10 ∷ [])) ++ more)) ≡ (held ++ line) ∷ pieces more
 first_piece held line more plain =
     let shape : held ++ ((line ++ (10 ∷ [])) ++ more) ≡ (held ++ line) ++ (10 ∷ more) = simp append_assoc in

@@ -1,8 +1,13 @@
 pub mod Bytes
 pub mod Closes
+pub mod Counting
 pub mod Ends
+pub mod Fronts
+pub mod MadeLines
+pub mod MadeOutcomes
+pub mod MadeWords
 pub mod Pieces
 pub mod Replays
 pub mod Rounds
+pub mod Summaries
 pub mod Texts
-pub mod Fronts

@@ -9,8 +9,6 @@ use Rattle.pgr_device.specs.Spc as spc
 use Rattle.pgr_device.specs.declared.run.Step.{Step}
 use Rattle.pgr_device.specs.declared.run.Step.TheVariants.{Command, PowerLoss}
 use Rattle.cl_base.specs.declared.header.Header.{Header}
-use Rattle.cl_base.specs.declared.header.Version.{Version}
-use Rattle.cl_base.specs.declared.header.Version.TheVariants.{One, Two}
 use Rattle.schedule_text.specs.declared.event.Event.{Event}
 use Rattle.schedule_text.specs.declared.line.ClusterLine.{ClusterLine}
 use Rattle.schedule_text.specs.declared.line.ClusterLine.TheVariants as cluster
@@ -33,9 +31,9 @@ use Rattle.replay.specs.declared.session.Body.TheVariants.{Clustering, Replaying
 use Rattle.replay.specs.declared.session.State.{State}
 use Rattle.replay.specs.declared.session.State.TheVariants.{Heading, Reading}
 use Rattle.replay.specs.declared.task.Task.TheVariants.{Run}
-use Rattle.replay.specs.Sessions.{cluster_of, clustered, clustered_by, first_so_far, moved, replayed, entered, body_of, is_not_built, heading, step, Goes, Refuses}
+use Rattle.replay.specs.Sessions.{clustered, clustered_by, first_so_far, moved, replayed, entered, body_of, heading, step}
 use Rattle.replay.specs.Outcomes.{Open, TooLarge, Outcome, outcome, silent, onward, is_too_large, at_end, end_of}
-use Rattle.replay.specs.Replays.{Schedule, Completes, TellsSchedule, events_of, texts_of, with_event, entries, answers_among, steps_of, with_line, schedule_of, stepped, behind}
+use Rattle.replay.specs.Replays.{Completes, TellsSchedule, events_of, texts_of, with_event, entries, answers_among, steps_of, with_line, schedule_of, stepped, behind}
 
 pub answers_are : (d : Device) (steps : List Step) → answers_among (entries d steps) ≡ run_answers d steps
 answers_are d [] = refl
@@ -139,22 +137,11 @@ world_completes ended (bytes ∷ next ∷ lines) h s w read done =
     (cluster_completes h s w (cluster_line_of h s bytes) read (λ now. outcome Run ended (next ∷ lines) now (read + 1)) (λ after. events_of h after (next ∷ lines))
     (λ after now k. world_completes ended (next ∷ lines) h after now (read + 1) k))) done
 
-cluster_ends : (v : Version) (h : Header) (agents : List AgentState) (read : ℕ) → Completes (end_of (cluster_of v h agents) read).ending → (end_of (cluster_of v h agents) read).text ≡ []
-cluster_ends One h agents read done = refl
-cluster_ends Two h agents read done = absurd done
-
-cluster_enters : (v : Version) (h : Header) (agents : List AgentState) (bytes : List ℕ) (lines : List (List ℕ)) (read : ℕ) (rest : State → Outcome)
-    → ((next : SoFar) (now : WorldState) → Completes (rest (Reading (Clustering h next now))).ending → (rest (Reading (Clustering h next now))).text ≡ texts_of now (events_of h next lines))
-    → Completes (onward (entered (cluster_of v h agents) bytes) read rest).ending
-    → (onward (entered (cluster_of v h agents) bytes) read rest).text ≡ texts_of (first_world h 65536 agents) (events_of h first_so_far (bytes ∷ lines))
-cluster_enters One h agents bytes lines read rest follows done = cluster_completes h first_so_far (first_world h 65536 agents) (cluster_line_of h first_so_far bytes) read rest (λ next. events_of h next lines) follows done
-cluster_enters Two h agents bytes lines read rest follows done = absurd done
-
 -- the header ends at the end of the input
 end_completes : (head : Option Head) (agents : List AgentState) (read : ℕ) → Completes (end_of (body_of Run agents head) read).ending → TellsSchedule (behind head []) agents (end_of (body_of Run agents head) read).text
 end_completes None agents read h = absurd h
 end_completes (Some (Pr senders)) agents read h = refl
-end_completes (Some (Cluster header)) agents read h = cluster_ends header.version header agents read h
+end_completes (Some (Cluster header)) agents read h = refl
 
 -- before a line
 over_completes : (head : Option Head) (agents : List AgentState) (bytes : List ℕ) (lines : List (List ℕ)) (read : ℕ) (rest : State → Outcome)
@@ -163,22 +150,17 @@ over_completes : (head : Option Head) (agents : List AgentState) (bytes : List �
     → Completes (onward (entered (body_of Run agents head) bytes) read rest).ending → TellsSchedule (behind head (bytes ∷ lines)) agents (onward (entered (body_of Run agents head) bytes) read rest).text
 over_completes None agents bytes lines read rest later moves h = absurd h
 over_completes (Some (Pr senders)) agents bytes lines read rest later moves h = line_completes (fresh senders) (pr_line_of bytes) read rest (steps_of lines) later h
-over_completes (Some (Cluster header)) agents bytes lines read rest later moves h = cluster_enters header.version header agents bytes lines read rest (moves header) h
+over_completes (Some (Cluster header)) agents bytes lines read rest later moves h =
+    cluster_completes header first_so_far (first_world header 65536 agents) (cluster_line_of header first_so_far bytes) read rest (λ next. events_of header next lines) (moves header) h
 
--- and at a line that belongs to it
-more_completes : (refused : Bool) (kind : Kind) (next : HeaderState) (agents : List AgentState) (read : ℕ) (rest : State → Outcome) (s : Option Schedule)
-    → (Completes (rest (Heading next agents)).ending → TellsSchedule s agents (rest (Heading next agents)).text)
-    → Completes (onward (if refused then Refuses kind else Goes (Heading next agents) []) read rest).ending → TellsSchedule s agents (onward (if refused then Refuses kind else Goes (Heading next agents) []) read rest).text
-more_completes true kind next agents read rest s later h = absurd h
-more_completes false kind next agents read rest s later h = later h
-
+-- and while it is being read
 heading_completes : (hs : HeaderStep) (now : HeaderState) (agents : List AgentState) (bytes : List ℕ) (lines : List (List ℕ)) (read : ℕ) (rest : State → Outcome)
     → ((next : HeaderState) → Completes (rest (Heading next agents)).ending → TellsSchedule (schedule_of next lines) agents (rest (Heading next agents)).text)
     → ((next : Device) → Completes (rest (Reading (Replaying next))).ending → (rest (Reading (Replaying next))).text ≡ flat_map printed (entries next (steps_of lines)))
     → ((h : Header) (next : SoFar) (world : WorldState) → Completes (rest (Reading (Clustering h next world))).ending → (rest (Reading (Clustering h next world))).text ≡ texts_of world (events_of h next lines))
     → Completes (onward (heading Run now agents bytes hs) read rest).ending
     → TellsSchedule (stepped hs (λ next. schedule_of next lines) (behind (head_of now) (bytes ∷ lines))) agents (onward (heading Run now agents bytes hs) read rest).text
-heading_completes (More next) now agents bytes lines read rest more later moves h = more_completes (is_not_built Run bytes) _ next agents read rest (schedule_of next lines) (more next) h
+heading_completes (More next) now agents bytes lines read rest more later moves h = more next h
 heading_completes Over now agents bytes lines read rest more later moves h = over_completes (head_of now) agents bytes lines read rest later moves h
 heading_completes (Bad kind) now agents bytes lines read rest more later moves h = absurd h
 
@@ -189,7 +171,7 @@ empty_completes (state.Complete senders) agents read h = refl
 empty_completes (state.Cluster version) agents read h = absurd h
 empty_completes (state.Nodes version cluster) agents read h = absurd h
 empty_completes (state.Configured cluster nodes) agents read h = absurd h
-empty_completes (state.Devices header) agents read h = cluster_ends header.version header agents read h
+empty_completes (state.Devices header) agents read h = refl
 
 pub head_completes : (ended : Bool) (lines : List (List ℕ)) (now : HeaderState) (agents : List AgentState) (read : ℕ) → Completes (outcome Run ended lines (Heading now agents) read).ending
     → TellsSchedule (schedule_of now lines) agents (outcome Run ended lines (Heading now agents) read).text

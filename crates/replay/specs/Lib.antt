@@ -1,5 +1,6 @@
 -- what a reader must believe
 pub mod Closings
+pub mod Gens
 pub mod Outcomes
 pub mod Replays
 pub mod Runs
@@ -9,3 +10,4 @@ pub mod Tasks
 -- what only the proofs need
 pub mod Loops
 pub mod Readers
+pub mod Tallies

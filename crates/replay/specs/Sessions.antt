@@ -1,10 +1,7 @@
 -- What a line makes of the state, and what it writes.
-use Rattle.std.specs.Prelude.{◌≡◌, ℕ, Bool, true, false, if◌then◌else◌, List, [], ◌++◌, Option, Some, None, Result, Ok, Err, codes}
-use Rattle.std.specs.Str.{bytes_eq}
+use Rattle.std.specs.Prelude.{◌≡◌, ℕ, List, [], ◌++◌, Option, Some, None, Result, Ok, Err}
 use Rattle.agents.specs.Calls.{AgentState}
 use Rattle.cl_base.specs.declared.header.Header.{Header}
-use Rattle.cl_base.specs.declared.header.Version.{Version}
-use Rattle.cl_base.specs.declared.header.Version.TheVariants.{One, Two}
 use Rattle.pgr_device.specs.Device.{Device, fresh}
 use Rattle.pgr_device.specs.Spc as spc
 use Rattle.schedule_text.specs.declared.event.Event.{Event}
@@ -48,19 +45,15 @@ abbrev pub start : List AgentState → State
 start agents = Heading Opening agents
 
 -- what is done with the lines after a header that ends: `run` replays a reservation schedule with a fresh device,
--- which the senders have a path to, and a cluster schedule of version 1 from the world of its header; `check` reads the
--- lines alone. Those of a cluster schedule begin with the clock 0 and no rounds. The replay of version 2 is not built.
+-- which the senders have a path to, and a cluster schedule, of either version, from the world of its header; `check`
+-- reads the lines alone. Those of a cluster schedule begin with the clock 0 and no rounds.
 abbrev pub first_so_far : SoFar
 first_so_far = record { clock = 0; rounds = 0 }
-
-abbrev pub cluster_of : Version → Header → List AgentState → Result Body Kind
-cluster_of One header agents = Ok (Clustering header first_so_far (first_world header 65536 agents))
-cluster_of Two header agents = Err kind.NotBuilt
 
 abbrev pub body_of : Task → List AgentState → Option Head → Result Body Kind
 body_of task agents None = Err kind.Header
 body_of Run agents (Some (Pr senders)) = Ok (Replaying (fresh senders))
-body_of Run agents (Some (Cluster header)) = cluster_of header.version header agents
+body_of Run agents (Some (Cluster header)) = Ok (Clustering header first_so_far (first_world header 65536 agents))
 body_of Check agents (Some (Pr senders)) = Ok CheckingPr
 body_of Check agents (Some (Cluster header)) = Ok (CheckingCluster header first_so_far)
 
@@ -116,13 +109,9 @@ abbrev pub entered : Result Body Kind → List ℕ → Step
 entered (Err kind) bytes = Refuses kind
 entered (Ok body) bytes = body_step body bytes
 
--- the line opens a cluster schedule that is to be replayed
-abbrev pub is_not_built : Task → List ℕ → Bool
-is_not_built Run bytes = bytes_eq bytes (codes "schedule cluster 2")
-is_not_built Check bytes = false
-
+-- a line while the header is being read
 abbrev pub heading : Task → HeaderState → List AgentState → List ℕ → HeaderStep → Step
-heading task state agents bytes (More next) = if is_not_built task bytes then Refuses kind.NotBuilt else Goes (Heading next agents) []
+heading task state agents bytes (More next) = Goes (Heading next agents) []
 heading task state agents bytes Over = entered (body_of task agents (head_of state)) bytes
 heading task state agents bytes (Bad kind) = Refuses kind
 
@@ -153,12 +142,3 @@ Answers (Err stop.Ended) is now old new = (is ≡ Finishes) × (new ≡ old)
 Answers (Err (stop.Refused kind)) is now old new = (is ≡ Refuses kind) × (new ≡ old)
 Answers (Err stop.TooLarge) is now old new = ⊥
 Answers (Err stop.NoMemory) is now old new = Unit {0}
-
--- a line of the header: it belongs to it, the header ends before it and stays as it was, or the line is refused
-abbrev pub TakesHeader : Result Bool Stop → Task → HeaderStep → List ℕ → HeaderState → HeaderState → Type 0
-TakesHeader (Ok true) task is bytes old new = (is ≡ More new) × (is_not_built task bytes ≡ false)
-TakesHeader (Ok false) task is bytes old new = (is ≡ Over) × (new ≡ old)
-TakesHeader (Err (stop.Refused kind)) task is bytes old new = (agents : List AgentState) → heading task old agents bytes is ≡ Refuses kind
-TakesHeader (Err stop.NoMemory) task is bytes old new = Unit {0}
-TakesHeader (Err stop.Ended) task is bytes old new = ⊥
-TakesHeader (Err stop.TooLarge) task is bytes old new = ⊥

@@ -5,12 +5,16 @@ ghost use Rattle.agents.specs.Calls.{states_of};
 ghost use Rattle.agents.specs.Stock.{kept_of, name_of};
 ghost use Rattle.cl_io.specs.Causes.{HasCause};
 ghost use Rattle.std.specs.String.{string_bytes};
+ghost use Rattle.replay.specs.declared.making.Making.{Making};
 ghost use Rattle.replay.specs.declared.task.Task.{Task};
+ghost use Rattle.replay.specs.Gens.{IsGen, making_of};
 ghost use Rattle.replay.specs.Runs.{IsRun};
 ghost use Rattle.replay.specs.Closings.{Closed, status_of};
 ghost use Rattle.replay.specs.Tasks.{task_of};
 
 use crate::closing::push_closing;
+use crate::generating::generate;
+use crate::making::read_making;
 use crate::reader::Reader;
 use crate::status::Status;
 use crate::stop::Stop;
@@ -24,8 +28,9 @@ use world::Agents;
 const PIECE: usize = 4_096;
 
 /// Does what the words ask for: replays the schedule that the source gives and writes the trace to
-/// the sink, or checks it. What the lines that end in a piece of the input are answered is written
-/// before more is read. These agents carry out the methods of resource types.
+/// the sink, or checks it, or makes a schedule, replays it and writes a summary of its trace. What the
+/// lines that end in a piece of the input are answered is written before more is read. These agents
+/// carry out the methods of resource types.
 pub fn run_words<S: Source, K: Sink>(
     alloc: Global,
     words: &[String],
@@ -34,18 +39,26 @@ pub fn run_words<S: Source, K: Sink>(
     agents: Vec<StockAgent>,
 ) -> Status
     // The words are no command: nothing is read, and nothing is written.
-    ensures usage { result ≡ Status.Usage ↔ (task_of (map string_bytes words.now) ≡ None) }
+    ensures usage { result ≡ Status.Usage ↔ ((task_of (map string_bytes words.now) ≡ None) × (making_of (map string_bytes words.now) ≡ None)) }
     ensures idle { result ≡ Status.Usage → Keeps (S.left source.old) (S.left source.new) × Keeps (K.held sink.old) (K.held sink.new) }
     ensures idle_counts { result ≡ Status.Usage → (S.faults source.new ≡ S.faults source.old) × (K.faults sink.new ≡ K.faults sink.old) }
 
-    // They are: the status and the bytes written tell the outcome of the bytes taken.
+    // They are `run` or `check`: the status and the bytes written tell the outcome of the bytes taken.
     ensures run { (task : Task) → task_of (map string_bytes words.now) ≡ Some task
         → IsRun task (states_of name_of kept_of agents.items) (S.left source.old) (S.left source.new) (K.held sink.old) (K.held sink.new)
         (S.faults source.old) (S.faults source.new) (K.faults sink.old) (K.faults sink.new) result }
+
+    // They are `gen` and two numbers: nothing is read, and the bytes written tell the summary of what the schedule that is made writes.
+    ensures made { (making : Making) → making_of (map string_bytes words.now) ≡ Some making
+        → IsGen making (states_of name_of kept_of agents.items) (S.left source.old) (S.left source.new) (K.held sink.old) (K.held sink.new)
+        (S.faults source.old) (S.faults source.new) (K.faults sink.old) (K.faults sink.new) result }
 {
-    match read_task(words) {
+    if let Some(task) = read_task(words) {
+        return run(alloc, task, source, sink, Agents::new(agents));
+    }
+    match read_making(words) {
         None => Status::Usage,
-        Some(task) => run(alloc, task, source, sink, Agents::new(agents)),
+        Some(making) => generate(alloc, making, sink, Agents::new(agents)),
     }
 }
 

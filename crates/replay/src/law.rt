@@ -1,12 +1,17 @@
 //! What follows from the definitions that `run_words` cites. Each law is a function that does
 //! nothing: its clauses are the law.
-ghost use Rattle.std.specs.Prelude.{◌≡◌, Bool, List, ℕ};
+ghost use Rattle.std.specs.Prelude.{◌≡◌, ◌≤◌, ◌+◌, true, Bool, List, ℕ};
 ghost use Rattle.agents.specs.Calls.{AgentState};
 ghost use Rattle.pgr_device.specs.Device.{Device};
 ghost use Rattle.pgr_device.specs.Runs.{run_answers};
 ghost use Rattle.pgr_device.specs.declared.run.Step.{Step};
-ghost use Rattle.replay.specs.Outcomes.{outcome_of};
-ghost use Rattle.replay.specs.Replays.{Completes, TellsReplay, entries, answers_among};
+ghost use Rattle.schedule_gen.specs.Events.{events_from};
+ghost use Rattle.schedule_gen.specs.Grammar.{four_nodes};
+ghost use Rattle.world_model.specs.First.{first_world};
+ghost use Rattle.replay.specs.declared.making.Making.{Making};
+ghost use Rattle.replay.specs.Gens.{made};
+ghost use Rattle.replay.specs.Outcomes.{Ended, outcome_of};
+ghost use Rattle.replay.specs.Replays.{Completes, TellsReplay, entries, answers_among, texts_of};
 ghost use Rattle.replay.specs.declared.task.Task.TheVariants.{Run};
 
 /// A `run` that reads its schedule to the end writes what is answered to it. Of a reservation schedule
@@ -15,6 +20,13 @@ ghost use Rattle.replay.specs.declared.task.Task.TheVariants.{Run};
 /// the methods.
 pub fn completed_run_tells_its_schedule()
     ensures { (agents : List AgentState) (ended : Bool) (bytes : List ℕ) → Completes (outcome_of Run agents ended bytes).ending → TellsReplay bytes agents (outcome_of Run agents ended bytes).text }
+{}
+
+/// A schedule that is made is read to its end, and `run` writes of it what the world of its header
+/// writes, event by event.
+pub fn made_schedule_is_read_to_its_end()
+    ensures { (m : Making) (agents : List AgentState) → m.count ≤ 90000
+        → outcome_of Run agents true (made m) ≡ record { text = texts_of (first_world four_nodes 65536 agents) (events_from m.seed 5 (5 + m.count)); ending = Ended (10 + m.count) } }
 {}
 
 /// The answers among these lines are those that the device gives to the commands.

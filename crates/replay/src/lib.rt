@@ -3,8 +3,11 @@
 #![tactic(auto)]
 
 mod closing;
+mod counts;
 mod driver;
+mod generating;
 mod law;
+mod making;
 mod reader;
 mod session;
 mod status;
@@ -12,6 +15,9 @@ mod stop;
 mod task;
 
 pub use driver::run_words;
-pub use law::{completed_run_tells_its_schedule, entries_have_the_answers};
+pub use law::{
+    completed_run_tells_its_schedule, entries_have_the_answers, made_schedule_is_read_to_its_end,
+};
+pub use making::{Making, read_making};
 pub use status::Status;
 pub use task::{Task, read_task};

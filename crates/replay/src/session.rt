@@ -1,23 +1,23 @@
-ghost use Rattle.std.specs.Prelude.{◌≡◌, List, ℕ};
+ghost use Rattle.std.specs.Prelude.{◌≡◌, List, ℕ, IfOk};
 ghost use Rattle.std.specs.String.{string_bytes};
 ghost use Rattle.schedule_text.specs.Allowed.{IsAllowedEvent, IsHeader};
 ghost use Rattle.schedule_text.specs.Headers.{head_of, header_step};
 ghost use Rattle.schedule_text.specs.Lines.{pr_line_of, cluster_line_of, so_far_after_event};
 ghost use Rattle.replay.specs.declared.session.Body.TheVariants.{CheckingPr, CheckingCluster, Replaying, Clustering};
 ghost use Rattle.replay.specs.declared.session.State.TheVariants.{Reading};
-ghost use Rattle.replay.specs.Sessions.{Answers, Enters, TakesHeader, cluster_of, step, body_step, body_of, checked_pr, checked_cluster, clustered, event_done, replayed, is_not_built};
-ghost use Rattle.world_model.specs.Worlds.{WorldState};
+ghost use Rattle.replay.specs.Sessions.{Answers, Enters, first_so_far, step, body_step, body_of, checked_pr, checked_cluster, clustered, event_done, replayed};
+ghost use Rattle.world_model.specs.First.{first_world};
 
 use crate::stop::Stop;
 use crate::task::Task;
-use cl_base::{Header, Version};
+use cl_base::Header;
 use pgr_device::Pgr;
 use schedule_text::{
-    ClusterLine, Event, Head, HeaderReader, Kind, PrLine, ReadError, SoFar, read_cluster_line,
+    ClusterLine, Event, Head, HeaderReader, PrLine, ReadError, SoFar, read_cluster_line,
     read_pr_line,
 };
 use status_report::{print_answer, print_powered};
-use std::alloc::Global;
+use std::alloc::{AllocError, Global};
 use std::mem;
 use world::{Agents, World};
 
@@ -92,7 +92,7 @@ fn answer_in_any(
 {
     match state {
         State::Heading { reader, agents } => {
-            if take_header(alloc, task, reader, line)? {
+            if reader.take(alloc, line)? {
                 return Ok(());
             }
             let mut body = enter(alloc, task, take(reader), take_agents(alloc, agents))?;
@@ -118,41 +118,13 @@ pub fn take_agents(alloc: Global, agents: &mut Agents) -> Agents
     mem::replace(agents, Agents::new(Vec::new(alloc)))
 }
 
-/// Takes a line of the header; `false` where the header ends before the line.
-fn take_header(
-    alloc: Global,
-    task: Task,
-    reader: &mut HeaderReader,
-    line: &[u8],
-) -> Result<bool, Stop>
-    ensures { TakesHeader result task (header_step reader.old line.now) line.now reader.old reader.new }
-{
-    if !reader.take(alloc, line)? {
-        return Ok(false);
-    }
-    if is_not_built(task, line) {
-        return Err(Stop::Refused(Kind::NotBuilt));
-    }
-    Ok(true)
-}
-
-/// Whether the line opens a cluster schedule that is to be replayed.
-fn is_not_built(task: Task, line: &[u8]) -> bool
-    ensures { result ≡ is_not_built task line.now }
-{
-    match task {
-        Task::Run => { line == b"schedule cluster 2".as_slice() }
-        Task::Check => false,
-    }
-}
-
 /// What is done with the lines after this header, which ends here.
 pub fn enter(alloc: Global, task: Task, reader: HeaderReader, agents: Agents) -> Result<Body, Stop>
     ensures { Enters result (body_of task agents (head_of reader)) }
 {
     match (task, reader.finish()?) {
         (Task::Run, Head::Pr(senders)) => Ok(Body::Replaying(Pgr::new(senders))),
-        (Task::Run, Head::Cluster(header)) => enter_cluster(alloc, header, agents),
+        (Task::Run, Head::Cluster(header)) => Ok(enter_cluster(alloc, header, agents)?),
         (Task::Check, Head::Pr(_)) => Ok(Body::CheckingPr),
         (Task::Check, Head::Cluster(header)) => Ok(Body::CheckingCluster {
             header,
@@ -162,21 +134,16 @@ pub fn enter(alloc: Global, task: Task, reader: HeaderReader, agents: Agents) ->
 }
 
 /// The lines of a cluster schedule are replayed from the world of its header.
-fn enter_cluster(alloc: Global, header: Header, agents: Agents) -> Result<Body, Stop>
+fn enter_cluster(alloc: Global, header: Header, agents: Agents) -> Result<Body, AllocError>
     requires header { IsHeader header }
-    ensures { Enters result (cluster_of header.version header agents) }
+    ensures { IfOk result (λ body. body ≡ Clustering header first_so_far (first_world header 65536 agents)) }
 {
-    match header.version {
-        Version::One => {
-            let world = World::new(alloc, &header, agents)?;
-            Ok(Body::Clustering {
-                header,
-                so_far: SoFar::new(),
-                world,
-            })
-        }
-        Version::Two => Err(Stop::Refused(Kind::NotBuilt)),
-    }
+    let world = World::new(alloc, &header, agents)?;
+    Ok(Body::Clustering {
+        header,
+        so_far: SoFar::new(),
+        world,
+    })
 }
 
 impl Body {
