@@ -1,10 +1,6 @@
-use ccr_tables::{
-    ApplyError, Config, DeviceChange, GroupChange, ResourceChange, Update, Weight, table_named,
-};
-use cl_base::{
-    DevId, DeviceKind, Header, HeaderDevice, Items, Method, MethodSet, Name, NodeId, NodeSet,
-    Policy, Refusal, Table, Thing, Version,
-};
+use crate::cases::{first, play};
+use ccr_tables::{Config, table_named};
+use cl_base::{Name, NodeId, Table, Version};
 use std::alloc::Global;
 use std::process::Abort;
 use std::test::Fail;
@@ -17,430 +13,221 @@ fn node(n: u64) -> Result<NodeId, Fail> {
     Ok(NodeId::new(n)?)
 }
 
-fn nodes(alloc: Global, numbers: &[u64]) -> Result<Items<NodeId>, Fail> {
-    let mut nodes = Vec::new(alloc);
-    for n in numbers {
-        nodes.push(node(*n)?)?;
-    }
-    Ok(Items::new(nodes))
+/// What is done with a configuration.
+#[derive(Clone, Copy)]
+enum Case {
+    Groups,
+    Properties,
+    Failover,
+    Resources,
+    Nodes,
+    Limits,
 }
 
-/// Four nodes, of which three are configured, a data device and a quorum device.
-fn config(alloc: Global) -> Result<Config, Fail> {
-    let attached = NodeSet::first(2);
-    let mut devices = Vec::new(alloc);
-    devices.push(HeaderDevice {
-        kind: DeviceKind::Data,
-        attached,
-    })?;
-    devices.push(HeaderDevice {
-        kind: DeviceKind::Quorum,
-        attached,
-    })?;
-    let header = Header {
-        version: Version::Two,
-        cluster: 42,
-        nodes: 4,
-        configured: NodeSet::first(3),
-        devices: Items::new(devices),
-    };
-    Ok(Config::first(alloc, &header)?)
-}
-
-fn same(one: &Refusal, other: &Refusal) -> bool {
-    match (one, other) {
-        (Refusal::Unknown(thing), Refusal::Unknown(wanted)) => thing == wanted,
-        (Refusal::InUse(user), Refusal::InUse(wanted)) => user == wanted,
-        (Refusal::Exists, Refusal::Exists)
-        | (Refusal::SameValue, Refusal::SameValue)
-        | (Refusal::BadProperty, Refusal::BadProperty)
-        | (Refusal::BadSetting, Refusal::BadSetting) => true,
-        _ => false,
+fn act(rt: &impl Abort, alloc: Global, config: &mut Config, case: Case) -> Result<(), Fail> {
+    match case {
+        Case::Groups => come_and_go(rt, alloc, config),
+        Case::Properties => play(rt, alloc, config, PROPERTIES),
+        Case::Failover => fail_over(rt, alloc, config),
+        Case::Resources => use_resources(rt, alloc, config),
+        Case::Nodes => change_nodes(rt, alloc, config),
+        Case::Limits => limit_and_weigh(rt, alloc, config),
     }
 }
 
-fn refused(rt: &impl Abort, config: &mut Config, u: Update, wanted: Refusal) {
-    match config.apply(&u) {
-        Err(ApplyError::Refused(refusal)) => assert!(rt;
-            same(&refusal, &wanted),
-            "another refusal"
-        ),
-        Err(ApplyError::NoMemory) | Ok(()) => assert!(rt; false, "no refusal"),
-    }
+// The one function that owns a configuration: each that does has a long proof.
+fn run(rt: &impl Abort, alloc: Global, case: Case) -> Result<(), Fail> {
+    let mut config = first(alloc)?;
+    act(rt, alloc, &mut config, case)
 }
 
-fn unknown(bytes: &[u8]) -> Result<Refusal, Fail> {
-    Ok(Refusal::Unknown(Thing::Named(name(bytes)?)))
+const GROUPS: &[u8] = b"clrg create g 1,4|refused unknown 4
+clrg create g 1,2|ok
+clrg create g 1,2|refused exists
+clrg create h 2|ok
+clrg online x|refused unknown x
+clrg unmanage g|refused same-value
+clrg manage g|ok
+clrg set h RG_affinities ++g|ok
+clrg delete g|refused in-use h
+clsa create a h LB_STICKY|ok
+clrg delete h|refused in-use a
+clsa delete a|ok
+clrg delete h|ok
+clrg switch g 1|ok";
+
+/// Whether the group is managed, and wanted online.
+fn standing(config: &Config, group: &[u8]) -> Result<Option<(bool, bool)>, Fail> {
+    let group = config.groups().group(&name(group)?);
+    Ok(group.map(|g| (g.managed, g.wanted)))
 }
 
-fn in_use(bytes: &[u8]) -> Result<Refusal, Fail> {
-    Ok(Refusal::InUse(name(bytes)?))
-}
-
-fn register(of_name: &[u8], failover: bool) -> Result<Update, Fail> {
-    Ok(Update::RegisterType {
-        name: name(of_name)?,
-        agent: name(b"obedient")?,
-        methods: MethodSet::empty().with(Method::Start).with(Method::Stop),
-        single: false,
-        failover,
-    })
-}
-
-fn create_group(alloc: Global, group: &[u8], numbers: &[u64]) -> Result<Update, Fail> {
-    Ok(Update::CreateGroup {
-        group: name(group)?,
-        nodes: nodes(alloc, numbers)?,
-    })
-}
-
-fn create_resource(resource: &[u8], group: &[u8], of_type: &[u8]) -> Result<Update, Fail> {
-    Ok(Update::CreateResource {
-        resource: name(resource)?,
-        group: name(group)?,
-        resource_type: name(of_type)?,
-    })
-}
-
-fn set_group(alloc: Global, group: &[u8], property: &[u8], value: &[u8]) -> Result<Update, Fail> {
-    Ok(Update::SetGroup {
-        group: name(group)?,
-        property: Items::new(property.to_vec(alloc)?),
-        value: Items::new(value.to_vec(alloc)?),
-    })
-}
-
-fn set_resource(
-    alloc: Global,
-    resource: &[u8],
-    property: &[u8],
-    value: &[u8],
-) -> Result<Update, Fail> {
-    Ok(Update::SetResource {
-        resource: name(resource)?,
-        property: Items::new(property.to_vec(alloc)?),
-        value: Items::new(value.to_vec(alloc)?),
-    })
-}
-
-fn change_group(group: &[u8], change: GroupChange) -> Result<Update, Fail> {
-    Ok(Update::ChangeGroup {
-        group: name(group)?,
-        change,
-    })
-}
-
-fn change_device(d: u64, change: DeviceChange) -> Result<Update, Fail> {
-    Ok(Update::Device {
-        device: DevId::new(d)?,
-        change,
-    })
-}
-
-fn create_limit(n: u64, limit: &[u8], soft: u64, hard: u64) -> Result<Update, Fail> {
-    Ok(Update::CreateLimit {
-        node: node(n)?,
-        limit: name(limit)?,
-        soft,
-        hard,
-    })
-}
-
-fn create_address(address: &[u8], group: &[u8]) -> Result<Update, Fail> {
-    Ok(Update::CreateAddress {
-        address: name(address)?,
-        group: name(group)?,
-        policy: Policy::Sticky,
-    })
-}
-
-fn weigh(alloc: Global, address: &[u8], first: u64, second: u64) -> Result<Update, Fail> {
-    let mut weights = Vec::new(alloc);
-    weights.push(Weight {
-        node: node(first)?,
-        weight: 3,
-    })?;
-    weights.push(Weight {
-        node: node(second)?,
-        weight: 0,
-    })?;
-    Ok(Update::SetWeights {
-        address: name(address)?,
-        weights: Items::new(weights),
-    })
-}
-
-#[test]
-fn groups_come_and_go(rt: HostRuntime) -> Result<(), Fail> {
-    let a = rt.alloc();
-    let mut c = config(a)?;
-    let four = Refusal::Unknown(Thing::Numbered(4));
-    refused(&rt, &mut c, create_group(a, b"g", &[1, 4])?, four);
-    c.apply(&create_group(a, b"g", &[1, 2])?)?;
-    refused(
-        &rt,
-        &mut c,
-        create_group(a, b"g", &[1, 2])?,
-        Refusal::Exists,
-    );
-    c.apply(&create_group(a, b"h", &[2])?)?;
-    refused(
-        &rt,
-        &mut c,
-        change_group(b"x", GroupChange::Online)?,
-        unknown(b"x")?,
-    );
-    refused(
-        &rt,
-        &mut c,
-        change_group(b"g", GroupChange::Unmanage)?,
-        Refusal::SameValue,
-    );
-    c.apply(&change_group(b"g", GroupChange::Manage)?)?;
-    c.apply(&set_group(a, b"h", b"RG_affinities", b"++g")?)?;
-    refused(&rt, &mut c, Update::DeleteGroup(name(b"g")?), in_use(b"h")?);
-    c.apply(&create_address(b"a", b"h")?)?;
-    refused(&rt, &mut c, Update::DeleteGroup(name(b"h")?), in_use(b"a")?);
-    c.apply(&Update::DeleteAddress(name(b"a")?))?;
-    c.apply(&Update::DeleteGroup(name(b"h")?))?;
-    c.apply(&Update::SwitchGroup {
-        group: name(b"g")?,
-        nodes: nodes(a, &[1])?,
-    })?;
-    assert_eq!(rt; c.generation(Table::Groups), 6);
-    assert_eq!(rt; c.generation(Table::Addresses), 2);
-    assert_eq!(rt;
-        c.groups()
-            .group(&name(b"g")?)
-            .map(|g| (g.managed, g.wanted)),
-        Some((true, true))
-    );
+fn come_and_go(rt: &impl Abort, alloc: Global, config: &mut Config) -> Result<(), Fail> {
+    play(rt, alloc, config, GROUPS)?;
+    let generations = [
+        config.generation(Table::Groups),
+        config.generation(Table::Addresses),
+    ];
+    assert_eq!(rt; generations, [6, 2]);
+    assert_eq!(rt; standing(config, b"g")?, Some((true, true)));
     Ok(())
 }
 
 #[test]
+fn groups_come_and_go(rt: HostRuntime) -> Result<(), Fail> {
+    run(&rt, rt.alloc(), Case::Groups)
+}
+
+const PROPERTIES: &[u8] = b"clrg create g 1,2|ok
+clrg set x Priority 1|refused unknown x
+clrg set g Prio 1|refused bad-property
+clrg set g RG_dependencies x,y|refused unknown x
+clrg set g RG_dependencies x,Y|refused bad-setting
+clrg set g RG_dependencies g|refused bad-setting";
+
+#[test]
 fn properties_are_set(rt: HostRuntime) -> Result<(), Fail> {
-    let a = rt.alloc();
-    let mut c = config(a)?;
-    c.apply(&create_group(a, b"g", &[1, 2])?)?;
-    refused(
-        &rt,
-        &mut c,
-        set_group(a, b"x", b"Priority", b"1")?,
-        unknown(b"x")?,
-    );
-    refused(
-        &rt,
-        &mut c,
-        set_group(a, b"g", b"Prio", b"1")?,
-        Refusal::BadProperty,
-    );
-    refused(
-        &rt,
-        &mut c,
-        set_group(a, b"g", b"RG_dependencies", b"x,y")?,
-        unknown(b"x")?,
-    );
-    refused(
-        &rt,
-        &mut c,
-        set_group(a, b"g", b"RG_dependencies", b"x,Y")?,
-        Refusal::BadSetting,
-    );
-    refused(
-        &rt,
-        &mut c,
-        set_group(a, b"g", b"RG_dependencies", b"g")?,
-        Refusal::BadSetting,
-    );
+    run(&rt, rt.alloc(), Case::Properties)
+}
+
+const FAILOVER: &[u8] = b"clrt register fail obedient START,STOP failover|ok
+clrg create g 1,2|ok
+clrg set g Maximum_primaries 2|ok
+clrs create r g fail|refused bad-setting
+clrg set g Maximum_primaries 1|ok
+clrs create r g fail|ok
+clrg set g Maximum_primaries 2|refused bad-setting
+clrs set r Resource_dependencies s|refused unknown s
+clrs set r Retry_count 7|ok";
+
+fn fail_over(rt: &impl Abort, alloc: Global, config: &mut Config) -> Result<(), Fail> {
+    play(rt, alloc, config, FAILOVER)?;
+    let resource = config.groups().resource(&name(b"r")?);
+    assert_eq!(rt; resource.map(|r| r.retry_count), Some(7));
     Ok(())
 }
 
 #[test]
 fn failover_types_stay_on_one_node(rt: HostRuntime) -> Result<(), Fail> {
-    let a = rt.alloc();
-    let mut c = config(a)?;
-    c.apply(&register(b"fail", true)?)?;
-    c.apply(&create_group(a, b"g", &[1, 2])?)?;
-    c.apply(&set_group(a, b"g", b"Maximum_primaries", b"2")?)?;
-    refused(
-        &rt,
-        &mut c,
-        create_resource(b"r", b"g", b"fail")?,
-        Refusal::BadSetting,
-    );
-    c.apply(&set_group(a, b"g", b"Maximum_primaries", b"1")?)?;
-    c.apply(&create_resource(b"r", b"g", b"fail")?)?;
-    refused(
-        &rt,
-        &mut c,
-        set_group(a, b"g", b"Maximum_primaries", b"2")?,
-        Refusal::BadSetting,
-    );
-    refused(
-        &rt,
-        &mut c,
-        set_resource(a, b"r", b"Resource_dependencies", b"s")?,
-        unknown(b"s")?,
-    );
-    c.apply(&set_resource(a, b"r", b"Retry_count", b"7")?)?;
-    assert_eq!(rt;
-        c.groups().resource(&name(b"r")?).map(|r| r.retry_count),
-        Some(7)
-    );
+    run(&rt, rt.alloc(), Case::Failover)
+}
+
+const RESOURCES: &[u8] = b"clrg create g 1|ok
+clrs create r x app|refused unknown x
+clrs create r g app|refused unknown app
+clrt register app obedient START,STOP|ok
+clrt register app obedient START,STOP failover|refused exists
+clrs create r g app|ok
+clrs create s g app|ok
+clrs create r g app|refused exists
+clrt unregister app|refused in-use r
+clrg delete g|refused in-use r
+clrs set s Resource_dependencies_weak r|ok
+clrs delete r|refused in-use s
+clrs enable s|refused same-value
+clrs disable s|ok
+clrs delete s|ok
+clrs delete r|ok
+clrt unregister app|ok";
+
+fn use_resources(rt: &impl Abort, alloc: Global, config: &mut Config) -> Result<(), Fail> {
+    play(rt, alloc, config, RESOURCES)?;
+    assert_eq!(rt; config.generation(Table::Resources), 6);
     Ok(())
 }
 
 #[test]
 fn resources_come_and_go(rt: HostRuntime) -> Result<(), Fail> {
-    let a = rt.alloc();
-    let mut c = config(a)?;
-    c.apply(&create_group(a, b"g", &[1])?)?;
-    refused(
-        &rt,
-        &mut c,
-        create_resource(b"r", b"x", b"app")?,
-        unknown(b"x")?,
-    );
-    refused(
-        &rt,
-        &mut c,
-        create_resource(b"r", b"g", b"app")?,
-        unknown(b"app")?,
-    );
-    c.apply(&register(b"app", false)?)?;
-    refused(&rt, &mut c, register(b"app", true)?, Refusal::Exists);
-    c.apply(&create_resource(b"r", b"g", b"app")?)?;
-    c.apply(&create_resource(b"s", b"g", b"app")?)?;
-    refused(
-        &rt,
-        &mut c,
-        create_resource(b"r", b"g", b"app")?,
-        Refusal::Exists,
-    );
-    refused(
-        &rt,
-        &mut c,
-        Update::UnregisterType(name(b"app")?),
-        in_use(b"r")?,
-    );
-    refused(&rt, &mut c, Update::DeleteGroup(name(b"g")?), in_use(b"r")?);
-    c.apply(&set_resource(a, b"s", b"Resource_dependencies_weak", b"r")?)?;
-    refused(
-        &rt,
-        &mut c,
-        Update::DeleteResource(name(b"r")?),
-        in_use(b"s")?,
-    );
-    let change = ResourceChange::Enable;
-    let resource = name(b"s")?;
-    refused(
-        &rt,
-        &mut c,
-        Update::ChangeResource { resource, change },
-        Refusal::SameValue,
-    );
-    c.apply(&Update::ChangeResource {
-        resource,
-        change: ResourceChange::Disable,
-    })?;
-    c.apply(&Update::DeleteResource(resource))?;
-    c.apply(&Update::DeleteResource(name(b"r")?))?;
-    c.apply(&Update::UnregisterType(name(b"app")?))?;
-    assert_eq!(rt; c.generation(Table::Resources), 6);
+    run(&rt, rt.alloc(), Case::Resources)
+}
+
+const NODES: &[u8] = b"clq add 3|refused unknown 3
+clq add 2|refused exists
+clq enable device 2|refused same-value
+clq add 1|ok
+clq remove 2|ok
+clq disable device 2|refused unknown 2
+clnode add 3|refused exists
+clnode add 5|refused unknown 5
+clnode remove 2|ok
+clnode add 4|ok
+clnode add 2|ok";
+
+fn expect_order(rt: &impl Abort, config: &Config) -> Result<(), Fail> {
+    let order = [node(1)?, node(3)?, node(4)?, node(2)?];
+    assert_eq!(rt; config.order(), order.as_slice());
     Ok(())
+}
+
+const VOTES: &[u8] = b"clq enable node 1|refused same-value
+clq enable node 4|ok";
+
+fn vote(rt: &impl Abort, alloc: Global, config: &mut Config) -> Result<(), Fail> {
+    play(rt, alloc, config, VOTES)?;
+    let votes = config.votes().node_vote(node(4)?);
+    assert_eq!(rt; [votes, config.generation(Table::Infrastructure)], [1, 6]);
+    Ok(())
+}
+
+/// Nodes come and go, and then votes.
+fn change_nodes(rt: &impl Abort, alloc: Global, config: &mut Config) -> Result<(), Fail> {
+    play(rt, alloc, config, NODES)?;
+    expect_order(rt, config)?;
+    vote(rt, alloc, config)
 }
 
 #[test]
 fn nodes_and_devices(rt: HostRuntime) -> Result<(), Fail> {
-    let mut c = config(rt.alloc())?;
-    let three = Refusal::Unknown(Thing::Numbered(3));
-    refused(&rt, &mut c, change_device(3, DeviceChange::Add)?, three);
-    refused(
-        &rt,
-        &mut c,
-        change_device(2, DeviceChange::Add)?,
-        Refusal::Exists,
-    );
-    refused(
-        &rt,
-        &mut c,
-        change_device(2, DeviceChange::Enable)?,
-        Refusal::SameValue,
-    );
-    c.apply(&change_device(1, DeviceChange::Add)?)?;
-    c.apply(&change_device(2, DeviceChange::Remove)?)?;
-    let two = Refusal::Unknown(Thing::Numbered(2));
-    refused(&rt, &mut c, change_device(2, DeviceChange::Disable)?, two);
-    refused(&rt, &mut c, Update::AddNode(node(3)?), Refusal::Exists);
-    let five = Refusal::Unknown(Thing::Numbered(5));
-    refused(&rt, &mut c, Update::AddNode(node(5)?), five);
-    c.apply(&Update::RemoveNode(node(2)?))?;
-    c.apply(&Update::AddNode(node(4)?))?;
-    c.apply(&Update::AddNode(node(2)?))?;
-    let order = [node(1)?, node(3)?, node(4)?, node(2)?];
-    assert_eq!(rt; c.order(), order.as_slice());
-    let vote = true;
-    refused(
-        &rt,
-        &mut c,
-        Update::NodeVote {
-            node: node(1)?,
-            vote,
-        },
-        Refusal::SameValue,
-    );
-    c.apply(&Update::NodeVote {
-        node: node(4)?,
-        vote,
-    })?;
-    assert_eq!(rt; c.votes().node_vote(node(4)?), 1);
-    assert_eq!(rt; c.generation(Table::Infrastructure), 6);
+    run(&rt, rt.alloc(), Case::Nodes)
+}
+
+const LIMITS: &[u8] = b"clnode create-loadlimit 1 mem 6 5|refused bad-setting
+clnode create-loadlimit 2 mem 5 6|ok
+clnode create-loadlimit 2 mem 6 5|refused exists
+clnode delete-loadlimit 1 mem|refused unknown mem
+clnode remove 2|ok";
+
+/// The limits of a node are removed with it.
+fn limit(rt: &impl Abort, alloc: Global, config: &mut Config) -> Result<(), Fail> {
+    play(rt, alloc, config, LIMITS)?;
+    assert_eq!(rt; config.limits().limit(node(2)?, &name(b"mem")?), None);
     Ok(())
+}
+
+const ADDRESSES: &[u8] = b"clsa create a g LB_STICKY|refused unknown g
+clrg create g 3|ok
+clnode remove 3|refused in-use g
+clsa create a g LB_STICKY|ok
+clsa create a g LB_STICKY|refused exists
+clsa weights a 3@1,0@2|refused unknown 2
+clsa weights a 3@3,0@3|refused bad-setting
+clsa weights a 3@3,0@1|refused bad-setting
+clrg set g Nodelist 3,1|ok
+clsa weights a 3@3,0@1|ok";
+
+fn weigh(rt: &impl Abort, alloc: Global, config: &mut Config) -> Result<(), Fail> {
+    play(rt, alloc, config, ADDRESSES)?;
+    let address = config.address(&name(b"a")?);
+    assert_eq!(rt; address.map(|x| x.weights.items().len()), Some(2));
+    Ok(())
+}
+
+fn limit_and_weigh(rt: &impl Abort, alloc: Global, config: &mut Config) -> Result<(), Fail> {
+    limit(rt, alloc, config)?;
+    weigh(rt, alloc, config)
 }
 
 #[test]
 fn limits_and_addresses(rt: HostRuntime) -> Result<(), Fail> {
-    let a = rt.alloc();
-    let mut c = config(a)?;
-    let limit = name(b"mem")?;
-    refused(
-        &rt,
-        &mut c,
-        create_limit(1, b"mem", 6, 5)?,
-        Refusal::BadSetting,
-    );
-    c.apply(&create_limit(2, b"mem", 5, 6)?)?;
-    refused(&rt, &mut c, create_limit(2, b"mem", 6, 5)?, Refusal::Exists);
-    refused(
-        &rt,
-        &mut c,
-        Update::DeleteLimit {
-            node: node(1)?,
-            limit,
-        },
-        unknown(b"mem")?,
-    );
-    c.apply(&Update::RemoveNode(node(2)?))?;
-    assert_eq!(rt; c.limits().limit(node(2)?, &limit), None);
-    refused(&rt, &mut c, create_address(b"a", b"g")?, unknown(b"g")?);
-    c.apply(&create_group(a, b"g", &[3])?)?;
-    refused(&rt, &mut c, Update::RemoveNode(node(3)?), in_use(b"g")?);
-    c.apply(&create_address(b"a", b"g")?)?;
-    refused(&rt, &mut c, create_address(b"a", b"g")?, Refusal::Exists);
-    let two = Refusal::Unknown(Thing::Numbered(2));
-    refused(&rt, &mut c, weigh(a, b"a", 1, 2)?, two);
-    refused(&rt, &mut c, weigh(a, b"a", 3, 3)?, Refusal::BadSetting);
-    refused(&rt, &mut c, weigh(a, b"a", 3, 1)?, Refusal::BadSetting);
-    c.apply(&set_group(a, b"g", b"Nodelist", b"3,1")?)?;
-    c.apply(&weigh(a, b"a", 3, 1)?)?;
+    run(&rt, rt.alloc(), Case::Limits)
+}
+
+#[test]
+fn addresses_are_of_the_second_version(rt: HostRuntime) -> Result<(), Fail> {
+    let addresses = name(b"addresses")?;
+    assert_eq!(rt; table_named(Version::One, &addresses), None);
     assert_eq!(rt;
-        c.address(&name(b"a")?).map(|x| x.weights.items().len()),
-        Some(2)
-    );
-    assert_eq!(rt; table_named(Version::One, &name(b"addresses")?), None);
-    assert_eq!(rt;
-        table_named(Version::Two, &name(b"addresses")?),
+        table_named(Version::Two, &addresses),
         Some(Table::Addresses)
     );
     Ok(())

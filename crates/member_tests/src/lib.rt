@@ -4,4 +4,8 @@
 #[cfg(test)]
 mod callees;
 #[cfg(test)]
+mod cases;
+#[cfg(test)]
+mod fixture;
+#[cfg(test)]
 mod members;

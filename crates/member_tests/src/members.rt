@@ -1,138 +1,15 @@
-use ccr_tables::{Config, ResourceChange, Update};
-use cl_base::{
-    Bytes, Call, Epoch, Header, Items, Method, MethodSet, Name, NodeId, NodeSet, Outcome, Version,
-};
+// What is done over a configuration.
+use crate::fixture::{change, epoch, member, name, order};
+use ccr_tables::Config;
+use cl_base::{Call, Method, Name, NodeId, Outcome};
 use rgm_member::{Carried, Due, Worker, is_fatal};
 use std::alloc::Global;
 use std::process::Abort;
 use std::test::Fail;
 use wire::{Marks, Order};
 
-fn name(bytes: &[u8]) -> Result<Name, Fail> {
-    Ok(Name::new(bytes)?)
-}
-
-fn register(c: &mut Config, of_type: &[u8], methods: MethodSet) -> Result<(), Fail> {
-    c.apply(&Update::RegisterType {
-        name: name(of_type)?,
-        agent: name(b"script")?,
-        methods,
-        single: false,
-        failover: false,
-    })?;
-    Ok(())
-}
-
-fn create_group(c: &mut Config, alloc: Global, group: &[u8]) -> Result<(), Fail> {
-    let mut nodes = Vec::new(alloc);
-    nodes.push(NodeId::new(1)?)?;
-    c.apply(&Update::CreateGroup {
-        group: name(group)?,
-        nodes: Items::new(nodes),
-    })?;
-    Ok(())
-}
-
-fn create_resource(c: &mut Config, r: &[u8], group: &[u8], of_type: &[u8]) -> Result<(), Fail> {
-    c.apply(&Update::CreateResource {
-        resource: name(r)?,
-        group: name(group)?,
-        resource_type: name(of_type)?,
-    })?;
-    Ok(())
-}
-
-fn set_resource(
-    c: &mut Config,
-    alloc: Global,
-    r: &[u8],
-    property: &[u8],
-    value: &[u8],
-) -> Result<(), Fail> {
-    c.apply(&Update::SetResource {
-        resource: name(r)?,
-        property: Items::new(property.to_vec(alloc)?),
-        value: Items::new(value.to_vec(alloc)?),
-    })?;
-    Ok(())
-}
-
-fn all_methods() -> MethodSet {
-    MethodSet::empty()
-        .with(Method::PrenetStart)
-        .with(Method::Start)
-        .with(Method::MonitorStart)
-        .with(Method::MonitorStop)
-        .with(Method::Stop)
-        .with(Method::PostnetStop)
-}
-
-fn empty_config(alloc: Global) -> Result<Config, Fail> {
-    let header = Header {
-        version: Version::Two,
-        cluster: 42,
-        nodes: 2,
-        configured: NodeSet::first(2),
-        devices: Items::new(Vec::new(alloc)),
-    };
-    Ok(Config::first(alloc, &header)?)
-}
-
-/// The type net has no POSTNET_STOP.
-fn add_types(c: &mut Config) -> Result<(), Fail> {
-    register(c, b"app", all_methods())?;
-    let few = MethodSet::empty().with(Method::PrenetStart);
-    register(c, b"net", few.with(Method::Start).with(Method::Stop))
-}
-
-/// h declares `+++g`.
-fn add_groups(c: &mut Config, alloc: Global) -> Result<(), Fail> {
-    create_group(c, alloc, b"g")?;
-    create_group(c, alloc, b"h")?;
-    c.apply(&Update::SetGroup {
-        group: name(b"h")?,
-        property: Items::new(b"RG_affinities".to_vec(alloc)?),
-        value: Items::new(b"+++g".to_vec(alloc)?),
-    })?;
-    Ok(())
-}
-
-fn add_resources(c: &mut Config, alloc: Global, mode: &[u8]) -> Result<(), Fail> {
-    create_resource(c, b"r", b"g", b"app")?;
-    create_resource(c, b"q", b"g", b"net")?;
-    create_resource(c, b"s", b"h", b"app")?;
-    set_resource(c, alloc, b"r", b"Failover_mode", mode)?;
-    set_resource(c, alloc, b"s", b"Failover_mode", mode)
-}
-
-/// The groups g and h, where h declares `+++g`; the resources r and q in g and s in h, of which q has
-/// no POSTNET_STOP. r and s have this Failover_mode.
-fn config(alloc: Global, mode: &[u8]) -> Result<Config, Fail> {
-    let mut c = empty_config(alloc)?;
-    add_types(&mut c)?;
-    add_groups(&mut c, alloc)?;
-    add_resources(&mut c, alloc, mode)?;
-    Ok(c)
-}
-
-fn epoch(number: u64) -> Epoch {
-    Epoch::from_number(number)
-}
-
-fn member(alloc: Global) -> Result<Worker, Fail> {
-    let mut worker = Worker::new(alloc, NodeId::new(1)?);
-    worker.enter(epoch(65));
-    Ok(worker)
-}
-
-fn order(alloc: Global, number: u64, r: &[u8], method: Option<Method>) -> Result<Order, Fail> {
-    Ok(Order {
-        epoch: epoch(65),
-        number,
-        method,
-        resource: Bytes::new(r.to_vec(alloc)?),
-    })
-}
+/// A method, how its call ends, and the flags and marks that are left.
+type Row = (Method, Outcome, u64);
 
 fn bits(m: &Marks) -> u64 {
     let flags = m.pre as u64 + 2 * (m.run as u64) + 4 * (m.mon as u64);
@@ -158,24 +35,23 @@ fn expect_marks(
     Ok(())
 }
 
-/// Orders for the resource that end so, numbered from 1, leave these flags and marks.
-fn follow(
+/// The order is carried out at a second, and that is told of it.
+fn expect_carried(
     rt: &impl Abort,
-    alloc: Global,
+    worker: &mut Worker,
+    o: &Order,
     c: &Config,
-    r: &[u8],
-    rows: &[(Method, Outcome, u64)],
-) -> Result<Worker, Fail> {
-    let mut worker = member(alloc)?;
-    let mut number = 0u64;
-    for (method, outcome, wanted) in rows {
-        number = number.saturating_add(1);
-        let o = order(alloc, number, r, Some(*method))?;
-        carry_out_once(rt, &mut worker, &o, c, *outcome)?;
-        expect_marks(rt, alloc, &worker, c, r, *wanted)?;
-        assert_eq!(rt; worker.has_flag(), *wanted % 8 != 0);
-    }
-    Ok(worker)
+    outcome: Outcome,
+    now: u64,
+    wanted: Carried,
+) -> Result<(), Fail> {
+    let carried = worker.carry_out(o, c, outcome, now)?;
+    assert_eq!(rt; carried, wanted);
+    Ok(())
+}
+
+fn expect_due(rt: &impl Abort, worker: &Worker, o: &Order, c: &Config, now: u64, wanted: bool) {
+    assert_eq!(rt; worker.due(o, c, now).is_some(), wanted);
 }
 
 /// A call is due before the order is carried out, and none after it.
@@ -186,20 +62,62 @@ fn carry_out_once(
     c: &Config,
     outcome: Outcome,
 ) -> Result<(), Fail> {
-    assert!(rt; worker.due(o, c, 7).is_some());
-    assert_eq!(rt;
-        worker.carry_out(o, c, outcome, 7)?,
-        Carried::Called(outcome)
-    );
-    assert!(rt; worker.due(o, c, 8).is_none());
-    assert_eq!(rt;
-        worker.carry_out(o, c, Outcome::Timeout, 8)?,
-        Carried::Kept(outcome)
-    );
+    expect_due(rt, worker, o, c, 7, true);
+    expect_carried(rt, worker, o, c, outcome, 7, Carried::Called(outcome))?;
+    expect_due(rt, worker, o, c, 8, false);
+    expect_carried(
+        rt,
+        worker,
+        o,
+        c,
+        Outcome::Timeout,
+        8,
+        Carried::Kept(outcome),
+    )
+}
+
+/// An order of this number for the resource leaves these flags and marks.
+fn obey(
+    rt: &impl Abort,
+    alloc: Global,
+    worker: &mut Worker,
+    c: &Config,
+    r: &[u8],
+    number: u64,
+    row: Row,
+) -> Result<(), Fail> {
+    let (method, outcome, wanted) = row;
+    let o = order(alloc, number, r, Some(method))?;
+    carry_out_once(rt, worker, &o, c, outcome)?;
+    expect_marks(rt, alloc, worker, c, r, wanted)?;
+    assert_eq!(rt; worker.has_flag(), wanted % 8 != 0);
     Ok(())
 }
 
-fn succeed(rt: &impl Abort, alloc: Global, c: &Config) -> Result<(), Fail> {
+/// Orders for the resource, numbered from 1.
+fn follow(
+    rt: &impl Abort,
+    alloc: Global,
+    worker: &mut Worker,
+    c: &Config,
+    r: &[u8],
+    rows: &[Row],
+) -> Result<(), Fail> {
+    let mut number = 0u64;
+    for row in rows {
+        number = number.saturating_add(1);
+        obey(rt, alloc, worker, c, r, number, *row)?;
+    }
+    Ok(())
+}
+
+/// Orders to a new member.
+fn expect(rt: &impl Abort, alloc: Global, c: &Config, r: &[u8], rows: &[Row]) -> Result<(), Fail> {
+    let mut worker = member(alloc)?;
+    follow(rt, alloc, &mut worker, c, r, rows)
+}
+
+pub fn succeed(rt: &impl Abort, alloc: Global, c: &Config) -> Result<(), Fail> {
     let rows = [
         (Method::PrenetStart, Outcome::Success, 1),
         (Method::Start, Outcome::Success, 3),
@@ -209,24 +127,32 @@ fn succeed(rt: &impl Abort, alloc: Global, c: &Config) -> Result<(), Fail> {
         (Method::Stop, Outcome::Success, 1),
         (Method::PostnetStop, Outcome::Success, 0),
     ];
-    follow(rt, alloc, c, b"r", &rows)?;
+    expect(rt, alloc, c, b"r", &rows)
+}
+
+/// Of a type that has no POSTNET_STOP.
+pub fn succeed_without(rt: &impl Abort, alloc: Global, c: &Config) -> Result<(), Fail> {
     let rows = [
         (Method::PrenetStart, Outcome::Success, 1),
         (Method::Start, Outcome::Success, 3),
         (Method::Stop, Outcome::Success, 0),
     ];
-    follow(rt, alloc, c, b"q", &rows).map(|_| ())
+    expect(rt, alloc, c, b"q", &rows)
 }
 
-#[test]
-fn successes_set_flags(rt: HostRuntime) -> Result<(), Fail> {
-    let alloc = rt.alloc();
-    let c = config(alloc, b"NONE")?;
-    succeed(&rt, alloc, &c)
+/// The call of START of the resource at second 7.
+fn call(r: &[u8], agent: Option<Name>) -> Result<Due, Fail> {
+    let call = Call {
+        node: NodeId::new(1)?,
+        resource: name(r)?,
+        method: Method::Start,
+        second: 7,
+    };
+    Ok(Due { agent, call })
 }
 
-/// The call of an order for the resource at second 7, as it is due.
-fn expect_due(
+/// It is due where START is ordered.
+fn expect_call(
     rt: &impl Abort,
     alloc: Global,
     c: &Config,
@@ -234,38 +160,46 @@ fn expect_due(
     agent: Option<Name>,
 ) -> Result<(), Fail> {
     let o = order(alloc, 3, r, Some(Method::Start))?;
-    let call = Call {
-        node: NodeId::new(1)?,
-        resource: name(r)?,
-        method: Method::Start,
-        second: 7,
-    };
-    let due = member(alloc)?.due(&o, c, 7);
-    assert_eq!(rt; due, Some(Due { agent, call }));
+    let found = due_of_member(alloc, &o, c)?;
+    assert_eq!(rt; found, Some(call(r, agent)?));
     Ok(())
 }
 
-#[test]
-fn a_call_is_due_of_the_agent_that_the_type_names(rt: HostRuntime) -> Result<(), Fail> {
-    let alloc = rt.alloc();
-    let c = config(alloc, b"NONE")?;
-    expect_due(&rt, alloc, &c, b"r", Some(name(b"script")?))?;
-    expect_due(&rt, alloc, &c, b"unknown", None)
+fn due_of_member(alloc: Global, o: &Order, c: &Config) -> Result<Option<Due>, Fail> {
+    let worker = member(alloc)?;
+    Ok(worker.due(o, c, 7))
 }
 
-#[test]
-fn nothing_is_due(rt: HostRuntime) -> Result<(), Fail> {
-    let alloc = rt.alloc();
-    let c = config(alloc, b"NONE")?;
-    let mut worker = member(alloc)?;
-    let clear = order(alloc, 3, b"r", None)?;
-    assert!(rt; worker.due(&clear, &c, 7).is_none());
-    let no_name = order(alloc, 3, b"two words", Some(Method::Start))?;
-    assert!(rt; worker.due(&no_name, &c, 7).is_none());
-    let old = order(alloc, 3, b"r", Some(Method::Start))?;
+pub fn call_agents(rt: &impl Abort, alloc: Global, c: &Config) -> Result<(), Fail> {
+    expect_call(rt, alloc, c, b"r", Some(name(b"script")?))?;
+    expect_call(rt, alloc, c, b"unknown", None)
+}
+
+/// Of an order for these words no call is due.
+fn expect_nothing(
+    rt: &impl Abort,
+    alloc: Global,
+    worker: &Worker,
+    c: &Config,
+    r: &[u8],
+    method: Option<Method>,
+) -> Result<(), Fail> {
+    let o = order(alloc, 3, r, method)?;
+    expect_due(rt, worker, &o, c, 7, false);
+    Ok(())
+}
+
+/// Of an order to clear, of one for no name, and of one of an earlier session.
+fn disregard(rt: &impl Abort, alloc: Global, worker: &mut Worker, c: &Config) -> Result<(), Fail> {
+    expect_nothing(rt, alloc, worker, c, b"r", None)?;
+    expect_nothing(rt, alloc, worker, c, b"two words", Some(Method::Start))?;
     worker.enter(epoch(129));
-    assert!(rt; worker.due(&old, &c, 7).is_none());
-    Ok(())
+    expect_nothing(rt, alloc, worker, c, b"r", Some(Method::Start))
+}
+
+pub fn call_nothing(rt: &impl Abort, alloc: Global, c: &Config) -> Result<(), Fail> {
+    let mut worker = member(alloc)?;
+    disregard(rt, alloc, &mut worker, c)
 }
 
 /// Whether the node panics of a method of r that ends so.
@@ -277,9 +211,7 @@ fn expect_fatal(rt: &impl Abort, c: &Config, rows: &[(Method, Outcome, bool)]) -
     Ok(())
 }
 
-#[test]
-fn failures_to_stop_are_fatal_under_hard(rt: HostRuntime) -> Result<(), Fail> {
-    let alloc = rt.alloc();
+pub fn panic_under_hard(rt: &impl Abort, c: &Config) -> Result<(), Fail> {
     let rows = [
         (Method::MonitorStop, Outcome::Timeout, true),
         (Method::Stop, Outcome::Failure, true),
@@ -288,44 +220,46 @@ fn failures_to_stop_are_fatal_under_hard(rt: HostRuntime) -> Result<(), Fail> {
         (Method::Start, Outcome::Failure, false),
         (Method::MonitorStart, Outcome::Failure, false),
     ];
-    expect_fatal(&rt, &config(alloc, b"HARD")?, &rows)
+    expect_fatal(rt, c, &rows)
 }
 
-#[test]
-fn failures_to_stop_are_borne_under_soft(rt: HostRuntime) -> Result<(), Fail> {
-    let alloc = rt.alloc();
+pub fn bear_under_soft(rt: &impl Abort, c: &Config) -> Result<(), Fail> {
     let rows = [
         (Method::MonitorStop, Outcome::Timeout, false),
         (Method::Stop, Outcome::Failure, false),
         (Method::PostnetStop, Outcome::Failure, false),
     ];
-    expect_fatal(&rt, &config(alloc, b"SOFT")?, &rows)
+    expect_fatal(rt, c, &rows)
 }
 
-fn forget(rt: &impl Abort, alloc: Global, w: &mut Worker, c: &mut Config) -> Result<(), Fail> {
-    w.keep(c);
-    expect_marks(rt, alloc, w, c, b"s", 26)?;
-    c.apply(&Update::ChangeResource {
-        resource: name(b"s")?,
-        change: ResourceChange::Disable,
-    })?;
-    w.keep(c);
-    expect_marks(rt, alloc, w, c, b"s", 18)?;
-    c.apply(&Update::DeleteResource(name(b"s")?))?;
-    w.keep(c);
-    create_resource(c, b"s", b"h", b"app")?;
-    expect_marks(rt, alloc, w, c, b"s", 0)
-}
-
-#[test]
-fn deleted_things_are_forgotten(rt: HostRuntime) -> Result<(), Fail> {
-    let alloc = rt.alloc();
-    let mut c = config(alloc, b"NONE")?;
+fn fail(rt: &impl Abort, alloc: Global, w: &mut Worker, c: &Config) -> Result<(), Fail> {
     let rows = [
         (Method::Start, Outcome::Success, 2),
         (Method::Start, Outcome::Failure, 10),
         (Method::Stop, Outcome::Failure, 26),
     ];
-    let mut w = follow(&rt, alloc, &c, b"s", &rows)?;
-    forget(&rt, alloc, &mut w, &mut c)
+    follow(rt, alloc, w, c, b"s", &rows)
+}
+
+fn fail_and_forget(
+    rt: &impl Abort,
+    alloc: Global,
+    w: &mut Worker,
+    c: &mut Config,
+) -> Result<(), Fail> {
+    fail(rt, alloc, w, c)?;
+    w.keep(c);
+    expect_marks(rt, alloc, w, c, b"s", 26)?;
+    change(alloc, c, b"clrs disable s")?;
+    w.keep(c);
+    expect_marks(rt, alloc, w, c, b"s", 18)?;
+    change(alloc, c, b"clrs delete s")?;
+    w.keep(c);
+    change(alloc, c, b"clrs create s h app")?;
+    expect_marks(rt, alloc, w, c, b"s", 0)
+}
+
+pub fn forget(rt: &impl Abort, alloc: Global, c: &mut Config) -> Result<(), Fail> {
+    let mut worker = member(alloc)?;
+    fail_and_forget(rt, alloc, &mut worker, c)
 }

@@ -22,7 +22,7 @@ const TEN: &str =
     "ccr_gennum 12\nccr_checksum 0e62cc0b3b6c93ffb55db36d5a323ca279b878f25abce9b3bfaba27986430492\npromised\t66\ninstalled\t65\nmembers\t2,32\nvalid\t1,2,3,4,5,6,7,8,9,10,11,12,13,14,15,16\nupdate.1\tu1\nupdate.2\tu2\nupdate.3\tu3\nupdate.4\tu4\nupdate.5\tu5\nupdate.6\tu6\nupdate.7\tu7\nupdate.8\tu8\nupdate.9\tu9\nupdate.10\tu10\n";
 
 // The first update is pending.
-const FIRST: &str =
+const FIRST_PENDING: &str =
     "ccr_gennum 1\nccr_checksum e811ac93f17000bdf5ec21a78545ca2468fd9a56f228245114590de2aaa1c116\npromised\t65\ninstalled\t65\nmembers\t2\nvalid\t3\npending\tx\n";
 
 // Devices 1, 2, 4 and 5.
@@ -61,10 +61,13 @@ fn text(alloc: Global, words: &str) -> Result<Bytes, AllocError> {
     Ok(Bytes::new(words.as_bytes().to_vec(alloc)?))
 }
 
-fn texts(alloc: Global, words: &[&str]) -> Result<Texts, AllocError> {
+/// The words are cut at each semicolon, and none stand for no text.
+fn texts(alloc: Global, words: &str) -> Result<Texts, AllocError> {
     let mut texts = Vec::new(alloc);
-    for word in words {
-        texts.push(text(alloc, word)?)?;
+    for word in words.as_bytes().split(|b| *b == b';') {
+        if !word.is_empty() {
+            texts.push(Bytes::new(word.to_vec(alloc)?))?;
+        }
     }
     Ok(Texts::new(texts))
 }
@@ -94,7 +97,7 @@ fn install(alloc: Global, p: u64) -> Result<Install, Fail> {
     Ok(Install {
         epoch: Epoch::from_number(p),
         members: NodeSet::from_bits(0b111),
-        committed: texts(alloc, ["a", "b"].as_slice())?,
+        committed: texts(alloc, "a;b")?,
         pending: Some(text(alloc, "c")?),
         readings: readings(alloc)?,
     })
@@ -117,29 +120,125 @@ fn bare_install(
     }
 }
 
-/// The promise, the session, the installed epoch, the members, the valid and the joined devices, and
-/// how many updates are committed and pending.
-fn expect(
-    rt: &impl Abort,
-    node: &FormingNode,
-    epochs: [u64; 3],
+/// What a node shows of itself: its epochs, its sets as bits, and how many updates are committed and
+/// pending.
+#[derive(Clone, Copy, Debug, PartialEq, Eq)]
+struct Shown {
+    promised: u64,
+    session: u64,
+    installed: u64,
     members: u32,
-    devices: [u16; 2],
-    entries: [usize; 2],
-) -> Result<(), Fail> {
-    assert_eq!(rt; node.promised().number(), epochs[0]);
-    assert_eq!(rt; node.session().number(), epochs[1]);
-    assert_eq!(rt; node.installed().number(), epochs[2]);
-    assert_eq!(rt; node.members().bits(), members);
-    assert_eq!(rt; node.valid().bits(), devices[0]);
-    assert_eq!(rt; node.joined_devices().bits(), devices[1]);
-    expect_entries(rt, node.entries(), entries)
+    valid: u16,
+    joined: u16,
+    committed: usize,
+    pending: usize,
 }
 
-fn expect_entries(rt: &impl Abort, entries: &Entries, counts: [usize; 2]) -> Result<(), Fail> {
-    assert_eq!(rt; entries.committed().len(), counts[0]);
-    assert_eq!(rt; entries.pending().is_some(), counts[1] == 1);
-    Ok(())
+/// A node that has come up with its first record.
+const FIRST: Shown = Shown {
+    promised: 0,
+    session: 0,
+    installed: 0,
+    members: 0,
+    valid: VALID,
+    joined: 0,
+    committed: 0,
+    pending: 0,
+};
+
+/// A node that has promised 65, and installed nothing.
+const PROMISED: Shown = Shown {
+    promised: 65,
+    session: 65,
+    ..FIRST
+};
+
+/// A node that has installed in session 65.
+const INSTALLED: Shown = Shown {
+    installed: 65,
+    members: 7,
+    valid: 0b1111,
+    joined: 0b1101,
+    committed: 2,
+    pending: 1,
+    ..PROMISED
+};
+
+/// A node that has started in session 65.
+const STARTED: Shown = Shown {
+    committed: 3,
+    pending: 0,
+    ..INSTALLED
+};
+
+/// A node that has promised 66 since, and is no member.
+const OUTSIDE: Shown = Shown {
+    promised: 66,
+    session: 66,
+    joined: 0,
+    ..STARTED
+};
+
+/// The device 5 has joined since.
+const REPEATED: Shown = Shown {
+    valid: 0b11111,
+    joined: 0b11101,
+    ..INSTALLED
+};
+
+/// In session 129, where the device 2 is not valid.
+const MOVED_ON: Shown = Shown {
+    promised: 129,
+    session: 129,
+    valid: 0b11101,
+    joined: 0,
+    ..INSTALLED
+};
+
+fn seen(node: &FormingNode) -> Shown {
+    Shown {
+        promised: node.promised().number(),
+        session: node.session().number(),
+        installed: node.installed().number(),
+        members: node.members().bits(),
+        valid: node.valid().bits(),
+        joined: node.joined_devices().bits(),
+        committed: node.entries().committed().len(),
+        pending: pending(node.entries()),
+    }
+}
+
+fn seen_member(node: &MemberNode) -> Shown {
+    Shown {
+        promised: node.promised().number(),
+        session: node.session().number(),
+        installed: node.installed().number(),
+        members: node.members().bits(),
+        valid: node.valid().bits(),
+        joined: node.joined_devices().bits(),
+        committed: node.entries().committed().len(),
+        pending: pending(node.entries()),
+    }
+}
+
+fn pending(entries: &Entries) -> usize {
+    entries.pending().is_some() as usize
+}
+
+fn same(rt: &impl Abort, found: Shown, wanted: Shown) {
+    assert_eq!(rt; found, wanted);
+}
+
+fn expect(rt: &impl Abort, node: &FormingNode, wanted: Shown) {
+    same(rt, seen(node), wanted);
+}
+
+fn expect_member(rt: &impl Abort, node: &MemberNode, wanted: Shown) {
+    same(rt, seen_member(node), wanted);
+}
+
+fn expect_epoch(rt: &impl Abort, found: Epoch, wanted: u64) {
+    assert_eq!(rt; found.number(), wanted);
 }
 
 /// This promise is refused, and shows the one that the node has.
@@ -147,11 +246,11 @@ fn promise_refused(
     rt: &impl Abort,
     node: FormingNode,
     p: u64,
-    shown: u64,
+    wanted: u64,
 ) -> Result<FormingNode, Fail> {
     match node.promise(Epoch::from_number(p)) {
         Err((node, promised)) => {
-            assert_eq!(rt; promised.number(), shown);
+            expect_epoch(rt, promised, wanted);
             Ok(node)
         }
         Ok(_) => Err("it is not refused".into()),
@@ -161,10 +260,11 @@ fn promise_refused(
 #[test]
 fn promises(rt: HostRuntime) -> Result<(), Fail> {
     let node = up(rt.alloc(), VALID)?;
-    expect(&rt, &node, [0, 0, 0], 0, [VALID, 0], [0, 0])?;
+    expect(&rt, &node, FIRST);
     let node = promise_refused(&rt, node, 0, 0)?;
     let node = promise_refused(&rt, promised(node, 65)?, 65, 65)?;
-    expect(&rt, &node, [65, 65, 0], 0, [VALID, 0], [0, 0])
+    expect(&rt, &node, PROMISED);
+    Ok(())
 }
 
 /// The install of this epoch is refused, and shows this promise.
@@ -173,11 +273,11 @@ fn install_refused(
     alloc: Global,
     node: FormingNode,
     p: u64,
-    shown: u64,
+    wanted: u64,
 ) -> Result<FormingNode, Fail> {
     match node.install(alloc, &install(alloc, p)?) {
         Err(InstallError::Refused(node, promised)) => {
-            assert_eq!(rt; promised.number(), shown);
+            expect_epoch(rt, promised, wanted);
             Ok(node)
         }
         _ => Err("it is not refused".into()),
@@ -189,7 +289,8 @@ fn installs_outside_the_session(rt: HostRuntime) -> Result<(), Fail> {
     let node = install_refused(&rt, rt.alloc(), up(rt.alloc(), VALID)?, 0, 0)?;
     let node = install_refused(&rt, rt.alloc(), node, 65, 0)?;
     let node = install_refused(&rt, rt.alloc(), promised(node, 65)?, 1, 65)?;
-    expect(&rt, &node, [65, 65, 0], 0, [VALID, 0], [0, 0])
+    expect(&rt, &node, PROMISED);
+    Ok(())
 }
 
 /// Node 2, which has installed in session 65.
@@ -198,16 +299,28 @@ fn ready(alloc: Global) -> Result<FormingNode, Fail> {
     installed(alloc, node, &install(alloc, 65)?)
 }
 
-#[test]
-fn an_install_and_its_repeat(rt: HostRuntime) -> Result<(), Fail> {
-    let mut node = ready(rt.alloc())?;
-    expect(&rt, &node, [65, 65, 65], 7, [0b1111, 0b1101], [2, 1])?;
+/// The device joins, and the install is repeated.
+fn repeated(alloc: Global, mut node: FormingNode) -> Result<FormingNode, Fail> {
     node.joined(DevId::new(5)?);
-    let node = installed(rt.alloc(), node, &install(rt.alloc(), 65)?)?;
-    expect(&rt, &node, [65, 65, 65], 7, [0b11111, 0b11101], [2, 1])?;
+    installed(alloc, node, &install(alloc, 65)?)
+}
+
+/// Another session begins, and the device is not valid any more.
+fn moved_on(node: FormingNode) -> Result<FormingNode, Fail> {
     let mut node = promised(node, 129)?;
     node.invalidate(DevId::new(2)?);
-    expect(&rt, &node, [129, 129, 65], 7, [0b11101, 0], [2, 1])
+    Ok(node)
+}
+
+#[test]
+fn an_install_and_its_repeat(rt: HostRuntime) -> Result<(), Fail> {
+    let node = ready(rt.alloc())?;
+    expect(&rt, &node, INSTALLED);
+    let node = repeated(rt.alloc(), node)?;
+    expect(&rt, &node, REPEATED);
+    let node = moved_on(node)?;
+    expect(&rt, &node, MOVED_ON);
+    Ok(())
 }
 
 fn start_refused(node: FormingNode, p: u64) -> Result<FormingNode, Fail> {
@@ -221,24 +334,37 @@ fn member(alloc: Global) -> Result<MemberNode, Fail> {
     started(ready(alloc)?, 65)
 }
 
-#[test]
-fn starts(rt: HostRuntime) -> Result<(), Fail> {
-    let node = promised(up(rt.alloc(), VALID)?, 65)?;
+/// No start before the install.
+fn start_early(rt: &impl Abort, alloc: Global) -> Result<(), Fail> {
+    let node = promised(up(alloc, VALID)?, 65)?;
     let node = start_refused(start_refused(node, 65)?, 0)?;
-    expect(&rt, &node, [65, 65, 0], 0, [VALID, 0], [0, 0])?;
-    let node = start_refused(ready(rt.alloc())?, 129)?;
-    expect(&rt, &node, [65, 65, 65], 7, [0b1111, 0b1101], [2, 1])?;
-    expect_member(&rt, &started(node, 65)?)
+    expect(rt, &node, PROMISED);
+    Ok(())
 }
 
-fn expect_member(rt: &impl Abort, node: &MemberNode) -> Result<(), Fail> {
-    assert_eq!(rt; node.promised().number(), 65);
-    assert_eq!(rt; node.session().number(), 65);
-    assert_eq!(rt; node.installed().number(), 65);
-    assert_eq!(rt; node.members().bits(), 7);
-    assert_eq!(rt; node.valid().bits(), 0b1111);
-    assert_eq!(rt; node.joined_devices().bits(), 0b1101);
-    expect_entries(rt, node.entries(), [3, 0])
+/// None of another session.
+fn start_another(rt: &impl Abort, alloc: Global) -> Result<FormingNode, Fail> {
+    let node = start_refused(ready(alloc)?, 129)?;
+    expect(rt, &node, INSTALLED);
+    Ok(node)
+}
+
+#[test]
+fn starts(rt: HostRuntime) -> Result<(), Fail> {
+    start_early(&rt, rt.alloc())?;
+    let node = started(start_another(&rt, rt.alloc())?, 65)?;
+    expect_member(&rt, &node, STARTED);
+    Ok(())
+}
+
+fn expect_held(
+    rt: &impl Abort,
+    node: &MemberNode,
+    device: u64,
+    wanted: Result<Epoch, NotHeld>,
+) -> Result<(), Fail> {
+    assert_eq!(rt; node.may_write(DevId::new(device)?), wanted);
+    Ok(())
 }
 
 /// Prepares an update, and looks at the answer and the numbers of updates.
@@ -247,44 +373,96 @@ fn expect_prepared(
     node: &mut MemberNode,
     place: u64,
     answer: Prepared,
-    counts: [usize; 2],
+    committed: usize,
+    pending: usize,
 ) -> Result<(), Fail> {
     assert_eq!(rt; node.prepare(place, b"words")?, answer);
-    expect_entries(rt, node.entries(), counts)
+    let wanted = Shown {
+        committed,
+        pending,
+        ..STARTED
+    };
+    expect_member(rt, node, wanted);
+    Ok(())
+}
+
+/// The device 4 is held in session 65, and the device 2 is not.
+fn update(rt: &impl Abort, node: &mut MemberNode) -> Result<(), Fail> {
+    expect_held(rt, node, 4, Ok(Epoch::from_number(65)))?;
+    expect_held(rt, node, 2, Err(NotHeld))?;
+    expect_prepared(rt, node, 5, Prepared::Gap(4), 3, 0)?;
+    expect_prepared(rt, node, 4, Prepared::Taken, 3, 1)?;
+    expect_prepared(rt, node, 4, Prepared::Already, 3, 1)
+}
+
+fn commit(rt: &impl Abort, node: &mut MemberNode) {
+    assert!(rt; !node.commit(3));
+    assert!(rt; node.commit(4));
+    let wanted = Shown {
+        committed: 4,
+        ..STARTED
+    };
+    expect_member(rt, node, wanted);
 }
 
 #[test]
 fn updates(rt: HostRuntime) -> Result<(), Fail> {
     let mut node = member(rt.alloc())?;
-    assert_eq!(rt; node.may_write(DevId::new(4)?), Ok(Epoch::from_number(65)));
-    assert_eq!(rt; node.may_write(DevId::new(2)?), Err(NotHeld));
-    expect_prepared(&rt, &mut node, 5, Prepared::Gap(4), [3, 0])?;
-    expect_prepared(&rt, &mut node, 4, Prepared::Taken, [3, 1])?;
-    expect_prepared(&rt, &mut node, 4, Prepared::Already, [3, 1])?;
-    assert!(rt; !node.commit(3));
-    assert!(rt; node.commit(4));
-    expect_entries(&rt, node.entries(), [4, 0])
+    update(&rt, &mut node)?;
+    commit(&rt, &mut node);
+    Ok(())
+}
+
+/// The member's promise is refused, and shows the one that it has.
+fn member_refused(
+    rt: &impl Abort,
+    node: MemberNode,
+    p: u64,
+    wanted: u64,
+) -> Result<MemberNode, Fail> {
+    match node.promise(Epoch::from_number(p)) {
+        Err((node, promised)) => {
+            expect_epoch(rt, promised, wanted);
+            Ok(node)
+        }
+        Ok(_) => Err("it is not refused".into()),
+    }
+}
+
+fn member_promised(node: MemberNode, p: u64) -> Result<FormingNode, Fail> {
+    match node.promise(Epoch::from_number(p)) {
+        Ok(node) => Ok(node),
+        Err(_) => Err("the promise is refused".into()),
+    }
+}
+
+fn expect_rows(
+    rt: &impl Abort,
+    alloc: Global,
+    node: &MemberNode,
+    wanted: usize,
+) -> Result<(), Fail> {
+    let rows = node.record_rows(alloc)?;
+    assert_eq!(rt; rows.items().len(), wanted);
+    Ok(())
 }
 
 #[test]
 fn a_member_promises(rt: HostRuntime) -> Result<(), Fail> {
-    let Err((node, shown)) = member(rt.alloc())?.promise(Epoch::from_number(65)) else {
-        return Err("it is not refused".into());
-    };
-    assert_eq!(rt; shown.number(), 65);
-    expect_member(&rt, &node)?;
-    assert_eq!(rt; node.record_rows(rt.alloc())?.items().len(), 7);
-    let Ok(node) = node.promise(Epoch::from_number(66)) else {
-        return Err("the promise is refused".into());
-    };
-    expect(&rt, &node, [66, 66, 65], 7, [0b1111, 0], [3, 0])
+    let node = member_refused(&rt, member(rt.alloc())?, 65, 65)?;
+    expect_member(&rt, &node, STARTED);
+    expect_rows(&rt, rt.alloc(), &node, 7)?;
+    let node = member_promised(node, 66)?;
+    expect(&rt, &node, OUTSIDE);
+    Ok(())
 }
 
 /// The node comes up from an empty disk with its first record.
 fn expect_first(rt: &impl Abort, alloc: Global, node: DownNode) -> Result<(), Fail> {
     let (node, saves) = node.boot(alloc, b"")?;
     assert_eq!(rt; saves, 0);
-    expect(rt, &node, [0, 0, 0], 0, [VALID, 0], [0, 0])
+    expect(rt, &node, FIRST);
+    Ok(())
 }
 
 #[test]
@@ -312,6 +490,10 @@ fn fits(text: &[u8]) -> bool
     text.len() <= 65535 && text.iter().all(|b| *b != b'\t' && *b != b'\n')
 }
 
+fn expect_table(rt: &impl Abort, text: &[u8], expected: &str) {
+    assert_eq!(rt; text, expected.as_bytes());
+}
+
 /// Prints the node's record as a table, compares its text, and boots the node from it.
 fn rebooted(
     rt: &impl Abort,
@@ -325,10 +507,17 @@ fn rebooted(
     }
     let rows = node.record_rows(alloc)?;
     let text = print_table(alloc, saves, &rows)?;
-    assert_eq!(rt; text.as_slice(), expected.as_bytes());
+    expect_table(rt, text.as_slice(), expected);
     let (node, told) = down(0)?.boot(alloc, text.as_slice())?;
     assert_eq!(rt; told, saves);
     Ok(node)
+}
+
+/// The node keeps the promise, and is in no session.
+fn expect_again(rt: &impl Abort, again: &FormingNode, node: &FormingNode) {
+    expect_epoch(rt, again.promised(), node.promised().number());
+    expect_epoch(rt, again.session(), 0);
+    assert_eq!(rt; again.joined_devices(), DevSet::empty());
 }
 
 /// So it is for a node that has booted from the text too.
@@ -340,11 +529,16 @@ fn expect_text(
     expected: &str,
 ) -> Result<(), Fail> {
     let again = rebooted(rt, alloc, node, saves, expected)?;
-    assert_eq!(rt; again.promised(), node.promised());
-    assert_eq!(rt; again.session(), Epoch::zero());
-    assert_eq!(rt; again.joined_devices(), DevSet::empty());
+    expect_again(rt, &again, node);
     rebooted(rt, alloc, &again, saves, expected)?;
     Ok(())
+}
+
+fn maybe_text(alloc: Global, words: Option<&str>) -> Result<Option<Bytes>, AllocError> {
+    match words {
+        Some(words) => Ok(Some(text(alloc, words)?)),
+        None => Ok(None),
+    }
 }
 
 /// A node that has installed these updates, which are committed but for the last.
@@ -353,39 +547,35 @@ fn recorded(
     valid: u16,
     p: u64,
     members: u32,
-    words: &[&str],
+    words: &str,
     last: Option<&str>,
 ) -> Result<FormingNode, Fail> {
-    let pending = match last {
-        Some(word) => Some(text(alloc, word)?),
-        None => None,
-    };
+    let pending = maybe_text(alloc, last)?;
     let i = bare_install(alloc, p, members, texts(alloc, words)?, pending);
     installed(alloc, promised(up(alloc, valid)?, p)?, &i)
 }
 
 #[test]
 fn records_with_a_pending_update(rt: HostRuntime) -> Result<(), Fail> {
-    let words = ["clrt register t a START,STOP", "clrg create g 1,2"];
-    let last = Some("clrs create r g t");
-    let node = recorded(rt.alloc(), 0x8001, 66, 0b11, words.as_slice(), last)?;
+    let words = "clrt register t a START,STOP;clrg create g 1,2";
+    let node = recorded(
+        rt.alloc(),
+        0x8001,
+        66,
+        0b11,
+        words,
+        Some("clrs create r g t"),
+    )?;
     expect_text(&rt, rt.alloc(), &promised(node, 130)?, 3, PENDING)?;
-    let node = recorded(rt.alloc(), 4, 65, 0b10, [].as_slice(), Some("x"))?;
-    expect_text(&rt, rt.alloc(), &node, 1, FIRST)
+    let node = recorded(rt.alloc(), 4, 65, 0b10, "", Some("x"))?;
+    expect_text(&rt, rt.alloc(), &node, 1, FIRST_PENDING)
 }
 
 #[test]
 fn records_without_one(rt: HostRuntime) -> Result<(), Fail> {
     let node = promised(up(rt.alloc(), 0)?, u64::MAX)?;
     expect_text(&rt, rt.alloc(), &node, 0, GREATEST)?;
-    let words = ["u1", "u2", "u3", "u4", "u5", "u6", "u7", "u8", "u9", "u10"];
-    let node = recorded(
-        rt.alloc(),
-        u16::MAX,
-        65,
-        0x8000_0002,
-        words.as_slice(),
-        None,
-    )?;
+    let words = "u1;u2;u3;u4;u5;u6;u7;u8;u9;u10";
+    let node = recorded(rt.alloc(), u16::MAX, 65, 0x8000_0002, words, None)?;
     expect_text(&rt, rt.alloc(), &promised(node, 66)?, 12, TEN)
 }

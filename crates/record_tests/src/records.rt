@@ -11,6 +11,8 @@ use std::test::Fail;
 
 const STOPPED: DiskError = DiskError::Lost(Loss::Stopped);
 
+const FAULT: DiskError = DiskError::Lost(Loss::Fault);
+
 fn mounted<D: RecordDisk>(alloc: Global, disk: &mut D) -> Result<FormingNode, Fail> {
     let down = DownNode::new(NodeId::new(2)?, DevSet::empty());
     match disk.mount(alloc, down) {
@@ -19,47 +21,102 @@ fn mounted<D: RecordDisk>(alloc: Global, disk: &mut D) -> Result<FormingNode, Fa
     }
 }
 
-// The node promises p, and its record is to be saved; how that ends.
-fn promised<D: RecordDisk>(
+fn promised(node: FormingNode, p: u64) -> Result<FormingNode, Fail> {
+    match node.promise(Epoch::from_number(p)) {
+        Ok(node) => Ok(node),
+        Err(_) => Err("the promise is refused".into()),
+    }
+}
+
+/// How the save of the node's record ends.
+fn expect_save<D: RecordDisk>(
+    rt: &impl Abort,
     alloc: Global,
     disk: &mut D,
-    node: FormingNode,
-    p: u64,
-) -> Result<Result<FormingNode, DiskError>, Fail> {
-    let Ok(node) = node.promise(Epoch::from_number(p)) else {
-        return Err("the promise is refused".into());
-    };
-    match disk.save(alloc, node.record()) {
-        Ok(()) => Ok(Ok(node)),
-        Err(e) => Ok(Err(e)),
-    }
+    node: &FormingNode,
+    wanted: Result<(), DiskError>,
+) {
+    assert_eq!(rt; disk.save(alloc, node.record()), wanted);
 }
 
-// A disk that keeps the promise 65 by its first save, and the node.
-fn with_promise(alloc: Global) -> Result<(SimulatedDisk, FormingNode), Fail> {
-    let mut disk = SimulatedDisk::new(alloc, DevSet::from_bits(5))?;
-    let node = mounted(alloc, &mut disk)?;
-    match promised(alloc, &mut disk, node, 65)? {
-        Ok(node) => Ok((disk, node)),
-        Err(_) => Err("it is not saved".into()),
-    }
+fn expect_epoch(rt: &impl Abort, found: Epoch, wanted: u64) {
+    assert_eq!(rt; found.number(), wanted);
 }
 
-#[test]
-fn saves_and_mountings(rt: HostRuntime) -> Result<(), Fail> {
-    let (mut disk, node) = with_promise(rt.alloc())?;
-    assert_eq!(rt; node.valid().bits(), 5);
-    let node = mounted(rt.alloc(), &mut disk)?;
-    assert_eq!(rt; node.promised().number(), 65);
-    assert_eq!(rt; node.session().number(), 0);
-    assert_eq!(rt; node.valid().bits(), 5);
-    assert!(rt; promised(rt.alloc(), &mut disk, node, 129)?.is_ok());
-    let node = mounted(rt.alloc(), &mut disk)?;
-    assert_eq!(rt; node.promised().number(), 129);
+/// The promise of the node that is mounted.
+fn expect_promise<D: RecordDisk>(
+    rt: &impl Abort,
+    alloc: Global,
+    disk: &mut D,
+    wanted: u64,
+) -> Result<(), Fail> {
+    let node = mounted(alloc, disk)?;
+    expect_epoch(rt, node.promised(), wanted);
     Ok(())
 }
 
-// What promise is kept after a stop in a call of saving the promise 129 over the promise 65.
+/// The disk's first save is of the promise 65.
+fn with_promise<D: RecordDisk>(
+    rt: &impl Abort,
+    alloc: Global,
+    disk: &mut D,
+) -> Result<FormingNode, Fail> {
+    let node = promised(mounted(alloc, disk)?, 65)?;
+    expect_save(rt, alloc, disk, &node, Ok(()));
+    Ok(node)
+}
+
+fn expect_valid(rt: &impl Abort, node: &FormingNode) {
+    assert_eq!(rt; node.valid().bits(), 5);
+}
+
+fn save_first(rt: &impl Abort, alloc: Global, disk: &mut SimulatedDisk) -> Result<(), Fail> {
+    let node = with_promise(rt, alloc, disk)?;
+    expect_valid(rt, &node);
+    Ok(())
+}
+
+fn save_next(rt: &impl Abort, alloc: Global, disk: &mut SimulatedDisk) -> Result<(), Fail> {
+    let node = mounted(alloc, disk)?;
+    expect_epoch(rt, node.promised(), 65);
+    expect_epoch(rt, node.session(), 0);
+    expect_valid(rt, &node);
+    let node = promised(node, 129)?;
+    expect_save(rt, alloc, disk, &node, Ok(()));
+    Ok(())
+}
+
+fn save_and_mount(rt: &impl Abort, alloc: Global, disk: &mut SimulatedDisk) -> Result<(), Fail> {
+    save_first(rt, alloc, disk)?;
+    save_next(rt, alloc, disk)?;
+    expect_promise(rt, alloc, disk, 129)
+}
+
+/// A call of saving the promise 129 over the promise 65 is stopped.
+fn stop_save(
+    rt: &impl Abort,
+    alloc: Global,
+    disk: &mut SimulatedDisk,
+    calls: u64,
+    choice: Choice,
+) -> Result<(), Fail>
+    requires { 1 ≤ calls }
+{
+    let node = promised(with_promise(rt, alloc, disk)?, 129)?;
+    disk.stop_after(calls, choice);
+    expect_save(rt, alloc, disk, &node, Err(STOPPED));
+    Ok(())
+}
+
+/// This promise is kept, and the next one is saved.
+fn go_on(rt: &impl Abort, alloc: Global, disk: &mut SimulatedDisk, kept: u64) -> Result<(), Fail> {
+    let node = mounted(alloc, disk)?;
+    expect_epoch(rt, node.promised(), kept);
+    let node = promised(node, 193)?;
+    expect_save(rt, alloc, disk, &node, Ok(()));
+    Ok(())
+}
+
 fn expect_stopped_save(
     rt: &impl Abort,
     alloc: Global,
@@ -69,16 +126,9 @@ fn expect_stopped_save(
 ) -> Result<(), Fail>
     requires { 1 ≤ calls }
 {
-    let (mut disk, node) = with_promise(alloc)?;
-    disk.stop_after(calls, choice);
-    let Err(stopped) = promised(alloc, &mut disk, node, 129)? else {
-        return Err("it is saved".into());
-    };
-    assert_eq!(rt; stopped, STOPPED);
-    let node = mounted(alloc, &mut disk)?;
-    assert_eq!(rt; node.promised().number(), kept);
-    assert!(rt; promised(alloc, &mut disk, node, 193)?.is_ok());
-    Ok(())
+    let mut disk = new_disk(alloc)?;
+    stop_save(rt, alloc, &mut disk, calls, choice)?;
+    go_on(rt, alloc, &mut disk, kept)
 }
 
 #[test]
@@ -91,46 +141,104 @@ fn stops_in_a_save(rt: HostRuntime) -> Result<(), Fail> {
     Ok(())
 }
 
-// Zeros name the first slot, and this save is to the second.
+fn save_twice(
+    rt: &impl Abort,
+    alloc: Global,
+    disk: &mut SimulatedDisk,
+) -> Result<FormingNode, Fail> {
+    let node = promised(with_promise(rt, alloc, disk)?, 129)?;
+    expect_save(rt, alloc, disk, &node, Ok(()));
+    Ok(node)
+}
+
+fn stop_third(rt: &impl Abort, alloc: Global, disk: &mut SimulatedDisk) -> Result<(), Fail> {
+    let node = promised(save_twice(rt, alloc, disk)?, 193)?;
+    disk.stop_after(3, Choice::Zero);
+    expect_save(rt, alloc, disk, &node, Err(STOPPED));
+    Ok(())
+}
+
+/// Zeros name the first slot, and this save is to the second.
+fn zero_selector(rt: &impl Abort, alloc: Global, disk: &mut SimulatedDisk) -> Result<(), Fail> {
+    stop_third(rt, alloc, disk)?;
+    expect_promise(rt, alloc, disk, 129)
+}
+
+/// An armed stop stays through a mounting.
+fn arm(rt: &impl Abort, alloc: Global, disk: &mut SimulatedDisk) -> Result<(), Fail> {
+    let node = promised(mounted(alloc, disk)?, 129)?;
+    expect_save(rt, alloc, disk, &node, Err(STOPPED));
+    Ok(())
+}
+
+fn stop_later(rt: &impl Abort, alloc: Global, disk: &mut SimulatedDisk) -> Result<(), Fail> {
+    with_promise(rt, alloc, disk)?;
+    disk.stop_after(5, Choice::Old);
+    arm(rt, alloc, disk)?;
+    expect_promise(rt, alloc, disk, 65)
+}
+
+/// The save to another disk, which is not mounted.
+fn save_elsewhere(
+    rt: &impl Abort,
+    alloc: Global,
+    disk: &mut SimulatedDisk,
+    other: &mut SimulatedDisk,
+) -> Result<(), Fail> {
+    let node = promised(with_promise(rt, alloc, disk)?, 129)?;
+    expect_save(rt, alloc, other, &node, Err(FAULT));
+    Ok(())
+}
+
+fn use_another(rt: &impl Abort, alloc: Global, disk: &mut SimulatedDisk) -> Result<(), Fail> {
+    let mut other = SimulatedDisk::new(alloc, DevSet::empty())?;
+    save_elsewhere(rt, alloc, disk, &mut other)?;
+    expect_promise(rt, alloc, &mut other, 0)
+}
+
+/// What is done with a disk.
+#[derive(Clone, Copy)]
+enum Case {
+    SaveAndMount,
+    ZeroSelector,
+    StopLater,
+    UseAnother,
+}
+
+fn act(rt: &impl Abort, alloc: Global, disk: &mut SimulatedDisk, case: Case) -> Result<(), Fail> {
+    match case {
+        Case::SaveAndMount => save_and_mount(rt, alloc, disk),
+        Case::ZeroSelector => zero_selector(rt, alloc, disk),
+        Case::StopLater => stop_later(rt, alloc, disk),
+        Case::UseAnother => use_another(rt, alloc, disk),
+    }
+}
+
+fn new_disk(alloc: Global) -> Result<SimulatedDisk, Fail> {
+    Ok(SimulatedDisk::new(alloc, DevSet::from_bits(5))?)
+}
+
+fn run(rt: &impl Abort, alloc: Global, case: Case) -> Result<(), Fail> {
+    let mut disk = new_disk(alloc)?;
+    act(rt, alloc, &mut disk, case)
+}
+
+#[test]
+fn saves_and_mountings(rt: HostRuntime) -> Result<(), Fail> {
+    run(&rt, rt.alloc(), Case::SaveAndMount)
+}
+
 #[test]
 fn zeros_in_a_save_to_the_second_slot(rt: HostRuntime) -> Result<(), Fail> {
-    let (mut disk, node) = with_promise(rt.alloc())?;
-    let Ok(node) = promised(rt.alloc(), &mut disk, node, 129)? else {
-        return Err("it is not saved".into());
-    };
-    disk.stop_after(3, Choice::Zero);
-    let Err(stopped) = promised(rt.alloc(), &mut disk, node, 193)? else {
-        return Err("it is saved".into());
-    };
-    assert_eq!(rt; stopped, STOPPED);
-    let node = mounted(rt.alloc(), &mut disk)?;
-    assert_eq!(rt; node.promised().number(), 129);
-    Ok(())
+    run(&rt, rt.alloc(), Case::ZeroSelector)
 }
 
 #[test]
 fn an_armed_stop_stays_through_a_mounting(rt: HostRuntime) -> Result<(), Fail> {
-    let (mut disk, _) = with_promise(rt.alloc())?;
-    disk.stop_after(5, Choice::Old);
-    let node = mounted(rt.alloc(), &mut disk)?;
-    let Err(stopped) = promised(rt.alloc(), &mut disk, node, 129)? else {
-        return Err("it is saved".into());
-    };
-    assert_eq!(rt; stopped, STOPPED);
-    let node = mounted(rt.alloc(), &mut disk)?;
-    assert_eq!(rt; node.promised().number(), 65);
-    Ok(())
+    run(&rt, rt.alloc(), Case::StopLater)
 }
 
 #[test]
 fn a_disk_that_is_not_mounted(rt: HostRuntime) -> Result<(), Fail> {
-    let (_, node) = with_promise(rt.alloc())?;
-    let mut disk = SimulatedDisk::new(rt.alloc(), DevSet::empty())?;
-    let Err(fault) = promised(rt.alloc(), &mut disk, node, 129)? else {
-        return Err("it is saved".into());
-    };
-    assert_eq!(rt; fault, DiskError::Lost(Loss::Fault));
-    let node = mounted(rt.alloc(), &mut disk)?;
-    assert_eq!(rt; node.promised().number(), 0);
-    Ok(())
+    run(&rt, rt.alloc(), Case::UseAnother)
 }

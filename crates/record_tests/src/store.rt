@@ -43,6 +43,22 @@ fn after_stopped_save(
     Ok(text)
 }
 
+fn expect_kept(
+    rt: &impl Abort,
+    alloc: Global,
+    in_first: bool,
+    calls: u64,
+    choice: Choice,
+    wanted: &[u8],
+) -> Result<(), Fail>
+    requires { 1 ≤ calls }
+{
+    let text = after_stopped_save(rt, alloc, in_first, calls, choice)?;
+    assert_eq!(rt; text.as_slice(), wanted);
+    Ok(())
+}
+
+// Under the choices old, new and zero.
 fn expect_save(
     rt: &impl Abort,
     alloc: Global,
@@ -52,13 +68,9 @@ fn expect_save(
 ) -> Result<(), Fail>
     requires { 1 ≤ calls }
 {
-    let old = after_stopped_save(rt, alloc, in_first, calls, Choice::Old)?;
-    assert_eq!(rt; old.as_slice(), texts[0]);
-    let new = after_stopped_save(rt, alloc, in_first, calls, Choice::New)?;
-    assert_eq!(rt; new.as_slice(), texts[1]);
-    let zero = after_stopped_save(rt, alloc, in_first, calls, Choice::Zero)?;
-    assert_eq!(rt; zero.as_slice(), texts[2]);
-    Ok(())
+    expect_kept(rt, alloc, in_first, calls, Choice::Old, texts[0])?;
+    expect_kept(rt, alloc, in_first, calls, Choice::New, texts[1])?;
+    expect_kept(rt, alloc, in_first, calls, Choice::Zero, texts[2])
 }
 
 // A stop in a call of the mounting after a save of "new" leaves "new".
