@@ -1,6 +1,6 @@
 // What the president is asked for, and updates.
 use crate::fixture::{
-    Given, check_given, expect_call, expect_goal, expect_rest, follow, given, name, node, succeed,
+    Given, check_given, disable, expect_call, expect_goal, expect_rest, given, name, node, succeed,
 };
 use ccr_tables::Config;
 use cl_base::{Ask, Method, Name, NodeId};
@@ -141,11 +141,11 @@ pub fn disable_both(
     c: &mut Config,
 ) -> Result<(), Fail> {
     expect_rest(rt, a, p, c)?;
-    follow(a, p, c, b"clrs disable b")?;
+    disable(a, p, c, b"b")?;
     assert!(rt; !p.view().resources.state(&name(b"b")?, node(1)?).faulted);
     expect_rest(rt, a, p, c)?;
     expect_goal(rt, p, 1)?;
-    follow(a, p, c, b"clrs disable a")?;
+    disable(a, p, c, b"a")?;
     expect_call(rt, a, p, c, 1, 1, b"a", Method::Stop)?;
     expect_goal(rt, p, 0)
 }

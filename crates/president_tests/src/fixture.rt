@@ -1,11 +1,9 @@
 // A configuration of two nodes, what its members report, and what is expected of their president.
-ghost use Rattle.std.specs.Prelude.{◌<◌, ◌≤◌, ◌^◌, length, IfOk};
-ghost use Rattle.cl_base.specs.Limits.{most_devices};
+ghost use Rattle.std.specs.Prelude.{◌<◌, ◌^◌, IfOk};
 
-use admin_words::parse;
-use ccr_tables::{AdminCommand, Config, Update};
+use ccr_tables::{Config, GroupChange, ResourceChange, Update};
 use cl_base::{
-    Bytes, Epoch, Header, HeaderDevices, Items, Method, Name, NodeId, NodeSet, Outcome, Version,
+    Bytes, Epoch, Header, Items, Method, MethodSet, Name, NodeId, NodeSet, Outcome, Version,
 };
 use rgm_president::President;
 use std::alloc::Global;
@@ -24,68 +22,75 @@ pub fn node(number: u64) -> Result<NodeId, Fail> {
     Ok(NodeId::new(number)?)
 }
 
-fn header(alloc: Global) -> Header
-    ensures devices { length result.devices ≤ most_devices }
-{
-    Header {
+fn first(alloc: Global) -> Result<Config, Fail> {
+    let header = Header {
         version: Version::Two,
         cluster: 42,
         nodes: 2,
         configured: NodeSet::first(2),
-        devices: HeaderDevices::new(Vec::new(alloc)),
-    }
+        devices: Items::new(Vec::new(alloc)),
+    };
+    Ok(Config::first(alloc, &header)?)
 }
 
-/// Two nodes, and nothing else.
-pub fn first(alloc: Global) -> Result<Config, Fail> {
-    Ok(Config::first(alloc, &header(alloc))?)
-}
-
-/// The group g on nodes 1 and 2, with the resources a, and b that depends on a, both of a type with
-/// START and STOP alone.
-const BASE: &[u8] = b"clrt register app script START,STOP
-clrg create g 1,2
-clrs create a g app
-clrs create b g app
-clrs set b Resource_dependencies a";
-
-const WANTED: &[u8] = b"clrg manage g
-clrg online g";
-
-/// What a and b do when a method fails.
-pub const NONE: &[u8] = b"clrs set a Failover_mode NONE
-clrs set b Failover_mode NONE";
-
-pub const SOFT: &[u8] = b"clrs set a Failover_mode SOFT
-clrs set b Failover_mode SOFT";
-
-/// The update of these words.
-fn update(alloc: Global, c: &Config, words: &[u8]) -> Result<Update, Fail> {
-    match parse(alloc, c.version(), words)? {
-        AdminCommand::Change(u) => Ok(u),
-        _ => Err(Fail::new("not an update")),
-    }
-}
-
-fn apply(alloc: Global, c: &mut Config, words: &[u8]) -> Result<(), Fail> {
-    let update = update(alloc, c, words)?;
-    c.apply(&update)?;
+fn add_type(c: &mut Config) -> Result<(), Fail> {
+    c.apply(&Update::RegisterType {
+        name: name(b"app")?,
+        agent: name(b"script")?,
+        methods: MethodSet::empty().with(Method::Start).with(Method::Stop),
+        single: false,
+        failover: false,
+    })?;
     Ok(())
 }
 
-/// These updates, one a line, are applied.
-fn change(alloc: Global, c: &mut Config, lines: &[u8]) -> Result<(), Fail> {
-    for line in lines.split(|b| *b == b'\n') {
-        apply(alloc, c, line)?;
-    }
+fn add_group(c: &mut Config, alloc: Global) -> Result<(), Fail> {
+    let nodes = vec![in alloc; node(1)?, node(2)?]?;
+    c.apply(&Update::CreateGroup {
+        group: name(b"g")?,
+        nodes: Items::new(nodes),
+    })?;
     Ok(())
 }
 
-/// The group is managed and wanted, and its resources have this Failover_mode.
-pub fn set_up(alloc: Global, c: &mut Config, mode: &[u8]) -> Result<(), Fail> {
-    change(alloc, c, BASE)?;
-    change(alloc, c, mode)?;
-    change(alloc, c, WANTED)
+fn add_resource(c: &mut Config, alloc: Global, r: &[u8], mode: &[u8]) -> Result<(), Fail> {
+    c.apply(&Update::CreateResource {
+        resource: name(r)?,
+        group: name(b"g")?,
+        resource_type: name(b"app")?,
+    })?;
+    set(c, alloc, r, b"Failover_mode", mode)
+}
+
+fn set(c: &mut Config, alloc: Global, r: &[u8], property: &[u8], value: &[u8]) -> Result<(), Fail> {
+    c.apply(&Update::SetResource {
+        resource: name(r)?,
+        property: Bytes::new(property.to_vec(alloc)?),
+        value: Bytes::new(value.to_vec(alloc)?),
+    })?;
+    Ok(())
+}
+
+fn change(c: &mut Config, change: GroupChange) -> Result<(), Fail> {
+    c.apply(&Update::ChangeGroup {
+        group: name(b"g")?,
+        change,
+    })?;
+    Ok(())
+}
+
+/// The group g on nodes 1 and 2, managed and wanted, with the resources a, and b that depends on a,
+/// both of a type with START and STOP alone, and of this Failover_mode.
+pub fn config(alloc: Global, mode: &[u8]) -> Result<Config, Fail> {
+    let mut c = first(alloc)?;
+    add_type(&mut c)?;
+    add_group(&mut c, alloc)?;
+    add_resource(&mut c, alloc, b"a", mode)?;
+    add_resource(&mut c, alloc, b"b", mode)?;
+    set(&mut c, alloc, b"b", b"Resource_dependencies", b"a")?;
+    change(&mut c, GroupChange::Manage)?;
+    change(&mut c, GroupChange::Online)?;
+    Ok(c)
 }
 
 /// No flag and no mark.
@@ -232,9 +237,12 @@ pub fn expect_goal(rt: &impl Abort, p: &President, wanted: u32) -> Result<(), Fa
     Ok(())
 }
 
-/// The update of these words is applied, and the president follows it.
-pub fn follow(alloc: Global, p: &mut President, c: &mut Config, words: &[u8]) -> Result<(), Fail> {
-    let update = update(alloc, c, words)?;
+/// The resource is disabled.
+pub fn disable(alloc: Global, p: &mut President, c: &mut Config, r: &[u8]) -> Result<(), Fail> {
+    let update = Update::ChangeResource {
+        resource: name(r)?,
+        change: ResourceChange::Disable,
+    };
     c.apply(&update)?;
     p.changed(alloc, &update, c)?;
     Ok(())

@@ -1,9 +1,8 @@
 // What is known of groups, and what changes it.
-use crate::fixture::{NONE, adopted, first, name, node, report, set_up, told, unmarked};
+use crate::fixture::{adopted, config, name, node, report, told, unmarked};
 use ccr_tables::{Config, Update};
 use cl_base::{Ask, Bytes, Items, Method, Name, NodeId, NodeSet, Outcome};
 use rg_view::{GroupAt, GroupView, Outstanding, ResourceAt};
-use rgm_president::President;
 use rgm_state::{adopt, clear_fault, end_order, is_up, resources_of, take_up, update};
 use std::alloc::Global;
 use std::process::Abort;
@@ -99,19 +98,17 @@ fn adopt_both(rt: &impl Abort, alloc: Global, c: &Config) -> Result<(), Fail> {
     expect_told(rt, &view(alloc, c)?)
 }
 
-fn president(alloc: Global, c: &Config) -> Result<President, Fail> {
+fn expect_adopted(rt: &impl Abort, alloc: Global, c: &Config) -> Result<(), Fail> {
     let reports = reports(alloc)?;
-    adopted(alloc, c, &reports)
-}
-
-fn expect_new(rt: &impl Abort, p: &President) -> Result<(), Fail> {
+    let p = adopted(alloc, c, &reports)?;
     assert_eq!(rt; p.given(), 0);
     expect_told(rt, p.view())
 }
 
-fn expect_adopted(rt: &impl Abort, alloc: Global, c: &Config) -> Result<(), Fail> {
-    let p = president(alloc, c)?;
-    expect_new(rt, &p)
+#[test]
+fn what_reports_tell(rt: HostRuntime) -> Result<(), Fail> {
+    let c = config(rt.alloc(), b"NONE")?;
+    adopt_both(&rt, rt.alloc(), &c)
 }
 
 /// g has the resources a and b, and is up on node 1.
@@ -166,10 +163,15 @@ fn follow(rt: &impl Abort, alloc: Global, view: &mut GroupView, c: &Config) -> R
     send(rt, alloc, view, c)
 }
 
-/// What changes it.
 fn with_view(rt: &impl Abort, alloc: Global, c: &Config) -> Result<(), Fail> {
     let mut view = view(alloc, c)?;
     follow(rt, alloc, &mut view, c)
+}
+
+#[test]
+fn what_changes_it(rt: HostRuntime) -> Result<(), Fail> {
+    let c = config(rt.alloc(), b"NONE")?;
+    with_view(&rt, rt.alloc(), &c)
 }
 
 /// a restarts where it has a flag, which is on node 1.
@@ -212,46 +214,13 @@ fn ask_each(rt: &impl Abort, alloc: Global, view: &mut GroupView, c: &Config) ->
     Ok(())
 }
 
-/// What is asked for.
 fn with_asks(rt: &impl Abort, alloc: Global, c: &Config) -> Result<(), Fail> {
     let mut view = view(alloc, c)?;
     ask_each(rt, alloc, &mut view, c)
 }
 
-/// What is looked at.
-#[derive(Clone, Copy)]
-enum Topic {
-    Reports,
-    Changes,
-    Asks,
-}
-
-fn act(rt: &impl Abort, alloc: Global, c: &mut Config, topic: Topic) -> Result<(), Fail> {
-    set_up(alloc, c, NONE)?;
-    match topic {
-        Topic::Reports => adopt_both(rt, alloc, c),
-        Topic::Changes => with_view(rt, alloc, c),
-        Topic::Asks => with_asks(rt, alloc, c),
-    }
-}
-
-// The one function here that owns a configuration: each that does has a long proof.
-fn know(rt: &impl Abort, alloc: Global, topic: Topic) -> Result<(), Fail> {
-    let mut c = first(alloc)?;
-    act(rt, alloc, &mut c, topic)
-}
-
-#[test]
-fn what_reports_tell(rt: HostRuntime) -> Result<(), Fail> {
-    know(&rt, rt.alloc(), Topic::Reports)
-}
-
-#[test]
-fn what_changes_it(rt: HostRuntime) -> Result<(), Fail> {
-    know(&rt, rt.alloc(), Topic::Changes)
-}
-
 #[test]
 fn what_is_asked_for(rt: HostRuntime) -> Result<(), Fail> {
-    know(&rt, rt.alloc(), Topic::Asks)
+    let c = config(rt.alloc(), b"NONE")?;
+    with_asks(&rt, rt.alloc(), &c)
 }

@@ -1,7 +1,7 @@
 // What is played with a configuration and its president, each in one function that owns it.
 use crate::asking::{ask_both, clear_one, disable_both, move_one, remaster_one};
 use crate::deciding::{fail, go_up, hold_up};
-use crate::fixture::{NONE, SOFT, begun, first, set_up, unmarked};
+use crate::fixture::{begun, config, unmarked};
 use crate::standing::{block, come_online, fault, lack};
 use ccr_tables::Config;
 use rgm_president::President;
@@ -63,19 +63,6 @@ fn with_president(
     act(rt, alloc, &mut p, c, scene)
 }
 
-fn set_up_and_act(
-    rt: &impl Abort,
-    alloc: Global,
-    c: &mut Config,
-    mode: &[u8],
-    a: Marks,
-    b: Marks,
-    scene: Scene,
-) -> Result<(), Fail> {
-    set_up(alloc, c, mode)?;
-    with_president(rt, alloc, c, a, b, scene)
-}
-
 /// Under this Failover_mode.
 fn play(
     rt: &impl Abort,
@@ -85,8 +72,8 @@ fn play(
     b: Marks,
     scene: Scene,
 ) -> Result<(), Fail> {
-    let mut c = first(alloc)?;
-    set_up_and_act(rt, alloc, &mut c, mode, a, b, scene)
+    let mut c = config(alloc, mode)?;
+    with_president(rt, alloc, &mut c, a, b, scene)
 }
 
 fn running() -> Marks {
@@ -112,17 +99,38 @@ fn stop_failed() -> Marks {
 
 #[test]
 fn one_after_the_other(rt: HostRuntime) -> Result<(), Fail> {
-    play(&rt, rt.alloc(), NONE, unmarked(), unmarked(), Scene::GoUp)
+    play(
+        &rt,
+        rt.alloc(),
+        b"NONE",
+        unmarked(),
+        unmarked(),
+        Scene::GoUp,
+    )
 }
 
 #[test]
 fn held_up(rt: HostRuntime) -> Result<(), Fail> {
-    play(&rt, rt.alloc(), NONE, unmarked(), unmarked(), Scene::HoldUp)
+    play(
+        &rt,
+        rt.alloc(),
+        b"NONE",
+        unmarked(),
+        unmarked(),
+        Scene::HoldUp,
+    )
 }
 
 #[test]
 fn start_failures(rt: HostRuntime) -> Result<(), Fail> {
-    play(&rt, rt.alloc(), SOFT, unmarked(), unmarked(), Scene::Fail)
+    play(
+        &rt,
+        rt.alloc(),
+        b"SOFT",
+        unmarked(),
+        unmarked(),
+        Scene::Fail,
+    )
 }
 
 #[test]
@@ -130,7 +138,7 @@ fn online(rt: HostRuntime) -> Result<(), Fail> {
     play(
         &rt,
         rt.alloc(),
-        NONE,
+        b"NONE",
         unmarked(),
         unmarked(),
         Scene::ComeOnline,
@@ -139,17 +147,38 @@ fn online(rt: HostRuntime) -> Result<(), Fail> {
 
 #[test]
 fn faulted_there(rt: HostRuntime) -> Result<(), Fail> {
-    play(&rt, rt.alloc(), NONE, running(), unmarked(), Scene::Fault)
+    play(
+        &rt,
+        rt.alloc(),
+        b"NONE",
+        running(),
+        unmarked(),
+        Scene::Fault,
+    )
 }
 
 #[test]
 fn blocked(rt: HostRuntime) -> Result<(), Fail> {
-    play(&rt, rt.alloc(), SOFT, running(), unmarked(), Scene::Block)
+    play(
+        &rt,
+        rt.alloc(),
+        b"SOFT",
+        running(),
+        unmarked(),
+        Scene::Block,
+    )
 }
 
 #[test]
 fn without_a_node(rt: HostRuntime) -> Result<(), Fail> {
-    play(&rt, rt.alloc(), NONE, unmarked(), unmarked(), Scene::Lack)
+    play(
+        &rt,
+        rt.alloc(),
+        b"NONE",
+        unmarked(),
+        unmarked(),
+        Scene::Lack,
+    )
 }
 
 #[test]
@@ -157,7 +186,7 @@ fn clears(rt: HostRuntime) -> Result<(), Fail> {
     play(
         &rt,
         rt.alloc(),
-        NONE,
+        b"NONE",
         stop_failed(),
         unmarked(),
         Scene::Clear,
@@ -166,17 +195,31 @@ fn clears(rt: HostRuntime) -> Result<(), Fail> {
 
 #[test]
 fn restarts_and_evacuations(rt: HostRuntime) -> Result<(), Fail> {
-    play(&rt, rt.alloc(), NONE, running(), running(), Scene::AskBoth)
+    play(
+        &rt,
+        rt.alloc(),
+        b"NONE",
+        running(),
+        running(),
+        Scene::AskBoth,
+    )
 }
 
 #[test]
 fn moves(rt: HostRuntime) -> Result<(), Fail> {
-    play(&rt, rt.alloc(), NONE, running(), running(), Scene::Move)
+    play(&rt, rt.alloc(), b"NONE", running(), running(), Scene::Move)
 }
 
 #[test]
 fn nodes_chosen_anew(rt: HostRuntime) -> Result<(), Fail> {
-    play(&rt, rt.alloc(), NONE, running(), running(), Scene::Remaster)
+    play(
+        &rt,
+        rt.alloc(),
+        b"NONE",
+        running(),
+        running(),
+        Scene::Remaster,
+    )
 }
 
 #[test]
@@ -184,7 +227,7 @@ fn disabled(rt: HostRuntime) -> Result<(), Fail> {
     play(
         &rt,
         rt.alloc(),
-        NONE,
+        b"NONE",
         running(),
         faulted(),
         Scene::DisableBoth,

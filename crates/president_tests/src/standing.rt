@@ -1,5 +1,5 @@
 // How the group stands, and why it is not online.
-use crate::fixture::{expect_call, expect_done, expect_rest, follow, name, node, succeed};
+use crate::fixture::{disable, expect_call, expect_done, expect_rest, name, node, succeed};
 use ccr_tables::Config;
 use cl_base::{GroupState, Method, Outcome, Reason};
 use rgm_president::President;
@@ -60,7 +60,7 @@ pub fn block(rt: &impl Abort, a: Global, p: &mut President, c: &Config) -> Resul
 
 /// b, which is enabled, depends on a, which is not.
 pub fn lack(rt: &impl Abort, a: Global, p: &mut President, c: &mut Config) -> Result<(), Fail> {
-    follow(a, p, c, b"clrs disable a")?;
+    disable(a, p, c, b"a")?;
     expect_rest(rt, a, p, c)?;
     let reason = Some(Reason::Dependency(name(b"a")?));
     expect(rt, a, p, c, 1, GroupState::Offline, reason)?;
