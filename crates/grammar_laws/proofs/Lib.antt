@@ -1,1 +1,4 @@
 pub mod Commands
+pub mod Events
+pub mod Fields
+pub mod Heads

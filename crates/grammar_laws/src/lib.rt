@@ -4,4 +4,4 @@
 
 mod laws;
 
-pub use laws::printed_commands_are_read;
+pub use laws::{printed_commands_are_read, read_headers_are_allowed, read_lines_are_allowed};

@@ -1,12 +1,12 @@
 -- Requests: which commands of members have come to their president, and what became of each; and that each update was asked for.
-use Rattle.std.specs.Prelude.{◌≡◌, ℕ, ◌==◌, ◌&&◌, Bool, true, false, if◌then◌else◌, List, [], ◌∷◌, ◌++◌, Option, Some, None}
+use Rattle.std.specs.Prelude.{◌≡◌, ℕ, ◌==◌, ◌&&◌, Bool, true, false, if◌then◌else◌, List, [], ◌∷◌, ◌++◌, map, Option, Some, None}
 use Rattle.std.specs.List.{list_any}
 use Rattle.std.specs.Option.{option_and_then}
 use Rattle.status_report.specs.declared.command_entry.Answer.TheVariants as answer
 use Rattle.history.specs.Moment.{Moment}
 use Rattle.history.specs.Names as name
 use Rattle.history.specs.Names.{Name, named}
-use Rattle.history.specs.Trace.{sent, delivered, propose, ack, asked, answered, gives}
+use Rattle.history.specs.Trace.{sent, delivered, start, propose, ack, asked, answered, gives}
 use Rattle.history.specs.Order.{Always, before_last, since}
 use Rattle.history.specs.Setting.{Setting, coordinator}
 use Rattle.history.specs.Letters.{Letter, letter_of}
@@ -45,14 +45,44 @@ before_asking n q moments = before_last (is_asking n q) moments
 abbrev pub command_of : Setting → ℕ → ℕ → List Moment → Option (List ℕ)
 command_of S n q before = command_before S (before_asking n q (since (is_boot n) before))
 
+-- ---- what the president has in hand
+
+-- an update of e that was proposed at this place, with its words
+pub record Proposal : Type 0 where
+  pub place : ℕ
+  pub words : List ℕ
+
+abbrev pub is_ack : ℕ → ℕ → Moment → Bool
+is_ack e v (ack f w words) = (f == e) && (w == v)
+is_ack e v _ = false
+
+-- an answer closes what is acknowledged
+abbrev pub left_by_answer : ℕ → List Moment → Option Proposal → Option Proposal
+left_by_answer e before None = None
+left_by_answer e before (Some p) = if list_any (is_ack e p.place) before then None else Some p
+
+abbrev pub is_answer : Name → Bool
+is_answer (name.Answer q) = true
+is_answer _ = false
+
+-- The proposal of e that has no answer yet: the last since e started, until its president answers a request once it is acknowledged.
+abbrev pub in_hand : ℕ → List Moment → Option Proposal
+in_hand e [] = None
+in_hand e (start f members held count ∷ before) = if f == e then None else in_hand e before
+in_hand e (propose f v words ∷ before) = if f == e then Some (record { place = v; words = words }) else in_hand e before
+in_hand e (answered n q reply ∷ before) = if n == coordinator e then left_by_answer e before (in_hand e before) else in_hand e before
+in_hand e (sent p c m called bytes ∷ before) =
+    if (c == coordinator e) && is_answer (named called) then left_by_answer e before (in_hand e before) else in_hand e before
+in_hand e (_ ∷ before) = in_hand e before
+
 -- ---- what has come to the president
 
 -- what became of a request
 pub data Stage : Type 0 where
   Waiting : Stage
-  -- an update, proposed at this place
-  Proposed : (place : ℕ) → Stage
-  -- answered without a proposal
+  -- the first answer behind the `ack` line of this place, which has its words, was its answer
+  Granted : (place : ℕ) → Stage
+  -- answered otherwise
   Answered : Stage
 
 -- the request of a member, with the canonical words of its command
@@ -75,23 +105,22 @@ with_request n q None rs = rs
 with_request n q (Some words) rs =
     if list_any (is_request_of n q) rs then rs else rs ++ (record { node = n; number = q; words = words; stage = Waiting }) ∷ []
 
--- the first of these words that waits is taken up
-abbrev pub taken_up : ℕ → List ℕ → List Request → List Request
-taken_up v words [] = []
-taken_up v words (r ∷ later) = if is_waiting words r.stage r.words then (record r { stage = Proposed v }) ∷ later else r ∷ taken_up v words later
+-- what an answer makes of a request with these words
+abbrev pub stage_by : ℕ → List Moment → List ℕ → Option Proposal → Stage
+stage_by e before words None = Answered
+stage_by e before words (Some p) = if list_any (is_ack e p.place) before && same_words words p.words then Granted p.place else Answered
 
-abbrev pub closed : Request → Stage → Request
-closed r Waiting = record r { stage = Answered }
-closed r stage = r
+abbrev pub closed : ℕ → List Moment → Request → Stage → Request
+closed e before r Waiting = record r { stage = stage_by e before r.words (in_hand e before) }
+closed e before r stage = r
 
-abbrev pub answered_in : ℕ → ℕ → List Request → List Request
-answered_in n q [] = []
-answered_in n q (r ∷ later) = if is_request_of n q r then closed r r.stage ∷ later else r ∷ answered_in n q later
+abbrev pub answered_in : ℕ → List Moment → ℕ → ℕ → List Request → List Request
+answered_in e before n q rs = map (λ r. if is_request_of n q r then closed e before r r.stage else r) rs
 
 -- the president sends m this
-abbrev pub answered_by : ℕ → Name → List Request → List Request
-answered_by m (name.Answer q) rs = answered_in m q rs
-answered_by m _ rs = rs
+abbrev pub answered_by : ℕ → List Moment → ℕ → Name → List Request → List Request
+answered_by e before m (name.Answer q) rs = answered_in e before m q rs
+answered_by e before m _ rs = rs
 
 -- the number of a Request
 abbrev pub number_asked : Name → Option ℕ
@@ -111,46 +140,44 @@ with_letter S e None rs = rs
 with_letter S e (Some l) rs = with_asked S e l (number_asked l.name) rs
 
 -- The requests that have come to the president of e, the oldest first: its own commands as they are asked, those of another member with
--- its Request.
+-- its Request. Which of them an update was proposed for is told by the answer behind its `ack` line.
 abbrev pub requests_of : Setting → ℕ → List Moment → List Request
 requests_of S e [] = []
 requests_of S e (asked n q ∷ before) =
     if (n == coordinator e) && is_number e (member_of n before) then with_request n q (command_before S before) (requests_of S e before) else requests_of S e before
 requests_of S e (delivered p m c ∷ before) =
     if (c == coordinator e) && is_number e (member_of c before) then with_letter S e (letter_of p before) (requests_of S e before) else requests_of S e before
-requests_of S e (propose f v words ∷ before) = if f == e then taken_up v words (requests_of S e before) else requests_of S e before
-requests_of S e (answered n q reply ∷ before) = if n == coordinator e then answered_in n q (requests_of S e before) else requests_of S e before
-requests_of S e (sent p c m called bytes ∷ before) = if c == coordinator e then answered_by m (named called) (requests_of S e before) else requests_of S e before
+requests_of S e (answered n q reply ∷ before) =
+    if n == coordinator e then answered_in e before n q (requests_of S e before) else requests_of S e before
+requests_of S e (sent p c m called bytes ∷ before) =
+    if c == coordinator e then answered_by e before m (named called) (requests_of S e before) else requests_of S e before
 requests_of S e (_ ∷ before) = requests_of S e before
 
--- ---- each proposal was asked for: it takes up a request that waits
+-- ---- each proposal was asked for: the request of the one before it is answered, and one that waits has its words
 
 abbrev pub IsAskedFor : Setting → List Moment → Moment → Type 0
-IsAskedFor S before (propose e v words) = list_any (λ r. is_waiting words r.stage r.words) (requests_of S e before) ≡ true
+IsAskedFor S before (propose e v words) =
+    (in_hand e before ≡ None) × (list_any (λ r. is_waiting words r.stage r.words) (requests_of S e before) ≡ true)
 IsAskedFor S before _ = Unit {0}
 
 abbrev pub Asked : Setting → List Moment → Type 0
 Asked S moments = Always (IsAskedFor S) moments
 
--- ---- `answer n q ok` to an update stands after the `ack` line of its own proposal
+-- ---- `answer n q ok` to an update stands behind the `ack` line of its own proposal: the president's answer is the one behind that line
 
-abbrev pub is_ack : ℕ → ℕ → Moment → Bool
-is_ack e v (ack f w words) = (f == e) && (w == v)
-is_ack e v _ = false
-
-abbrev pub is_acked_at : ℕ → List Moment → Stage → Bool
-is_acked_at e before (Proposed v) = list_any (is_ack e v) before
-is_acked_at e before _ = false
+abbrev pub is_granted : Stage → Bool
+is_granted (Granted v) = true
+is_granted _ = false
 
 -- what is no update needs no ack
 abbrev pub is_acked : Setting → ℕ → ℕ → Option (List ℕ) → Option ℕ → List Moment → Bool
-is_acked S n q (Some words) (Some e) before =
-    if S.is_update words then list_any (λ r. is_request_of n q r && is_acked_at e before r.stage) (requests_of S e before) else true
-is_acked S n q _ _ before = false
+is_acked S n q (Some words) (Some e) moments =
+    if S.is_update words then list_any (λ r. is_request_of n q r && is_granted r.stage) (requests_of S e moments) else true
+is_acked S n q _ _ moments = false
 
 abbrev pub IsAnswered : Setting → List Moment → Moment → Type 0
 IsAnswered S before (answered n q answer.Ok) =
-    is_acked S n q (command_before S (before_asking n q before)) (member_of n (before_asking n q before)) before ≡ true
+    is_acked S n q (command_before S (before_asking n q before)) (member_of n (before_asking n q before)) (answered n q answer.Ok ∷ before) ≡ true
 IsAnswered S before _ = Unit {0}
 
 abbrev pub AnsweredAfterAck : Setting → List Moment → Type 0

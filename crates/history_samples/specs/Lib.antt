@@ -3,6 +3,7 @@ pub mod SampleOneNode
 pub mod SampleSplit
 pub mod SampleAmnesia
 pub mod SampleMessages
+pub mod SampleRequests
 pub mod SampleContents
 pub mod SampleAnswers
 pub mod SampleValidity

@@ -26,6 +26,7 @@ ghost use Rattle.history_samples.specs.SampleSplit as split;
 ghost use Rattle.history_samples.specs.SampleSplit.{two_nodes, pair, distant};
 ghost use Rattle.history_samples.specs.SampleAmnesia as amnesia;
 ghost use Rattle.history_samples.specs.SampleMessages as messages;
+ghost use Rattle.history_samples.specs.SampleRequests as wanted;
 ghost use Rattle.history_samples.specs.SampleContents as carried;
 ghost use Rattle.history_samples.specs.SampleValidity as changing;
 ghost use Rattle.history_samples.specs.SampleJoiner as joining;
@@ -166,6 +167,9 @@ pub fn contact()
     ensures proposed_unasked { OfNewest (requests.IsAskedFor pair) amnesia.proposed_unasked → ⊥ }
     ensures proposed_twice { OfNewest (requests.IsAskedFor pair) amnesia.proposed_twice → ⊥ }
     ensures answered_too_early { OfNewest (requests.IsAnswered pair) amnesia.answered_too_early → ⊥ }
+    ensures proposed_unanswered { OfNewest (requests.IsAskedFor pair) wanted.proposed_unanswered → ⊥ }
+    ensures proposed_once_more { OfNewest (requests.IsAskedFor pair) wanted.proposed_once_more → ⊥ }
+    ensures answered_for_another { OfNewest (requests.IsAnswered pair) wanted.answered_for_another → ⊥ }
     ensures started_with_others { OfNewest contact.IsReady results.started_with_others → ⊥ }
     ensures started_without_attempt { OfNewest contact.IsReady results.started_without_attempt → ⊥ }
     ensures acked_after_an_early_answer { OfNewest contact.IsPrepared results.acked_after_an_early_answer → ⊥ }

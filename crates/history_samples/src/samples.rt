@@ -12,6 +12,7 @@ ghost use Rattle.history.specs.Requests as requests;
 ghost use Rattle.history_samples.specs.SampleOneNode.{alone, writing};
 ghost use Rattle.history_samples.specs.SampleSplit.{two_nodes, pair, split};
 ghost use Rattle.history_samples.specs.SampleAmnesia.{amnesia};
+ghost use Rattle.history_samples.specs.SampleRequests.{all_answered};
 ghost use Rattle.history_samples.specs.SampleContents.{bare, formed};
 ghost use Rattle.history_samples.specs.SampleSilence.{alone_and_silent};
 
@@ -47,6 +48,13 @@ pub fn amnesia()
     ensures placed { Placed (deeds amnesia) }
     ensures asked { requests.Asked pair amnesia }
     ensures answered { requests.AnsweredAfterAck pair amnesia }
+{}
+
+/// A member's request has the words of a command that the president itself has, and is taken up before it.
+pub fn two_ask_for_the_same()
+    ensures placed { Placed (deeds all_answered) }
+    ensures asked { requests.Asked pair all_answered }
+    ensures answered { requests.AnsweredAfterAck pair all_answered }
 {}
 
 /// Two nodes form a membership by messages, whose bytes are all there: this trace is a history.

@@ -40,15 +40,16 @@ given_at : (me : ℕ) (x : UpNode) (p : Presidency) (told : Answer) (first : Opt
 given_at me x p told None given is = (ap (λ found. record x { presidency = found }) (sym is), append-nil given)
 given_at me x p told (Some a) given is = (left_is me x p told a, refl)
 
-pub first_given : (me : ℕ) (x : UpNode) (p : Presidency) (told : Answer) (q : Queue) (s : State) (given after : List Output)
-    → x.presidency ≡ Some p → q ≡ requests_after me x.requests (first_in p.proposals.arrived) → s ≡ proposals_after me x.requests p.proposals told (first_in p.proposals.arrived)
+pub first_given : (me : ℕ) (x : UpNode) (p r : Presidency) (told : Answer) (q : Queue) (given after : List Output)
+    → x.presidency ≡ Some p → q ≡ requests_after me x.requests (first_in p.proposals.arrived)
+    → r ≡ record p { proposals = proposals_after me x.requests p.proposals told (first_in p.proposals.arrived) }
     → after ≡ given ++ answer_lines me (session_of x) x.requests told (first_in p.proposals.arrived)
-    → Gives (giving_by me x told x.presidency) given (Ok (record x { requests = q; presidency = Some (record p { proposals = s }) })) after
-first_given me x p told q s given after is here come lines =
+    → Gives (giving_by me x told x.presidency) given (Ok (record x { requests = q; presidency = Some r })) after
+first_given me x p r told q given after is here come lines =
     let first = first_in p.proposals.arrived in
     let whole : Gives (giving_at me x p told first) given (Ok (left_so x p (requests_after me x.requests first) (proposals_after me x.requests p.proposals told first))) (given ++ answer_lines me (session_of x) x.requests told first)
     = given_at me x p told first given is in
-    subst (λ found. Gives (giving_by me x told found) given (Ok (left_so x p q s)) after) (sym is)
-    (subst (λ k. Gives (giving_at me x p told first) given (Ok (left_so x p k s)) after) (sym here)
-    (subst (λ k. Gives (giving_at me x p told first) given (Ok (left_so x p (requests_after me x.requests first) k)) after) (sym come)
+    subst (λ found. Gives (giving_by me x told found) given (Ok (record x { requests = q; presidency = Some r })) after) (sym is)
+    (subst (λ (k : Presidency). Gives (giving_at me x p told first) given (Ok (record x { requests = q; presidency = Some k })) after) (sym come)
+    (subst (λ (k : Queue). Gives (giving_at me x p told first) given (Ok (left_so x p k (proposals_after me x.requests p.proposals told first))) after) (sym here)
     (subst (λ os. Gives (giving_at me x p told first) given (Ok (left_so x p (requests_after me x.requests first) (proposals_after me x.requests p.proposals told first))) os) (sym lines) whole)))

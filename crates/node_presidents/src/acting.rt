@@ -56,14 +56,12 @@ fn take_first(
     ensures plan { OnOk result (Gives (asking_by cluster.now me up.old ask up.old.presidency) out.old.items (Ok up.new) out.new.items) }
     ensures seat { up.new.seat ≡ up.old.seat }
 {
-    let Some(mut presidency) = up.presidency.take() else {
+    let Some(presidency) = &mut up.presidency else {
         return Ok(false);
     };
     let config = in_force(alloc, cluster, &mut up.made, &up.seat)?;
     let (requests, now) = (&up.requests, up.second);
-    let some = take_first_in(alloc, config, me, requests, now, ask, &mut presidency, out)?;
-    up.presidency = Some(presidency);
-    Ok(some)
+    take_first_in(alloc, config, me, requests, now, ask, presidency, out)
 }
 
 /// The same, where this is the configuration in force, and these requests of the president's own wait.

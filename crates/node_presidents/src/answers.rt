@@ -13,7 +13,7 @@ ghost use Rattle.node_model.specs.Deciding.{is_any};
 use crate::telling::{copied, tell_own};
 use cl_base::{Bytes, Epoch, NodeId};
 use node_decisions::decide;
-use node_model::{Cluster, Output, UpNode};
+use node_model::{Cluster, Output, Presidency, UpNode};
 use proposals::{Arrived, Proposals};
 use request_queue::RequestQueue;
 use status_report::{Answer, answer_text};
@@ -54,13 +54,36 @@ fn give_answer(
     ensures seat { up.new.seat ≡ up.old.seat }
 {
     let epoch = up.seat.session();
-    let Some(mut presidency) = up.presidency.take() else {
+    let Some(presidency) = &mut up.presidency else {
         return Ok(false);
     };
-    let (requests, proposals) = (&mut up.requests, &mut presidency.proposals);
-    let some = answer_in(alloc, me, epoch, requests, proposals, answer, out)?;
-    up.presidency = Some(presidency);
-    Ok(some)
+    give_in(alloc, me, epoch, &mut up.requests, presidency, answer, out)
+}
+
+/// The same, where these requests are here, by this presidency.
+fn give_in(
+    alloc: Global,
+    me: NodeId,
+    epoch: Epoch,
+    requests: &mut RequestQueue,
+    presidency: &mut Presidency,
+    answer: Answer,
+    out: &mut Vec<Output>,
+) -> Result<bool, AllocError>
+    ensures some { IfOk result (λ some. some ≡ is_any presidency.old.proposals.arrived) }
+    ensures requests { OnOk result (requests.new ≡ requests_after me requests.old (first_in presidency.old.proposals.arrived)) }
+    ensures after { OnOk result (presidency.new ≡ record presidency.old { proposals = proposals_after me requests.old presidency.old.proposals answer (first_in presidency.old.proposals.arrived) }) }
+    ensures told { OnOk result (out.new.items ≡ out.old.items ++ answer_lines me epoch requests.old answer (first_in presidency.old.proposals.arrived)) }
+{
+    answer_in(
+        alloc,
+        me,
+        epoch,
+        requests,
+        &mut presidency.proposals,
+        answer,
+        out,
+    )
 }
 
 #[tactic(auto, using(crate::proofs::Answering::nothing_answered))]

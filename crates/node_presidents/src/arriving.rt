@@ -3,13 +3,15 @@ ghost use Rattle.std.specs.Prelude.{◌≡◌, Ok, IfOk, OnOk, true};
 ghost use Rattle.node_model.specs.Plans.{Follows, Gives};
 ghost use Rattle.node_model.specs.Seats.{is_member};
 ghost use Rattle.node_model.specs.Updates.{on_asked};
+ghost use Rattle.proposals.specs.Arrivals.{arrival_of, with_arrival};
 ghost use Rattle.node_presidents.specs.Presidents.{answer_again_by, arrival_by, arriving_by, come_to, is_new, receiving};
 
+use crate::handing::hand_over;
 use crate::members::is_of_member;
 use crate::telling::copied;
 use crate::turns::handle;
 use cl_base::{Bytes, Epoch, NodeId};
-use node_model::{Cluster, Output, Stop, UpNode};
+use node_model::{Cluster, Output, Presidency, Stop, UpNode};
 use proposals::{Arrival, Arrived};
 use record_disk::RecordDisk;
 use std::alloc::{AllocError, Global};
@@ -34,12 +36,13 @@ pub fn take_request<K: RecordDisk>(
     if !is_of_member(&up, from, epoch) {
         return Ok(up);
     }
-    let request = Arrived {
-        from,
-        number,
-        text: copied(alloc, text)?,
-    };
-    arrive(alloc, cluster, me, disk, up, request, out)
+    match copied(alloc, text) {
+        Ok(text) => {
+            let request = Arrived { from, number, text };
+            arrive(alloc, cluster, me, disk, up, request, out)
+        }
+        Err(_) => hand_over(up, Err(Stop::NoMemory)),
+    }
 }
 
 #[tactic(auto, using(crate::proofs::Come::handled_then, crate::proofs::Come::nothing_follows, crate::proofs::Come::no_memory))]
@@ -57,10 +60,11 @@ pub fn arrive<K: RecordDisk>(
     requires member { is_member up.seat ≡ true }
     ensures plan { Follows K.saving (arriving_by cluster.now me up request up.presidency) out.old.items disk.old result out.new.items disk.new }
 {
-    if receive(alloc, &mut up, request, out)? {
-        return handle(alloc, cluster, me, disk, up, out);
+    match receive(alloc, &mut up, request, out) {
+        Ok(true) => handle(alloc, cluster, me, disk, up, out),
+        Ok(false) => Ok(up),
+        Err(_) => hand_over(up, Err(Stop::NoMemory)),
     }
-    Ok(up)
 }
 
 #[tactic(auto, using(crate::proofs::Come::new_received, crate::proofs::Come::again_received, crate::proofs::Come::waiting_received, crate::proofs::Come::past_received))]
@@ -93,12 +97,18 @@ fn come(up: &mut UpNode, request: Arrived) -> Result<Arrival, AllocError>
     ensures after { OnOk result (up.new ≡ come_to up.old request up.old.presidency) }
     ensures seat { up.new.seat ≡ up.old.seat }
 {
-    let Some(mut presidency) = up.presidency.take() else {
+    let Some(presidency) = &mut up.presidency else {
         return Ok(Arrival::Past);
     };
-    let arrival = presidency.proposals.arrive(request)?;
-    up.presidency = Some(presidency);
-    Ok(arrival)
+    come_in(presidency, request)
+}
+
+/// The same, to this presidency.
+fn come_in(presidency: &mut Presidency, request: Arrived) -> Result<Arrival, AllocError>
+    ensures arrival { IfOk result (λ arrival. arrival ≡ arrival_of presidency.old.proposals request.from request.number) }
+    ensures after { OnOk result (presidency.new ≡ record presidency.old { proposals = with_arrival presidency.old.proposals request (arrival_of presidency.old.proposals request.from request.number) }) }
+{
+    presidency.proposals.arrive(request)
 }
 
 /// The last answer to the node goes to it again.

@@ -10,6 +10,10 @@ pub fn hand_over(up: UpNode, done: Result<(), Stop>) -> Result<UpNode, Stop>
 {
     match done {
         Ok(()) => Ok(up),
-        Err(stop) => Err(stop),
+        Err(stop) => {
+            // Said so, the parts are let go each by its own proof.
+            drop(up);
+            Err(stop)
+        }
     }
 }

@@ -16,6 +16,7 @@ mod verdict;
 mod words;
 
 pub use arriving::{arrive, take_request};
+pub use handing::hand_over;
 pub use members::{is_in, is_member_in, is_of_member};
 pub use proposing::{acknowledge, last_place};
 pub use sending::send_prepares;

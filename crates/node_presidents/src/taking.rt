@@ -23,12 +23,11 @@ pub fn take_up(
     ensures after { OnOk result (up.new ≡ taking_up cluster.now up.old text.now) }
     ensures seat { up.new.seat ≡ up.old.seat }
 {
-    let Some(mut presidency) = up.presidency.take() else {
+    let Some(presidency) = &mut up.presidency else {
         return Ok(());
     };
     let config = in_force(alloc, cluster, &mut up.made, &up.seat)?;
-    take_under(alloc, cluster, config, &mut presidency, text)?;
-    up.presidency = Some(presidency);
+    take_under(alloc, cluster, config, presidency, text)?;
     Ok(())
 }
 

@@ -2,7 +2,6 @@
 use Rattle.std.proofs.Common.{◌≡◌, ◌&&◌, ℕ, Bool, true, false, if◌then◌else◌, Option, Some, None, Result, Ok, Err, List, refl, ap, sym, subst, ◌∙◌}
 use Rattle.cmm_member.specs.Records.{NodeRecord}
 use Rattle.proposals.specs.Proposing.{is_prepared, prepared_by}
-use Rattle.proposals.specs.State.{State}
 use Rattle.record_disk.specs.Savings.{Saving}
 use Rattle.node_model.specs.declared.cluster.Cluster.{Cluster}
 use Rattle.node_model.specs.declared.node.UpNode.{UpNode}
@@ -29,27 +28,28 @@ stays c me y = refl
 pub of_another : (c : Cluster) (me : ℕ) (x : UpNode) (from e place : ℕ) (b : Bool) → b ≡ is_of_member x from e → b ≡ false → on_prepared c me x from e place ≡ goes_on c me x false
 of_another c me x from e place b is cannot = ap (λ (k : Bool). if k then prepared_at c me x from place x.presidency else Stays x) (sym is ∙ cannot) ∙ stays c me x
 
-pub of_none : (c : Cluster) (me : ℕ) (x y : UpNode) (from e place : ℕ) (b : Bool) → b ≡ is_of_member x from e → b ≡ true → x.presidency ≡ None → y ≡ record x { presidency = None }
-    → on_prepared c me x from e place ≡ goes_on c me y false
-of_none c me x y from e place b is member none left =
+pub of_none : (c : Cluster) (me : ℕ) (x : UpNode) (from e place : ℕ) (b : Bool) → b ≡ is_of_member x from e → b ≡ true → x.presidency ≡ None
+    → on_prepared c me x from e place ≡ goes_on c me x false
+of_none c me x from e place b is member none =
     ap (λ (k : Bool). if k then prepared_at c me x from place x.presidency else Stays x) (sym is ∙ member)
     ∙ ap (λ o. prepared_at c me x from place o) none
-    ∙ ap (λ o. Stays (record x { presidency = o })) none
-    ∙ ap Stays (sym left) ∙ stays c me y
+    ∙ stays c me x
 
-pub of_president : (c : Cluster) (me : ℕ) (x y : UpNode) (p : Presidency) (q : State) (from e place : ℕ) (b last : Bool) → b ≡ is_of_member x from e → b ≡ true → x.presidency ≡ Some p
-    → q ≡ prepared_by p.proposals from place → y ≡ record x { presidency = Some (record p { proposals = q }) } → last ≡ is_prepared q
-    → on_prepared c me x from e place ≡ goes_on c me y last
-of_president c me x y p q from e place b last is member office prepared left all =
+pub of_president : (c : Cluster) (me : ℕ) (x : UpNode) (p q : Presidency) (from e place : ℕ) (b last : Bool) → b ≡ is_of_member x from e → b ≡ true → x.presidency ≡ Some p
+    → q ≡ record p { proposals = prepared_by p.proposals from place } → last ≡ is_prepared q.proposals
+    → on_prepared c me x from e place ≡ goes_on c me (record x { presidency = Some q }) last
+of_president c me x p q from e place b last is member office prepared all =
     ap (λ (k : Bool). if k then prepared_at c me x from place x.presidency else Stays x) (sym is ∙ member)
     ∙ ap (λ o. prepared_at c me x from place o) office
-    ∙ ap (λ s. prepared_so s) (sym prepared)
-    ∙ ap (λ z. if is_prepared q then and_then (acknowledging c me z) (handling c me) else Stays z) (sym left)
+    ∙ ap (λ (k : Presidency). prepared_so k) (sym prepared)
     ∙ ap (λ (k : Bool). if k then and_then (acknowledging c me y) (handling c me) else Stays y) (sym all)
     ∙ gone c me y last
   where
-    prepared_so : State → Plan
-    prepared_so s = if is_prepared s then and_then (acknowledging c me (record x { presidency = Some (record p { proposals = s }) })) (handling c me) else Stays (record x { presidency = Some (record p { proposals = s }) })
+    y : UpNode
+    y = record x { presidency = Some q }
+
+    prepared_so : Presidency → Plan
+    prepared_so k = if is_prepared k.proposals then and_then (acknowledging c me (record x { presidency = Some k })) (handling c me) else Stays (record x { presidency = Some k })
 
 pub then_handles : {K : Type 0} → (saving : K → NodeRecord → Saving K) (c : Cluster) (me : ℕ) (x y : UpNode) (given mid after : List Output) (disk between left : K) (result : Result UpNode Stop)
     → IsDone saving (acknowledging c me x) given disk y mid between → Follows saving (handling c me y) mid between result after left → Follows saving (goes_on c me x true) given disk result after left

@@ -3,11 +3,14 @@ ghost use Rattle.std.specs.Prelude.{◌≡◌, ◌++◌, OnOk, IfOk, [], if◌th
 ghost use Rattle.node_model.specs.Updates.{prepares_again, prepares_of, request_again, request_again_to, with_later};
 ghost use Rattle.node_model.specs.Seats.{coordinator_of, record_of};
 ghost use Rattle.node_updates.specs.Again.{orders_due};
+ghost use Rattle.proposals.specs.Proposing.{goes_again, ticked};
 ghost use Rattle.request_queue.specs.Queue.{oldest};
+ghost use Rattle.sent_orders.specs.Ticks as sent;
+ghost use Rattle.sent_orders.specs.Ticks.{due};
 
 use crate::queries::coordinator;
 use cl_base::NodeSet;
-use node_model::{Output, UpNode};
+use node_model::{Output, Presidency, UpNode};
 use node_presidents::{copied, send_prepares};
 use proposals::Proposed;
 use std::alloc::{AllocError, Global};
@@ -35,7 +38,7 @@ pub fn tick_requests(
     ensures orders { IfOk result (λ again. again.orders ≡ orders_due up.old.presidency) }
 {
     let request_is_due = up.requests.tick();
-    let Some(mut presidency) = up.presidency.take() else {
+    let Some(presidency) = &mut up.presidency else {
         if request_is_due {
             send_request(alloc, up, out)?;
         }
@@ -44,16 +47,41 @@ pub fn tick_requests(
             orders: NodeSet::empty(),
         });
     };
-    let prepares_are_due = presidency.proposals.tick();
-    let proposed = presidency.proposals.proposed();
-    let orders = presidency.sent.tick();
-    up.presidency = Some(presidency);
+    let Ticked {
+        prepares_are_due,
+        proposed,
+        orders,
+    } = tick_presidency(presidency);
     let prepares = prepares_if(prepares_are_due, alloc, up, proposed)?;
     Ok(Again { prepares, orders })
 }
 
+/// What a president has to send again.
+struct Ticked {
+    prepares_are_due: bool,
+    proposed: Option<Proposed>,
+    orders: NodeSet,
+}
+
+/// A tick of the presidency.
+fn tick_presidency(presidency: &mut Presidency) -> Ticked
+    ensures due { result.prepares_are_due ≡ goes_again presidency.old.proposals }
+    ensures proposed { result.proposed ≡ presidency.old.proposals.proposed }
+    ensures orders { result.orders ≡ due presidency.old.sent }
+    ensures after { presidency.new ≡ record presidency.old { proposals = ticked presidency.old.proposals; sent = sent.ticked presidency.old.sent } }
+{
+    let prepares_are_due = presidency.proposals.tick();
+    let proposed = presidency.proposals.proposed();
+    let orders = presidency.sent.tick();
+    Ticked {
+        prepares_are_due,
+        proposed,
+        orders,
+    }
+}
+
 /// The oldest request goes to the president, which is another node.
-fn send_request(alloc: Global, up: &UpNode, out: &mut Vec<Output>) -> Result<(), AllocError>
+pub fn send_request(alloc: Global, up: &UpNode, out: &mut Vec<Output>) -> Result<(), AllocError>
     ensures sent { OnOk result (out.new.items ≡ out.old.items ++ request_again_to up.now (oldest up.now.requests) (coordinator_of up.now)) }
 {
     let Some(oldest) = up.requests.oldest() else {

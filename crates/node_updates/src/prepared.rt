@@ -5,9 +5,10 @@ ghost use Rattle.node_model.specs.Plans.{Follows};
 ghost use Rattle.node_model.specs.Seats.{is_member};
 ghost use Rattle.node_model.specs.Updates.{on_prepared};
 ghost use Rattle.node_updates.specs.Preparing.{goes_on};
+ghost use Rattle.proposals.specs.Proposing.{is_prepared, prepared_by};
 
 use cl_base::{Epoch, NodeId};
-use node_model::{Cluster, Output, Stop, UpNode};
+use node_model::{Cluster, Output, Presidency, Stop, UpNode};
 use node_presidents::{acknowledge, handle, is_of_member};
 use record_disk::RecordDisk;
 use std::alloc::Global;
@@ -43,13 +44,19 @@ fn is_last(up: &mut UpNode, from: NodeId, epoch: Epoch, place: u64) -> bool
     if !is_of_member(up, from, epoch) {
         return false;
     }
-    let Some(mut presidency) = up.presidency.take() else {
+    let Some(presidency) = &mut up.presidency else {
         return false;
     };
+    prepared_in(presidency, from, place)
+}
+
+/// The same, of this presidency: whether every member has prepared the update.
+fn prepared_in(presidency: &mut Presidency, from: NodeId, place: u64) -> bool
+    ensures after { presidency.new ≡ record presidency.old { proposals = prepared_by presidency.old.proposals from place } }
+    ensures value { result ≡ is_prepared presidency.new.proposals }
+{
     presidency.proposals.prepared(from, place);
-    let is_prepared = presidency.proposals.is_prepared();
-    up.presidency = Some(presidency);
-    is_prepared
+    presidency.proposals.is_prepared()
 }
 
 #[tactic(auto, using(crate::proofs::LastPrepared::then_handles, crate::proofs::LastPrepared::stops_there))]

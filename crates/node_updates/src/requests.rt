@@ -7,15 +7,18 @@ ghost use Rattle.node_model.specs.Requests.{asking, asking_if, commanded, is_idl
 ghost use Rattle.node_model.specs.Seats.{is_in, is_member, version_of};
 ghost use Rattle.node_updates.specs.Commands.{asked_line, obeyed, read_as, request_text};
 ghost use Rattle.node_updates.specs.Replies.{heard};
-ghost use Rattle.request_queue.specs.Queue.{next_number};
+ghost use Rattle.request_queue.specs.Queue.{next_number, oldest};
+ghost use Rattle.std.specs.Option.{is_some, option_map};
+ghost use Rattle.node_model.specs.Presidents.{own_arrival};
 
-use crate::queries::{coordinator, query};
+use crate::again::send_request;
+use crate::queries::query;
 use admin_words::parse;
 use answer_words::parse_answer;
 use ccr_tables::AdminCommand;
 use cl_base::{Bytes, Epoch, NodeId};
-use node_model::{Cluster, Output, Seat, Stop, UpNode, send};
-use node_presidents::{arrive, copied, is_member_in, tell_own, word_answer};
+use node_model::{Cluster, Output, Seat, Stop, UpNode};
+use node_presidents::{arrive, copied, hand_over, is_member_in, tell_own, word_answer};
 use node_queries::reply;
 use proposals::Arrived;
 use record_disk::RecordDisk;
@@ -23,9 +26,8 @@ use request_queue::{Request, RequestQueue};
 use status_report::{Answer, CommandEntry, Entry};
 use std::alloc::{AllocError, Global};
 use update_words::{ask_words, words};
-use wire::Body;
 
-#[tactic(auto, using(crate::proofs::Commanding::takes))]
+#[tactic(auto, using(crate::proofs::Commanding::takes, crate::proofs::Memory::out_of_memory))]
 /// An administrator gives the node a command. It takes the next number, which is told first.
 pub fn take_command<K: RecordDisk>(
     alloc: Global,
@@ -38,8 +40,10 @@ pub fn take_command<K: RecordDisk>(
 ) -> Result<UpNode, Stop>
     ensures follows { Follows K.saving (on_command cluster.now me up words.now) out.old.items disk.old result out.new.items disk.new }
 {
-    let Begun { number, read } = begin_with(alloc, cluster, me, &mut up, words, out)?;
-    obey(alloc, cluster, me, disk, up, number, read, out)
+    match begin_with(alloc, cluster, me, &mut up, words, out) {
+        Ok(Begun { number, read }) => obey(alloc, cluster, me, disk, up, number, read, out),
+        Err(_) => hand_over(up, Err(Stop::NoMemory)),
+    }
 }
 
 /// A command that has its number, or what it is answered.
@@ -117,7 +121,7 @@ fn obey<K: RecordDisk>(
     }
 }
 
-#[tactic(auto, using(crate::proofs::Commanding::makes_request, crate::proofs::Commanding::makes_none))]
+#[tactic(auto, using(crate::proofs::Commanding::makes_request, crate::proofs::Commanding::makes_none, crate::proofs::Memory::out_of_memory))]
 /// A member makes a request of what is to be done, and answers a query.
 fn carry_out<K: RecordDisk>(
     alloc: Global,
@@ -132,9 +136,10 @@ fn carry_out<K: RecordDisk>(
     requires member { is_member up.seat ≡ true }
     ensures { Follows K.saving (commanded cluster.now me up number command) out.old.items disk.old result out.new.items disk.new }
 {
-    match request_text(alloc, &command)? {
-        Some(text) => queue(alloc, cluster, me, disk, up, number, text, out),
-        None => query(alloc, cluster, me, up, number, command, out),
+    match request_text(alloc, &command) {
+        Ok(Some(text)) => queue(alloc, cluster, me, disk, up, number, text, out),
+        Ok(None) => query(alloc, cluster, me, up, number, command, out),
+        Err(_) => hand_over(up, Err(Stop::NoMemory)),
     }
 }
 
@@ -149,6 +154,7 @@ fn request_text(alloc: Global, command: &AdminCommand) -> Result<Option<Bytes>, 
     }
 }
 
+#[tactic(auto, using(crate::proofs::Memory::out_of_memory))]
 /// The command's request waits behind the others. One that waits alone goes at once.
 fn queue<K: RecordDisk>(
     alloc: Global,
@@ -167,13 +173,15 @@ fn queue<K: RecordDisk>(
         return reply(me, up, number, Answer::QueueFull, out);
     }
     let alone = is_idle(&up.requests);
-    up.requests.push(Request {
+    match up.requests.push(Request {
         number,
         text,
         told: true,
         second: up.second,
-    })?;
-    ask_if(alone, alloc, cluster, me, disk, up, out)
+    }) {
+        Ok(()) => ask_if(alone, alloc, cluster, me, disk, up, out),
+        Err(_) => hand_over(up, Err(Stop::NoMemory)),
+    }
 }
 
 /// A request that waits alone goes at once.
@@ -203,6 +211,7 @@ pub fn is_idle(requests: &RequestQueue) -> bool
     requests.oldest().is_none()
 }
 
+#[tactic(auto, using(crate::proofs::Asking::asks_other, crate::proofs::Memory::out_of_memory))]
 /// The oldest request goes to the president, which may be the node itself.
 pub fn ask<K: RecordDisk>(
     alloc: Global,
@@ -215,32 +224,55 @@ pub fn ask<K: RecordDisk>(
     requires member { is_member up.seat ≡ true }
     ensures plan { Follows K.saving (asking cluster.now me up) out.old.items disk.old result out.new.items disk.new }
 {
-    let Some(oldest) = up.requests.oldest() else {
-        return Ok(up);
-    };
-    let number = oldest.number;
-    let text = copied(alloc, &oldest.text)?;
     if up.presidency.is_some() {
-        let own = Arrived {
-            from: me,
-            number,
-            text,
-        };
-        return arrive(alloc, cluster, me, disk, up, own, out);
+        return ask_oneself(alloc, cluster, me, disk, up, out);
     }
-    if let Some(president) = coordinator(&up) {
-        let epoch = up.seat.session();
-        let body = Body::Request {
-            epoch,
-            number,
-            text,
-        };
-        send(out, president, body)?;
+    match send_request(alloc, &up, out) {
+        Ok(()) => Ok(up),
+        Err(_) => hand_over(up, Err(Stop::NoMemory)),
     }
-    Ok(up)
 }
 
-#[tactic(auto, using(crate::proofs::Replying::takes_answer, crate::proofs::Replying::takes_none))]
+#[tactic(auto, using(crate::proofs::Asking::asks_own, crate::proofs::Asking::asks_nothing, crate::proofs::Memory::out_of_memory))]
+/// The oldest request comes to the node itself, which is the president.
+fn ask_oneself<K: RecordDisk>(
+    alloc: Global,
+    cluster: &Cluster,
+    me: NodeId,
+    disk: &mut K,
+    up: UpNode,
+    out: &mut Vec<Output>,
+) -> Result<UpNode, Stop>
+    requires member { is_member up.seat ≡ true }
+    requires president { is_some up.presidency ≡ true }
+    ensures plan { Follows K.saving (asking cluster.now me up) out.old.items disk.old result out.new.items disk.new }
+{
+    match own_request(alloc, me, &up.requests) {
+        Ok(Some(own)) => arrive(alloc, cluster, me, disk, up, own, out),
+        Ok(None) => Ok(up),
+        Err(_) => hand_over(up, Err(Stop::NoMemory)),
+    }
+}
+
+/// The oldest request, as it comes to the node's own president.
+fn own_request(
+    alloc: Global,
+    me: NodeId,
+    requests: &RequestQueue,
+) -> Result<Option<Arrived>, AllocError>
+    ensures value { IfOk result (λ own. own ≡ option_map (own_arrival me) (oldest requests.now)) }
+{
+    match requests.oldest() {
+        Some(oldest) => Ok(Some(Arrived {
+            from: me,
+            number: oldest.number,
+            text: copied(alloc, &oldest.text)?,
+        })),
+        None => Ok(None),
+    }
+}
+
+#[tactic(auto, using(crate::proofs::Replying::takes_answer, crate::proofs::Replying::takes_none, crate::proofs::Memory::out_of_memory))]
 /// The president answers: the answer to the oldest request is told, and the next one goes.
 pub fn take_reply<K: RecordDisk>(
     alloc: Global,
@@ -255,9 +287,10 @@ pub fn take_reply<K: RecordDisk>(
 ) -> Result<UpNode, Stop>
     ensures follows { Follows K.saving (on_reply cluster.now me up epoch number (answer_in text.now)) out.old.items disk.old result out.new.items disk.new }
 {
-    match read_answer(alloc, &up, epoch, text)? {
-        Some(answer) => take_answer(alloc, cluster, me, disk, up, number, answer, out),
-        None => Ok(up),
+    match read_answer(alloc, &up, epoch, text) {
+        Ok(Some(answer)) => take_answer(alloc, cluster, me, disk, up, number, answer, out),
+        Ok(None) => Ok(up),
+        Err(_) => hand_over(up, Err(Stop::NoMemory)),
     }
 }
 
@@ -277,6 +310,7 @@ fn read_answer(
     parse_answer(alloc, text)
 }
 
+#[tactic(auto, using(crate::proofs::Memory::out_of_memory))]
 fn take_answer<K: RecordDisk>(
     alloc: Global,
     cluster: &Cluster,
@@ -293,6 +327,8 @@ fn take_answer<K: RecordDisk>(
     let Some(request) = up.requests.answer(number) else {
         return Ok(up);
     };
-    tell_own(me, Some(request), answer, out)?;
-    ask(alloc, cluster, me, disk, up, out)
+    match tell_own(me, Some(request), answer, out) {
+        Ok(()) => ask(alloc, cluster, me, disk, up, out),
+        Err(_) => hand_over(up, Err(Stop::NoMemory)),
+    }
 }

@@ -1,262 +1,209 @@
-use crate::known::{Known, add_group, begun, name, node, set_flag, set_goal};
-use cl_base::{Method, MethodSet, Name, NodeId};
-use rg_props::Flag;
-use rg_view::{Outstanding, ResourceAt};
-use rt_types::ResourceType;
-use sequencer::{Outlook, allowed, next_call};
-use std::alloc::Global;
-use std::process::Abort;
+// Which calls are allowed, and which comes first. Nodes 1 and 2 are members. The calls are told node
+// by node, on each in the order of resources.
+use crate::scene::{script, table};
+use cl_base::Version;
 use std::test::Fail;
 
-/// A call that is allowed: the node, the resource and the method.
-type Call = (u64, Name, Method);
+/// Group db with resource s and group web with resource r, of a type with START and STOP alone. The
+/// goal of web is node 1, and db has none.
+const R_IS_DOWN: &[u8] = b"clrt register app obedient START,STOP
+clrg create db 1,2
+clrg create web 1,2
+clrs create s db app
+clrs create r web app
+goal web 1";
 
-/// The methods that are called on nodes.
-const METHODS: [Method; 6] = [
-    Method::PrenetStart,
-    Method::Start,
-    Method::MonitorStart,
-    Method::MonitorStop,
-    Method::Stop,
-    Method::PostnetStop,
-];
+/// Each condition of START of r on node 1, met and not met.
+const START: &[u8] = b"calls = 1 r START
+members 2|calls =
+goal web none|calls =
+goal web 2|calls = 2 r START
+clrg set web Nodelist 2|calls =
+state r 2 stop-failed|calls =
+state r 3 stop-failed|calls = 1 r START
+state s 1 stop-failed|calls = 1 r START
+state r 1 faulted|calls =
+state r 2 faulted|calls = 1 r START
+clrs disable r|calls =
+restarting r 1|calls =
+restarting r 2|calls = 1 r START
+state r 2 run|calls = 2 r STOP
+state r 2 run|clrg set web Maximum_primaries 2|calls = 1 r START 2 r STOP
+order 2 START r|calls =
+order 2 START r|clrg set web Maximum_primaries 2|calls = 1 r START
+state r 3 run|calls = 1 r START
+clnode create-loadlimit 1 mem 5 10|clrg set web Load_factors mem@11|calls =
+clnode create-loadlimit 1 mem 5 10|clrg set web Load_factors mem@10|calls = 1 r START
+clnode create-loadlimit 2 mem 5 10|clrg set web Load_factors mem@11|calls = 1 r START
+clnode create-loadlimit 1 mem 5 10|clrg set web Load_factors mem@6|clrg set db Load_factors mem@5|goal db 1|state s 1 run|calls =
+clnode create-loadlimit 1 mem 5 10|clrg set web Load_factors mem@6|clrg set db Load_factors mem@4|goal db 1|state s 1 run|calls = 1 r START
+clnode create-loadlimit 1 mem 5 10|clrg set web Load_factors mem@6|clrg set db Load_factors mem@5|goal db 2|state s 2 run|calls = 1 r START
+clrs set r Resource_dependencies s|calls =
+clrs set r Resource_dependencies s|goal db 2|state s 2 run|calls = 1 r START
+clrs set r Resource_dependencies s|goal db 2|state s 2 run|order 2 STOP s|calls =
+clrs set r Resource_dependencies s|state s 2 run|calls = 2 s STOP
+clrs set r Resource_dependencies s|goal db 2|state s 2 run|clrs disable s|calls = 2 s STOP
+clrs set r Resource_dependencies s|clrg set db Maximum_primaries 2|goal db 1|state s 1 run|state s 2 run|calls = 1 r START 2 s STOP
+clrs set r Resource_dependencies_offline_restart s|calls =
+clrs set r Resource_dependencies_offline_restart s|goal db 2|state s 2 run|calls = 1 r START
+clrs set r Resource_dependencies_offline_restart s|clrg set db Maximum_primaries 2|goal db 1|state s 1 run|state s 2 run|calls = 2 s STOP
+clrs create q web app|clrs set q Resource_dependencies r|clrg set web Maximum_primaries 2|goal web 1,2|state r 2 run|calls = 1 r START 2 q START
+clrg set web RG_dependencies db|calls =
+clrg set web RG_dependencies db|goal db 2|state s 2 run|calls = 1 r START
+clrg set web RG_dependencies db|clrs create t db app|goal db 2|state s 2 run|calls = 2 t START
+clrg set web RG_dependencies db|clrs create t db app|clrs disable t|goal db 2|state s 2 run|calls = 1 r START
+clrg set web RG_dependencies db|clrs disable s|goal db 2|calls =
+clrg set web RG_affinities ++db|calls =
+clrg set web RG_affinities ++db|goal db 1|state s 1 run|calls = 1 r START
+clrg set web RG_affinities ++db|goal db 2|state s 2 run|calls =
+clrg set web RG_affinities ++db|clrs create t db app|clrs disable t|goal db 1|state s 1 run|state t 1 run|calls = 1 t STOP
+clrg set web RG_affinities +++db|goal db 1|state s 1 run|calls = 1 r START
+clrg set web RG_affinities +++db|goal db 2|state s 2 run|calls =
+clrg set web RG_affinities +++db|clrs create t db app|clrs disable t|goal db 1|state s 1 run|state t 1 run|calls = 1 t STOP
+clrg set web RG_affinities --db|goal db 1|state s 1 run|calls =
+clrg set web RG_affinities --db|goal db 2|state s 2 run|calls = 1 r START
+clrg set web RG_affinities --db|order 1 START s|calls =
+clrg set db RG_affinities --web|goal db 1|state s 1 run|calls =
+clrg set db RG_affinities --web|goal db 2|state s 2 run|calls = 1 r START
+clrg set web RG_affinities +db,-db|calls = 1 r START
+clrg set web RG_affinities +db,-db|goal db 1|state s 1 run|calls = 1 r START
+clrs set r Resource_dependencies_weak s|calls = 1 r START
+clrs set r Resource_dependencies_weak s|goal db 2|calls = 2 s START
+clrs set r Resource_dependencies_weak s|goal db 2|state s 2 run|calls = 1 r START
+clrs set r Resource_dependencies_weak s|goal db 2|state s 2 run|order 2 STOP s|calls =
+clrs create q web app|clrs set q Resource_dependencies_weak r|clrg set web Maximum_primaries 2|goal web 1,2|state r 2 run|calls = 1 r START 2 q START";
 
-/// A type of this name with these methods.
-fn register(k: &mut Known, t: &Name, methods: &[Method]) -> Result<(), Fail> {
-    let mut set = MethodSet::empty();
-    for m in methods {
-        set = set.with(*m);
-    }
-    let Ok(made) = ResourceType::new(*t, set, false, false) else {
-        return Err(Fail::new("type"));
-    };
-    if k.types.resource_type(t).is_some() {
-        return Err(Fail::new("is there"));
-    }
-    k.types
-        .register(*t, made)
-        .map_err(|_| Fail::new("no memory"))
+#[test]
+fn conditions_of_start(rt: HostRuntime) -> Result<(), Fail> {
+    table(&rt, rt.alloc(), R_IS_DOWN, START)
 }
 
-fn add_typed(k: &mut Known, r: &Name, group: &Name, t: &Name) -> Result<(), Fail> {
-    if k.groups.resource(r).is_some() {
-        return Err(Fail::new("is there"));
-    }
-    k.groups
-        .create_resource(*r, *group, *t)
-        .map_err(|_| Fail::new("no memory"))
+/// The same two groups; r has every method, and runs on node 1 without its monitor.
+const R_RUNS: &[u8] = b"clrt register app obedient START,STOP
+clrt register full obedient PRENET_START,START,MONITOR_START,MONITOR_STOP,STOP,POSTNET_STOP
+clrg create db 1,2
+clrg create web 1,2
+clrs create s db app
+clrs create r web full
+goal web 1
+state r 1 pre,run";
+
+/// Each of the six reasons to go down, and each condition of STOP: of r on node 1, or of s.
+const STOP: &[u8] = b"calls = 1 r MONITOR_START
+goal web 2|calls = 1 r STOP
+clrs disable r|calls = 1 r STOP
+restarting r 1|calls = 1 r STOP
+restarting r 2|calls = 1 r MONITOR_START
+clrs set r Resource_dependencies s|calls = 1 r STOP
+clrs set r Resource_dependencies s|goal db 2|state s 2 run|calls = 1 r MONITOR_START
+clrs set r Resource_dependencies s|goal db 2|state s 2 run|clrs disable s|calls = 1 r STOP
+clrs set r Resource_dependencies s|goal db 2|state s 2 run|order 2 STOP s|calls =
+clrs set r Resource_dependencies s|clrg set db Maximum_primaries 2|goal db 1|state s 1 run|state s 2 run|calls = 1 r MONITOR_START 2 s STOP
+clrs set r Resource_dependencies_offline_restart s|calls = 1 r STOP
+clrs set r Resource_dependencies_offline_restart s|goal db 2|state s 2 run|calls = 1 r MONITOR_START
+clrs set r Resource_dependencies_offline_restart s|clrg set db Maximum_primaries 2|goal db 1|state s 1 run|state s 2 run|calls = 1 r STOP 2 s STOP
+clrg set web RG_affinities ++db|goal db 1|state s 1 run|calls = 1 r MONITOR_START
+clrg set web RG_affinities ++db|state s 1 run|calls = 1 r STOP
+clrg set web RG_affinities +++db|state s 1 run|calls = 1 r STOP
+clrg set web RG_affinities ++db|state s 2 run|calls = 1 r MONITOR_START 2 s STOP
+clrg set web RG_affinities +db,-db,--db|state s 1 run|calls = 1 s STOP 1 r MONITOR_START
+goal web 2|state r 1 none|calls = 2 r PRENET_START
+goal web 2|state r 1 pre,run,mon|calls = 1 r MONITOR_STOP
+goal web 2|state r 2 stop-failed|calls =
+goal web 2|state s 2 stop-failed|calls = 1 r STOP
+goal web 2|members 2|calls = 2 r PRENET_START
+clrs set r Resource_dependencies s|state s 2 run|calls = 1 r STOP
+clrs set r Resource_dependencies s|state s 2 run|state r 1 pre|calls = 1 r POSTNET_STOP
+clrs set r Resource_dependencies s|state s 2 run|state r 1 none|calls = 2 s STOP
+clrs set r Resource_dependencies s|state s 2 run|state r 1 none|order 1 START r|calls =
+clrs set r Resource_dependencies_offline_restart s|state s 2 run|calls = 1 r STOP
+clrs set r Resource_dependencies_weak s|state s 2 run|calls = 1 r MONITOR_START 2 s STOP
+clrs create q web app|clrs set q Resource_dependencies r|clrg set web Maximum_primaries 2|goal web 2|state q 1 run|state r 2 pre,run|calls = 1 q STOP 2 r MONITOR_START 2 q START
+clrs create q web app|clrs set q Resource_dependencies r|clrg set web Maximum_primaries 2|goal web 2|state r 2 pre,run|calls = 1 r STOP 2 r MONITOR_START 2 q START
+clrg set web RG_affinities ++db|state s 1 run|state r 1 none|calls = 1 s STOP
+clrg set web RG_affinities ++db|state s 1 run|state r 1 none|order 1 START r|calls =
+clrg set web RG_affinities +++db|state s 1 run|state r 1 none|order 1 START r|calls =
+clrg set web RG_affinities --db|state s 1 run|state r 1 none|order 1 START r|calls = 1 s STOP
+clrg set web RG_dependencies db|state s 2 run|calls = 1 r MONITOR_START 2 s STOP
+clrg set web RG_dependencies db|state s 2 run|goal web none|state r 1 none|order 1 PRENET_START r|calls =
+clrg set web RG_dependencies db|state s 2 run|goal web none|state r 1 none|order 1 START r|calls =
+clrg set web RG_dependencies db|state s 2 run|goal web none|state r 1 none|calls = 2 s STOP
+clrg set web RG_dependencies db|state s 2 run|order 1 MONITOR_START r|calls = 1 r MONITOR_START 2 s STOP
+clrg set web RG_dependencies db|state s 2 run|order 1 STOP r|calls = 1 r MONITOR_START 2 s STOP
+state s 2 run|state r 1 pre|order 1 START r|calls = 1 r START 2 s STOP
+clrg set web RG_dependencies db|clrg set db Maximum_primaries 2|goal db 1|state s 1 run|state s 2 run|state r 1 pre|order 1 START r|calls = 1 r START 2 s STOP";
+
+#[test]
+fn conditions_of_stop(rt: HostRuntime) -> Result<(), Fail> {
+    table(&rt, rt.alloc(), R_RUNS, STOP)
 }
 
-/// Group web on nodes 1 and 2 with resource r, which has every method. Its goal is node 1.
-fn with_all_methods(k: &mut Known, web: &Name, r: &Name) -> Result<(), Fail> {
-    register(k, web, &METHODS)?;
-    add_group(k, web, &[node(1)?, node(2)?])?;
-    add_typed(k, r, web, web)?;
-    set_goal(k, web, 1)
+/// The methods of a type, and which of them come one after another.
+const STEPS: &[u8] = b"state r 1 none|calls = 1 r PRENET_START
+state r 1 pre|calls = 1 r START
+state r 1 run|calls = 1 r MONITOR_START
+state r 1 pre,run|calls = 1 r MONITOR_START
+state r 1 pre,run,mon|calls =
+state r 1 pre,run,monitor-failed|calls =
+clrs unmonitor r|calls =
+clrs unmonitor r|state r 1 pre,run,mon|calls = 1 r MONITOR_STOP
+goal web 2|state r 1 pre,run,mon|calls = 1 r MONITOR_STOP
+goal web 2|state r 1 pre,mon|calls = 1 r MONITOR_STOP
+goal web 2|state r 1 pre,run|calls = 1 r STOP
+goal web 2|state r 1 run|calls = 1 r STOP
+goal web 2|state r 1 pre|calls = 1 r POSTNET_STOP
+clrs delete s|clrs create s web app|state s 1 run|calls = 1 r MONITOR_START
+clrs delete s|clrs create s web app|goal web 2|state s 1 run|state r 1 none|calls = 1 s STOP
+clrs delete s|clrs create s web app|goal web 2|state s 1 pre|state r 1 none|calls =";
+
+#[test]
+fn steps_of_methods(rt: HostRuntime) -> Result<(), Fail> {
+    table(&rt, rt.alloc(), R_RUNS, STEPS)
 }
 
-/// Group db with resource s, then group web with resource r, each on nodes 1 and 2, of types with
-/// START and STOP alone. The goal of both is node 1.
-fn with_two_groups(k: &mut Known, db: &Name, s: &Name, web: &Name, r: &Name) -> Result<(), Fail> {
-    register(k, web, &[Method::Start, Method::Stop])?;
-    add_group(k, db, &[node(1)?, node(2)?])?;
-    add_group(k, web, &[node(1)?, node(2)?])?;
-    add_typed(k, s, db, web)?;
-    add_typed(k, r, web, web)?;
-    set_goal(k, db, 1)?;
-    set_goal(k, web, 1)
-}
-
-/// The flags pre, run and mon of the resource on the node, and no mark.
-fn flags(k: &mut Known, n: u64, r: &Name, pre: bool, run: bool, mon: bool) -> Result<(), Fail> {
-    let mut state = ResourceAt::unmarked(*r, node(n)?);
-    state.pre = pre;
-    state.run = run;
-    state.mon = mon;
-    put(k, state)
-}
-
-fn put(k: &mut Known, state: ResourceAt) -> Result<(), Fail> {
-    k.view
-        .resources
-        .put(state)
-        .map_err(|_| Fail::new("no memory"))
-}
-
-/// It runs on the node, or is down there.
-fn runs(k: &mut Known, n: u64, r: &Name, run: bool) -> Result<(), Fail> {
-    flags(k, n, r, false, run, false)
-}
-
-/// An order of this method for the resource is outstanding on the node.
-fn order(k: &mut Known, n: u64, r: &Name, m: Method) -> Result<(), Fail> {
-    let o = Outstanding {
-        node: node(n)?,
-        number: 1,
-        resource: *r,
-        method: Some(m),
-    };
-    if k.view.outstanding.at(o.node).is_some() {
-        return Err(Fail::new("has one"));
-    }
-    k.view
-        .outstanding
-        .put(o)
-        .map_err(|_| Fail::new("no memory"))
-}
-
-/// The order of the node is done.
-fn done(k: &mut Known, n: u64) -> Result<(), Fail> {
-    k.view.outstanding.take(node(n)?);
-    Ok(())
-}
-
-fn outlook(alloc: Global, k: &Known, resources: &[Name]) -> Result<Outlook, Fail> {
-    Outlook::find(alloc, &k.groups, &k.types, &k.limits, &k.view, resources).map_err(|_| Fail::new(
-        "no memory",
-    ))
-}
-
-fn method_at(calls: &[Call], n: u64, r: &Name) -> Option<Method> {
-    calls
-        .iter()
-        .find(|call| call.0 == n && call.1 == *r)
-        .map(|call| call.2)
-}
-
-/// Of the resource's methods this one is allowed on the node, and no other.
-fn expect_at(
-    rt: &impl Abort,
-    k: &Known,
-    outlook: &Outlook,
-    n: NodeId,
-    r: &Name,
-    wanted: Option<Method>,
-) {
-    for m in METHODS {
-        let found = allowed(&k.groups, &k.types, &k.limits, &k.view, outlook, n, r, m);
-        assert_eq!(rt; found, wanted == Some(m));
-    }
-}
-
-fn expect_on(
-    rt: &impl Abort,
-    k: &Known,
-    outlook: &Outlook,
-    resources: &[Name],
-    n: u64,
-    calls: &[Call],
-) -> Result<(), Fail> {
-    let at = node(n)?;
-    for r in resources {
-        expect_at(rt, k, outlook, at, r, method_at(calls, n, r));
-    }
-    Ok(())
-}
-
-/// On nodes 1 and 2 these calls of the resources are allowed, and no others.
-fn expect(
-    rt: &impl Abort,
-    alloc: Global,
-    k: &Known,
-    resources: &[Name],
-    calls: &[Call],
-) -> Result<(), Fail> {
-    let outlook = outlook(alloc, k, resources)?;
-    expect_on(rt, k, &outlook, resources, 1, calls)?;
-    expect_on(rt, k, &outlook, resources, 2, calls)
-}
-
-/// This call comes first on the node.
-fn expect_next(
-    rt: &impl Abort,
-    alloc: Global,
-    k: &Known,
-    resources: &[Name],
-    n: u64,
-    wanted: Option<(Name, Method)>,
-) -> Result<(), Fail> {
-    let outlook = outlook(alloc, k, resources)?;
-    let found = next_call(
-        &k.groups,
-        &k.types,
-        &k.limits,
-        &k.view,
-        &outlook,
-        resources,
-        node(n)?,
-    );
-    assert_eq!(rt; found, wanted);
-    Ok(())
-}
+/// Up on node 1, and then down there. Node 2 waits, since the group may be up on one node.
+const UP_AND_DOWN: &[u8] = b"state r 1 none
+calls = 1 r PRENET_START
+state r 1 pre
+calls = 1 r START
+state r 1 pre,run
+calls = 1 r MONITOR_START
+clrs unmonitor r
+calls =
+state r 1 pre,run,mon
+calls = 1 r MONITOR_STOP
+clrs monitor r
+calls =
+goal web 2
+calls = 1 r MONITOR_STOP
+state r 1 pre,run
+calls = 1 r STOP
+state r 1 pre
+calls = 1 r POSTNET_STOP
+order 1 POSTNET_STOP r
+state r 1 none
+calls =
+done 1
+calls = 2 r PRENET_START";
 
 #[test]
 fn one_step_after_the_other(rt: HostRuntime) -> Result<(), Fail> {
-    let (web, r) = (name(b"web")?, name(b"r")?);
-    let mut k = begun(rt.alloc());
-    with_all_methods(&mut k, &web, &r)?;
-    goes_up(&rt, rt.alloc(), &mut k, &r)?;
-    set_goal(&mut k, &web, 2)?;
-    goes_down(&rt, rt.alloc(), &mut k, &r)
+    script(&rt, rt.alloc(), Version::Two, R_RUNS, UP_AND_DOWN)
 }
 
-fn goes_up(rt: &impl Abort, alloc: Global, k: &mut Known, r: &Name) -> Result<(), Fail> {
-    expect(rt, alloc, k, &[*r], &[(1, *r, Method::PrenetStart)])?;
-    flags(k, 1, r, true, false, false)?;
-    expect(rt, alloc, k, &[*r], &[(1, *r, Method::Start)])?;
-    flags(k, 1, r, true, true, false)?;
-    expect(rt, alloc, k, &[*r], &[(1, *r, Method::MonitorStart)])?;
-    set_flag(k, r, Flag::Monitored, false)?;
-    expect(rt, alloc, k, &[*r], &[])?;
-    flags(k, 1, r, true, true, true)?;
-    expect(rt, alloc, k, &[*r], &[(1, *r, Method::MonitorStop)])?;
-    set_flag(k, r, Flag::Monitored, true)?;
-    expect(rt, alloc, k, &[*r], &[])
-}
-
-/// Node 2 waits, since the group may be up on one node.
-fn goes_down(rt: &impl Abort, alloc: Global, k: &mut Known, r: &Name) -> Result<(), Fail> {
-    expect(rt, alloc, k, &[*r], &[(1, *r, Method::MonitorStop)])?;
-    flags(k, 1, r, true, true, false)?;
-    expect(rt, alloc, k, &[*r], &[(1, *r, Method::Stop)])?;
-    flags(k, 1, r, true, false, false)?;
-    expect(rt, alloc, k, &[*r], &[(1, *r, Method::PostnetStop)])?;
-    order(k, 1, r, Method::PostnetStop)?;
-    flags(k, 1, r, false, false, false)?;
-    expect(rt, alloc, k, &[*r], &[])?;
-    done(k, 1)?;
-    expect(rt, alloc, k, &[*r], &[(2, *r, Method::PrenetStart)])
-}
-
-fn four_names() -> Result<(Name, Name, Name, Name), Fail> {
-    Ok((name(b"db")?, name(b"s")?, name(b"web")?, name(b"r")?))
-}
+const FIRST_AND_LAST: &[u8] = b"goal db 1
+next 1 = s START
+next 2 =
+state r 1 run
+goal web none
+next 1 = r STOP
+state s 1 run
+goal db none
+next 1 = r STOP
+state r 1 none
+next 1 = s STOP";
 
 #[test]
 fn which_comes_first(rt: HostRuntime) -> Result<(), Fail> {
-    let (db, s, web, r) = four_names()?;
-    let mut k = begun(rt.alloc());
-    with_two_groups(&mut k, &db, &s, &web, &r)?;
-    first_and_last(&rt, rt.alloc(), &mut k, &db, &s, &web, &r)
-}
-
-fn first_and_last(
-    rt: &impl Abort,
-    alloc: Global,
-    k: &mut Known,
-    db: &Name,
-    s: &Name,
-    web: &Name,
-    r: &Name,
-) -> Result<(), Fail> {
-    expect_next(rt, alloc, k, &[*s, *r], 1, Some((*s, Method::Start)))?;
-    expect_next(rt, alloc, k, &[*s, *r], 2, None)?;
-    runs(k, 1, r, true)?;
-    set_goal(k, web, 0)?;
-    expect_next(rt, alloc, k, &[*s, *r], 1, Some((*r, Method::Stop)))?;
-    runs(k, 1, s, true)?;
-    set_goal(k, db, 0)?;
-    expect_next(rt, alloc, k, &[*s, *r], 1, Some((*r, Method::Stop)))?;
-    runs(k, 1, r, false)?;
-    expect_next(rt, alloc, k, &[*s, *r], 1, Some((*s, Method::Stop)))
+    script(&rt, rt.alloc(), Version::Two, R_IS_DOWN, FIRST_AND_LAST)
 }

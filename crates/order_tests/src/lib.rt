@@ -2,10 +2,16 @@
 #![tactic(auto)]
 
 #[cfg(test)]
-mod calls;
+mod answers;
 #[cfg(test)]
-mod known;
+mod calls;
 #[cfg(test)]
 mod orders;
 #[cfg(test)]
 mod places;
+#[cfg(test)]
+mod scene;
+#[cfg(test)]
+mod view;
+#[cfg(test)]
+mod words;

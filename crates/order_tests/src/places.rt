@@ -1,272 +1,259 @@
-use crate::known::{
-    Known, add_group, add_resource, begun, name, node, set_flag, set_goal, set_group, set_resource,
-    set_state, two_groups, with_loads,
-};
-use cl_base::{Name, NodeSet, Reason, Seconds};
-use placement::{Score, eligible, goal, is_fixed};
-use rg_props::Flag;
-use rg_view::GroupAt;
-use std::alloc::Global;
-use std::process::Abort;
+// Where a group may run, and which nodes are its goal. Nodes 1 and 2 are members, and it is second
+// 5000; Pingpong_interval is 3600.
+use crate::scene::{script, table};
+use cl_base::Version;
 use std::test::Fail;
 
-fn set_history(
-    k: &mut Known,
-    group: &Name,
-    n: u64,
-    failures: Seconds,
-    moves: Seconds,
-) -> Result<(), Fail> {
-    let at = GroupAt {
-        group: *group,
-        node: node(n)?,
-        failures,
-        moves,
-    };
-    k.view.groups.put(at).map_err(|_| Fail::new("no memory"))
+/// Group web with resource r, and group db with resource s, both wanted on nodes 1 and 2.
+const TWO_GROUPS: &[u8] = b"clrt register app obedient START,STOP
+clrg create db 1,2
+clrg create web 1,2
+clrg manage db
+clrg manage web
+clrg online db
+clrg online web
+clrs create r web app
+clrs create s db app";
+
+/// Each reason is the first one that fits.
+const EACH_REASON: &[u8] = b"place web 1 = 0 0 0
+clrg unmanage web|place web 1 = unmanaged
+clrg offline web|place web 1 = offline
+clrg suspend web|place web 1 = suspended
+clrs disable r|place web 1 = empty
+clrs delete r|place web 1 = empty
+members 2|place web 1 = not-member
+state r 1 stop-failed|place web 1 = stop-failed
+state r 2 stop-failed|place web 1 = stop-failed
+state r 3 stop-failed|place web 1 = 0 0 0
+state s 1 stop-failed|place web 1 = 0 0 0
+evacuated web 1|place web 1 = evacuated
+evacuated web 2|place web 1 = 0 0 0
+history web 1 1401,1402 none|place web 1 = start-failed
+history web 1 1400,1401 none|place web 1 = 1 0 0
+history web 2 1401,1402 none|place web 1 = 0 0 0
+history web 1 none 1401|place web 1 = moved
+history web 1 none 1400|place web 1 = 0 0 0
+history web 2 none 1401|place web 1 = 0 0 0
+leaving web 1|place web 1 = leaving
+leaving web 2|place web 1 = 0 0 0
+clrg set web RG_affinities ++db|goal db 2|place web 1 = affinity db
+clrg set web RG_affinities ++db|goal db 1|place web 1 = 0 0 0
+clrg set web RG_affinities +++db|goal db 2|place web 1 = affinity db
+clrg set web RG_affinities +++db|goal db 1|place web 1 = 0 0 0
+clrg set web RG_affinities --db|goal db 1|place web 1 = affinity db
+clrg set web RG_affinities --db|goal db 2|place web 1 = 0 0 0
+clrg set web RG_affinities +db,-db|goal db 2|place web 1 = 0 0 0
+clrg set web RG_dependencies db|place web 1 = dependency db
+clrg set web RG_dependencies db|goal db 2|place web 1 = 0 0 0
+clrs set r Resource_dependencies s|place web 1 = dependency s
+clrs set r Resource_dependencies s|goal db 2|place web 1 = 0 0 0
+clrs set r Resource_dependencies s|goal db 3|place web 1 = dependency s
+clrs set r Resource_dependencies s|goal db 1|clrs disable s|place web 1 = dependency s
+clrs set r Resource_dependencies_offline_restart s|place web 1 = dependency s
+clrs set r Resource_dependencies_offline_restart s|goal db 2|place web 1 = 0 0 0
+clrs set r Resource_dependencies_weak s|place web 1 = 0 0 0
+clrs create q web app|clrs set r Resource_dependencies q|place web 1 = 0 0 0
+clrs create q web app|clrs set r Resource_dependencies q|clrs disable q|place web 1 = dependency q
+clnode create-loadlimit 1 mem 5 10|clrg set web Load_factors mem@11|place web 1 = load mem
+clnode create-loadlimit 1 mem 5 10|clrg set web Load_factors mem@10|place web 1 = 0 1 0
+clnode create-loadlimit 1 mem 5 10|clrg set web Load_factors mem@5|place web 1 = 0 0 0
+clnode create-loadlimit 2 mem 5 10|clrg set web Load_factors mem@11|place web 1 = 0 0 0";
+
+#[test]
+fn each_reason(rt: HostRuntime) -> Result<(), Fail> {
+    table(&rt, rt.alloc(), TWO_GROUPS, EACH_REASON)
 }
 
-fn fail_at(
-    k: &mut Known,
-    alloc: Global,
-    group: &Name,
-    n: u64,
-    seconds: &[u64],
-) -> Result<(), Fail> {
-    let failures = Seconds::new(Vec::from_slice(alloc, seconds)?);
-    set_history(k, group, n, failures, Seconds::new(Vec::new(alloc)))
+/// Each reason comes before those that are there already.
+const FIRST_REASONS: &[u8] = b"place web 1 = 0 0 0
+clnode create-loadlimit 1 mem 5 10
+clrg set web Load_factors mem@11
+place web 1 = load mem
+clrs set r Resource_dependencies s
+place web 1 = dependency s
+clrg set web RG_dependencies db
+place web 1 = dependency db
+clrg set web RG_affinities ++db
+place web 1 = affinity db
+leaving web 1
+place web 1 = leaving
+history web 1 none 1400,1401
+place web 1 = moved
+history web 1 1400,1401,6000 1401
+place web 1 = start-failed
+evacuated web 1
+place web 1 = evacuated
+state r 3 stop-failed
+place web 1 = evacuated
+state r 2 stop-failed
+place web 1 = stop-failed
+members 2
+place web 1 = not-member
+clrs disable r
+place web 1 = empty
+clrg suspend web
+place web 1 = suspended
+clrg offline web
+place web 1 = offline
+clrg unmanage web
+place web 1 = unmanaged";
+
+#[test]
+fn which_reason_is_first(rt: HostRuntime) -> Result<(), Fail> {
+    script(&rt, rt.alloc(), Version::Two, TWO_GROUPS, FIRST_REASONS)
 }
 
-fn move_at(
-    k: &mut Known,
-    alloc: Global,
-    group: &Name,
-    n: u64,
-    seconds: &[u64],
-) -> Result<(), Fail> {
-    let moves = Seconds::new(Vec::from_slice(alloc, seconds)?);
-    set_history(k, group, n, Seconds::new(Vec::new(alloc)), moves)
-}
-
-fn found(k: &Known, group: &Name, n: u64) -> Result<Result<Score, Reason>, Fail> {
-    if k.groups.group(group).is_none() {
-        return Err(Fail::new("not there"));
-    }
-    Ok(eligible(&k.groups, &k.limits, &k.view, group, node(n)?))
-}
-
-fn expect_reason(
-    rt: &impl Abort,
-    k: &Known,
-    group: &Name,
-    n: u64,
-    wanted: Reason,
-) -> Result<(), Fail> {
-    match found(k, group, n)? {
-        Ok(_) => Err(Fail::new("eligible")),
-        Err(reason) => {
-            assert_eq!(rt; reason, wanted);
-            Ok(())
-        }
-    }
-}
-
-/// It is eligible, with so many failures and soft limits, and this score.
-fn expect_score(
-    rt: &impl Abort,
-    k: &Known,
-    group: &Name,
-    n: u64,
-    failures: u64,
-    soft: u64,
-    score: i64,
-) -> Result<(), Fail> {
-    match found(k, group, n)? {
-        Ok(found) => {
-            assert_eq!(rt; found.failures, failures);
-            assert_eq!(rt; found.soft, soft);
-            assert_eq!(rt; found.score, score);
-            Ok(())
-        }
-        Err(_) => Err(Fail::new("not eligible")),
-    }
-}
-
-/// The goal in bits that follows on the previous one.
-fn expect_goal(
-    rt: &impl Abort,
-    k: &Known,
-    group: &Name,
-    previous: u32,
-    wanted: u32,
-) -> Result<(), Fail> {
-    if k.groups.group(group).is_none() {
-        return Err(Fail::new("not there"));
-    }
-    let previous = NodeSet::from_bits(previous);
-    let nodes = goal(&k.groups, &k.limits, &k.view, group, previous);
-    assert_eq!(rt; nodes.bits(), wanted);
-    Ok(())
-}
+const FLAGS: &[u8] = b"clrs delete r
+clrg suspend web
+clrg offline web
+clrg unmanage web
+place web 1 = unmanaged
+clrg manage web
+place web 1 = offline
+clrg online web
+place web 1 = suspended
+clrg resume web
+place web 3 = empty
+clrs create r web app
+place web 3 = not-member
+place web 1 = 0 0 0
+clrs disable r
+place web 1 = empty";
 
 #[test]
 fn reasons_of_flags(rt: HostRuntime) -> Result<(), Fail> {
-    let (web, r) = (name(b"web")?, name(b"r")?);
-    let mut k = begun(rt.alloc());
-    add_group(&mut k, &web, &[node(1)?, node(2)?])?;
-    set_flag(&mut k, &web, Flag::Suspended, true)?;
-    set_flag(&mut k, &web, Flag::Wanted, false)?;
-    set_flag(&mut k, &web, Flag::Managed, false)?;
-    expect_reason(&rt, &k, &web, 1, Reason::Unmanaged)?;
-    set_flag(&mut k, &web, Flag::Managed, true)?;
-    expect_reason(&rt, &k, &web, 1, Reason::Offline)?;
-    set_flag(&mut k, &web, Flag::Wanted, true)?;
-    expect_reason(&rt, &k, &web, 1, Reason::Suspended)?;
-    set_flag(&mut k, &web, Flag::Suspended, false)?;
-    expect_reason(&rt, &k, &web, 3, Reason::Empty)?;
-    add_resource(&mut k, &r, &web)?;
-    expect_reason(&rt, &k, &web, 3, Reason::NotMember)?;
-    expect_score(&rt, &k, &web, 1, 0, 0, 0)?;
-    set_flag(&mut k, &r, Flag::Enabled, false)?;
-    expect_reason(&rt, &k, &web, 1, Reason::Empty)
+    script(&rt, rt.alloc(), Version::Two, TWO_GROUPS, FLAGS)
 }
+
+const NODES: &[u8] = b"leaving web 1
+place web 1 = leaving
+place web 2 = 0 0 0
+history web 1 none 1400,1401
+place web 1 = moved
+history web 1 1400,1401,6000 none
+place web 1 = start-failed
+evacuated web 1
+place web 1 = evacuated
+state r 3 stop-failed
+place web 2 = 0 0 0
+state r 2 stop-failed
+place web 1 = stop-failed
+history web 2 1400,1401 none
+state r 2 none
+place web 2 = 1 0 0";
 
 #[test]
 fn reasons_of_nodes(rt: HostRuntime) -> Result<(), Fail> {
-    let (web, r) = (name(b"web")?, name(b"r")?);
-    let mut k = begun(rt.alloc());
-    add_group(&mut k, &web, &[node(1)?, node(2)?])?;
-    add_resource(&mut k, &r, &web)?;
-    k.view.leaving.add(&web, node(1)?)?;
-    expect_reason(&rt, &k, &web, 1, Reason::Leaving)?;
-    expect_score(&rt, &k, &web, 2, 0, 0, 0)?;
-    move_at(&mut k, rt.alloc(), &web, 1, &[1400, 1401])?;
-    expect_reason(&rt, &k, &web, 1, Reason::Moved)?;
-    fail_at(&mut k, rt.alloc(), &web, 1, &[1400, 1401, 6000])?;
-    expect_reason(&rt, &k, &web, 1, Reason::StartFailed)?;
-    k.view.evacuated.add(&web, node(1)?)?;
-    expect_reason(&rt, &k, &web, 1, Reason::Evacuated)?;
-    set_state(&mut k, &r, 3, false, true)?;
-    expect_score(&rt, &k, &web, 2, 0, 0, 0)?;
-    set_state(&mut k, &r, 2, false, true)?;
-    expect_reason(&rt, &k, &web, 1, Reason::StopFailed)?;
-    fail_at(&mut k, rt.alloc(), &web, 2, &[1400, 1401])?;
-    set_state(&mut k, &r, 2, false, false)?;
-    expect_score(&rt, &k, &web, 2, 1, 0, 0)
+    script(&rt, rt.alloc(), Version::Two, TWO_GROUPS, NODES)
 }
+
+const AFFINITIES: &[u8] = b"goal db 1
+clrg set web RG_affinities -db,++db
+place web 1 = 0 0 0
+place web 2 = affinity db
+clrg set web RG_affinities +db,--db
+place web 1 = affinity db
+place web 2 = 0 0 0
+state s 2 run
+place web 2 = 0 0 1
+clrg set web RG_affinities -db
+place web 2 = 0 0 -1
+goal db none
+clrg set web RG_affinities +++db
+place web 2 = affinity db";
 
 #[test]
 fn reasons_of_affinities(rt: HostRuntime) -> Result<(), Fail> {
-    let (web, db, r, s) = (name(b"web")?, name(b"db")?, name(b"r")?, name(b"s")?);
-    let mut k = begun(rt.alloc());
-    two_groups(&mut k, &web, &db, &r, &s)?;
-    set_goal(&mut k, &db, 1)?;
-    set_group(&mut k, &web, b"RG_affinities", b"-db,++db")?;
-    expect_score(&rt, &k, &web, 1, 0, 0, 0)?;
-    expect_reason(&rt, &k, &web, 2, Reason::Affinity(db))?;
-    set_group(&mut k, &web, b"RG_affinities", b"+db,--db")?;
-    expect_reason(&rt, &k, &web, 1, Reason::Affinity(db))?;
-    expect_score(&rt, &k, &web, 2, 0, 0, 0)?;
-    set_state(&mut k, &s, 2, true, false)?;
-    expect_score(&rt, &k, &web, 2, 0, 0, 1)?;
-    set_group(&mut k, &web, b"RG_affinities", b"-db")?;
-    expect_score(&rt, &k, &web, 2, 0, 0, -1)?;
-    set_goal(&mut k, &db, 0)?;
-    set_group(&mut k, &web, b"RG_affinities", b"+++db")?;
-    expect_reason(&rt, &k, &web, 2, Reason::Affinity(db))
+    script(&rt, rt.alloc(), Version::Two, TWO_GROUPS, AFFINITIES)
 }
+
+const DEPENDENCIES: &[u8] = b"clrs set r Resource_dependencies_weak s
+place web 1 = 0 0 0
+clrs set r Resource_dependencies s
+place web 1 = dependency s
+goal db 3
+place web 1 = dependency s
+goal db 2
+place web 1 = 0 0 0
+clrs disable s
+place web 1 = dependency s
+goal db none
+clrg set web RG_dependencies db
+place web 1 = dependency db
+goal db 3
+clrs set r Resource_dependencies none
+place web 1 = 0 0 0
+clrs set r Resource_dependencies_offline_restart s
+place web 1 = dependency s";
 
 #[test]
 fn reasons_of_dependencies(rt: HostRuntime) -> Result<(), Fail> {
-    let (web, db, r, s) = (name(b"web")?, name(b"db")?, name(b"r")?, name(b"s")?);
-    let mut k = begun(rt.alloc());
-    two_groups(&mut k, &web, &db, &r, &s)?;
-    set_resource(&mut k, &r, b"Resource_dependencies_weak", b"s")?;
-    expect_score(&rt, &k, &web, 1, 0, 0, 0)?;
-    set_resource(&mut k, &r, b"Resource_dependencies", b"s")?;
-    expect_reason(&rt, &k, &web, 1, Reason::Dependency(s))?;
-    set_goal(&mut k, &db, 4)?;
-    expect_reason(&rt, &k, &web, 1, Reason::Dependency(s))?;
-    set_goal(&mut k, &db, 2)?;
-    expect_score(&rt, &k, &web, 1, 0, 0, 0)?;
-    set_flag(&mut k, &s, Flag::Enabled, false)?;
-    expect_reason(&rt, &k, &web, 1, Reason::Dependency(s))?;
-    set_goal(&mut k, &db, 0)?;
-    set_group(&mut k, &web, b"RG_dependencies", b"db")?;
-    expect_reason(&rt, &k, &web, 1, Reason::Dependency(db))?;
-    set_goal(&mut k, &db, 4)?;
-    set_resource(&mut k, &r, b"Resource_dependencies", b"none")?;
-    expect_score(&rt, &k, &web, 1, 0, 0, 0)?;
-    set_resource(&mut k, &r, b"Resource_dependencies_offline_restart", b"s")?;
-    expect_reason(&rt, &k, &web, 1, Reason::Dependency(s))
+    script(&rt, rt.alloc(), Version::Two, TWO_GROUPS, DEPENDENCIES)
 }
+
+/// Node 1 takes a load up to 10, of which each group brings 6. Group db is decided before web.
+const LOADS: &[u8] = b"goal db none
+goal web none
+clnode create-loadlimit 1 mem 5 10
+clrg set db Load_factors mem@6
+clrg set web Load_factors mem@6
+place web 1 = 0 1 0
+goal-after web none = 2
+goal db 1
+place web 1 = load mem
+place web 2 = 0 0 0
+goal-after web 1 = 2
+goal web 1
+place db 1 = 0 1 0
+fixed web = false
+clrg suspend web
+fixed web = true
+place db 1 = load mem";
 
 #[test]
 fn reasons_of_loads(rt: HostRuntime) -> Result<(), Fail> {
-    let (web, db, r, s) = (name(b"web")?, name(b"db")?, name(b"r")?, name(b"s")?);
-    let mut k = begun(rt.alloc());
-    two_groups(&mut k, &web, &db, &r, &s)?;
-    with_loads(&mut k, &web, &db)?;
-    expect_score(&rt, &k, &web, 1, 0, 1, 0)?;
-    expect_goal(&rt, &k, &web, 0, 2)?;
-    set_goal(&mut k, &db, 1)?;
-    expect_reason(&rt, &k, &web, 1, Reason::Load(name(b"mem")?))?;
-    expect_score(&rt, &k, &web, 2, 0, 0, 0)?;
-    expect_goal(&rt, &k, &web, 1, 2)?;
-    set_goal(&mut k, &web, 1)?;
-    expect_score(&rt, &k, &db, 1, 0, 1, 0)?;
-    assert_eq!(&rt; is_fixed(&k.groups, &k.view, &web), false);
-    set_flag(&mut k, &web, Flag::Suspended, true)?;
-    assert_eq!(&rt; is_fixed(&k.groups, &k.view, &web), true);
-    expect_reason(&rt, &k, &db, 1, Reason::Load(name(b"mem")?))
+    script(&rt, rt.alloc(), Version::Two, TWO_GROUPS, LOADS)
 }
+
+/// Node 4 is none of the Nodelist.
+const GOALS: &[u8] = b"members 1,2,3
+clrg set web Nodelist 3,1,2
+goal-after web none = 3
+goal-after web 2 = 2
+goal-after web 1,2 = 1,2
+clrg set web Maximum_primaries 2
+clrg set web Desired_primaries 2
+goal-after web none = 1,3
+goal-after web 2,4 = 2,3
+history web 3 4000 none
+goal-after web none = 1,2
+clrg suspend web
+goal-after web 2,4 = 2
+state r 1 run,stop-failed
+goal-after web 2,4 = 2,4
+clrg offline web
+goal-after web 2,4 = none";
 
 #[test]
 fn goals(rt: HostRuntime) -> Result<(), Fail> {
-    let (web, r) = (name(b"web")?, name(b"r")?);
-    let mut k = begun(rt.alloc());
-    k.view.members = NodeSet::first(3);
-    add_group(&mut k, &web, &[node(3)?, node(1)?, node(2)?])?;
-    add_resource(&mut k, &r, &web)?;
-    expect_goal(&rt, &k, &web, 0, 4)?;
-    expect_goal(&rt, &k, &web, 2, 2)?;
-    expect_goal(&rt, &k, &web, 3, 3)?;
-    set_group(&mut k, &web, b"Maximum_primaries", b"2")?;
-    set_group(&mut k, &web, b"Desired_primaries", b"2")?;
-    expect_goal(&rt, &k, &web, 0, 5)?;
-    expect_goal(&rt, &k, &web, 10, 6)?;
-    fail_at(&mut k, rt.alloc(), &web, 3, &[4000])?;
-    expect_goal(&rt, &k, &web, 0, 3)?;
-    set_flag(&mut k, &web, Flag::Suspended, true)?;
-    expect_goal(&rt, &k, &web, 10, 2)?;
-    set_state(&mut k, &r, 1, true, true)?;
-    expect_goal(&rt, &k, &web, 10, 10)?;
-    set_flag(&mut k, &web, Flag::Wanted, false)?;
-    expect_goal(&rt, &k, &web, 10, 0)
+    script(&rt, rt.alloc(), Version::Two, TWO_GROUPS, GOALS)
 }
+
+const SCORES: &[u8] = b"clrg set web RG_affinities +db
+goal-after web none = 1
+state s 2 run
+goal-after web none = 2
+clrg set web RG_affinities -db
+goal-after web none = 1
+state s 1 run
+goal-after web none = 1
+history web 1 4999 none
+goal-after web none = 2
+better web 2 1 = true
+better web 1 2 = false";
 
 #[test]
 fn goals_by_scores(rt: HostRuntime) -> Result<(), Fail> {
-    let (web, db, r, s) = (name(b"web")?, name(b"db")?, name(b"r")?, name(b"s")?);
-    let mut k = begun(rt.alloc());
-    two_groups(&mut k, &web, &db, &r, &s)?;
-    set_group(&mut k, &web, b"RG_affinities", b"+db")?;
-    expect_goal(&rt, &k, &web, 0, 1)?;
-    set_state(&mut k, &s, 2, true, false)?;
-    expect_goal(&rt, &k, &web, 0, 2)?;
-    set_group(&mut k, &web, b"RG_affinities", b"-db")?;
-    expect_goal(&rt, &k, &web, 0, 1)?;
-    set_state(&mut k, &s, 1, true, false)?;
-    expect_goal(&rt, &k, &web, 0, 1)?;
-    fail_at(&mut k, rt.alloc(), &web, 1, &[4999])?;
-    expect_goal(&rt, &k, &web, 0, 2)?;
-    let (better, worse) = (found(&k, &web, 2)?, found(&k, &web, 1)?);
-    match (better, worse) {
-        (Ok(better), Ok(worse)) => {
-            assert_eq!(&rt; better.is_better(worse), true);
-            assert_eq!(&rt; worse.is_better(better), false);
-            Ok(())
-        }
-        _ => Err(Fail::new("not eligible")),
-    }
+    script(&rt, rt.alloc(), Version::Two, TWO_GROUPS, SCORES)
 }

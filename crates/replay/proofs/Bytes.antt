@@ -119,7 +119,7 @@ not_empty xs ys h = let longer : length (xs ++ ys) ≡ length xs + length ys = l
 other_line : (other : List ℕ) (lines : List (List ℕ)) → (length (other ∷ lines) == 0) ≡ false
 other_line other lines = grind (arith, nat_tests)
 
-too_large_piece : (task : Task) (ended : Bool) (xs line : List ℕ) (lines : List (List ℕ)) (state : State) (read : ℕ) → 0 < length xs → is_too_large read xs ≡ true
+pub too_large_piece : (task : Task) (ended : Bool) (xs line : List ℕ) (lines : List (List ℕ)) (state : State) (read : ℕ) → 0 < length xs → is_too_large read xs ≡ true
     → outcome task ended ((xs ++ line) ∷ lines) state read ≡ silent (TooLarge (read + 1))
 too_large_piece task ended xs line [] state read some large = rw (not_empty xs line some, too_large_more read xs line large) refl
 too_large_piece task ended xs line (other ∷ lines) state read some large = rw (other_line other lines, too_large_more read xs line large) refl

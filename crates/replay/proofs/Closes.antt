@@ -19,6 +19,7 @@ use Rattle.replay.specs.Loops.{ReadsOn}
 use Rattle.replay.specs.Runs.{IsRun, IsCaused, ReadsNoFurther, Says, Writes}
 use Rattle.replay.proofs.Bytes.{after_after}
 use Rattle.replay.proofs.Ends.{is_open}
+use Rattle.replay.proofs.Histories.{tells_run}
 use Rattle.replay.proofs.Texts.{starts_with_behind, starts_with_front, starts_with_more}
 
 -- nothing was written, nothing taken
@@ -135,6 +136,7 @@ closed_run task agents left left' left'' held held' held'' reads reads' writes w
       writes_text = subst (λ (x : Outcome). Writes result (whole_text task x) (on.written ++ closed.written)) (sym (on.goes_on ended piece))
           (behind task result (with_more task ended now piece) on.written closed.written (closed.writes_text (with_more task ended now piece) stops));
       caused = caused result reads reads' writes writes'' same (subst (λ n. SinkCaused result n writes'') kept closed.caused);
+      history = tells_run task agents ended (on.taken ++ piece);
     }
 
 -- in a piece
@@ -164,6 +166,7 @@ read_failed task agents left left' left'' held held' reads reads' writes writes'
       appended = on.appended;
       writes_text = subst (λ (x : Outcome). on.written ≡ whole_text task x) (sym all) (sym (append-nil on.written));
       caused = (rose, same);
+      history = tells_run task agents false (on.taken ++ []);
     }
 
 -- the sink failed at what a piece was answered
@@ -187,6 +190,7 @@ write_failed A done task agents left left' left'' held held' held'' reads reads'
           (starts_with_more _ _ _ (starts_with_behind on.written _ (take front.count new.text.items)
           (starts_with_more new.text.items _ (take front.count new.text.items) (starts_with_front new.text.items front.count))));
       caused = (same, rose);
+      history = tells_run task agents false (on.taken ++ piece);
     }
 
 -- a piece was taken, and what it was answered is written
@@ -227,6 +231,7 @@ no_memory task agents left held reads writes = record {
   appended = same_appends held;
   writes_text = refl;
   caused = (refl, refl);
+  history = tells_run task agents false [];
 }
 
 -- what was written is let go

@@ -53,7 +53,7 @@ header_outcome from to (line ∷ lines) rest next agents read leads fine few =
     rw (some_behind lines rest next, not_large read line small fine.0.short, leads.1, count)
     (header_outcome leads.0 to lines rest next agents (read + 1) leads.2 fine.1 (omega arith))
 
-event_of : (r : Result ClusterLine Kind) (e : Event) → of_cluster r ≡ Ok (line.Event e) → r ≡ Ok (cluster.Event e)
+pub event_of : (r : Result ClusterLine Kind) (e : Event) → of_cluster r ≡ Ok (line.Event e) → r ≡ Ok (cluster.Event e)
 event_of (Ok cluster.Blank) e is = absurd (cc)
 event_of (Ok cluster.End) e is = absurd (cc)
 event_of (Ok (cluster.Event d)) e is = let same : d ≡ e = cc in rw same refl

@@ -68,15 +68,15 @@ ended_chosen false true n o T f h = f h
 ended_chosen false false n o T f h = absurd h
 
 -- the outcome where a line stands before others, and where it is the last
-line_outcome : (ended : Bool) (bytes next : List ℕ) (lines : List (List ℕ)) (s : State) (read : ℕ) → outcome Run ended (bytes ∷ next ∷ lines) s read
+pub line_outcome : (ended : Bool) (bytes next : List ℕ) (lines : List (List ℕ)) (s : State) (read : ℕ) → outcome Run ended (bytes ∷ next ∷ lines) s read
     ≡ (if is_too_large read bytes then silent (TooLarge (read + 1)) else onward (step Run s bytes) read (λ now. outcome Run ended (next ∷ lines) now (read + 1)))
 line_outcome ended bytes next lines s read = rw (some_lines (List ℕ) next lines) refl
 
-last_outcome : (ended : Bool) (b : ℕ) (bytes : List ℕ) (s : State) (read : ℕ) → outcome Run ended ((b ∷ bytes) ∷ []) s read
+pub last_outcome : (ended : Bool) (b : ℕ) (bytes : List ℕ) (s : State) (read : ℕ) → outcome Run ended ((b ∷ bytes) ∷ []) s read
     ≡ (if is_too_large read (b ∷ bytes) then silent (TooLarge (read + 1)) else if ended then onward (step Run s (b ∷ bytes)) read (λ now. end_of (at_end Run now) (read + 1)) else silent Open)
 last_outcome ended b bytes s read = rw (some_lines ℕ b bytes) refl
 
-empty_outcome : (ended : Bool) (s : State) (read : ℕ) → outcome Run ended ([] ∷ []) s read ≡ (if ended then end_of (at_end Run s) read else silent Open)
+pub empty_outcome : (ended : Bool) (s : State) (read : ℕ) → outcome Run ended ([] ∷ []) s read ≡ (if ended then end_of (at_end Run s) read else silent Open)
 empty_outcome ended s read = refl
 
 -- of an outcome that is known to be another

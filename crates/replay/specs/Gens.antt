@@ -1,20 +1,27 @@
 -- What the words `gen SEED COUNT` ask for, and what is written of it.
-use Rattle.std.specs.Prelude.{ℕ, ◌+◌, ◌-◌, ◌^◌, nat_eq, nat_le, min, Bool, true, not, ◌&&◌, if◌then◌else◌, List, [], ◌∷◌, ◌++◌, Option, Some, None, codes, count_by}
+use Rattle.std.specs.Prelude.{◌≡◌, ℕ, ◌+◌, ◌-◌, ◌^◌, nat_eq, nat_le, min, Bool, true, not, ◌&&◌, if◌then◌else◌, List, [], ◌∷◌, ◌++◌, Option, Some, None, codes, count_by}
 use Rattle.std.specs.List.{flat_map, starts_with, ends_with}
 use Rattle.std.specs.Fmt.{decimal}
 use Rattle.std.specs.Str.{bytes_eq}
 use Rattle.std.specs.Io.KnownBytes.{Appends, Keeps}
 use Rattle.agents.specs.Calls.{AgentState}
-use Rattle.schedule_gen.specs.Grammar.{lines_from}
+use Rattle.grammar_laws.specs.Reads.{LacksServers}
+use Rattle.schedule_gen.specs.Events.{events_from}
+use Rattle.schedule_gen.specs.Grammar.{four_nodes, lines_from}
+use Rattle.schedule_text.specs.Allowed.{IsHeader}
 use Rattle.schedule_text.specs.declared.number.Numeral.{Numeral}
 use Rattle.schedule_text.specs.declared.number.Numeral.TheVariants.{Within, Beyond}
 use Rattle.schedule_text.specs.Words.{decimal_in}
+use Rattle.world_model.specs.First.{first_world}
 use Rattle.replay.specs.declared.counts.Counts.{Counts}
 use Rattle.replay.specs.declared.making.Making.{Making}
 use Rattle.replay.specs.declared.status.Status.{Status}
 use Rattle.replay.specs.declared.task.Task.TheVariants.{Run}
+use Rattle.replay.specs.Histories.{AreAllowed, IsTrace}
 use Rattle.replay.specs.Outcomes.{Ended, outcome_of, pieces}
+use Rattle.replay.specs.Replays.{texts_of}
 use Rattle.replay.specs.Runs.{IsCaused, Says, Writes}
+use Rattle.replay.specs.Sessions.{first_so_far}
 
 -- a number of 64 bits, written as the numbers of schedules are: decimal, without a leading zero
 abbrev pub within : Option Numeral → Option ℕ
@@ -95,8 +102,19 @@ summary lines c =
     counted (codes "lines") lines ++ counted (codes "starts") c.starts ++ counted (codes "acks") c.acks
     ++ counted (codes "accepted") c.accepted ++ counted (codes "refused") c.refused ++ counted (codes "calls") c.calls
 
+-- The lines that are counted are those of a history: the header is allowed and has no server, and each event that the draws mean is allowed. The text is what
+-- the first world of the header, with these agents, writes of all of them, and it is their trace.
+pub record CountsHistory (m : Making) (agents : List AgentState) (counts : Counts) : Type 0 where
+  pub text : List ℕ
+  pub counted : counts ≡ counts_of text
+  pub header : IsHeader four_nodes
+  pub no_server : LacksServers four_nodes
+  pub allowed : AreAllowed four_nodes first_so_far (events_from m.seed 5 (5 + m.count))
+  pub written : text ≡ texts_of (first_world four_nodes 65536 agents) (events_from m.seed 5 (5 + m.count))
+  pub trace : IsTrace four_nodes (events_from m.seed 5 (5 + m.count)) text
+
 -- Nothing is read, and the status and the bytes written tell the summary of the schedule that is made: all of it, or,
--- where the sink failed or memory ran out, its beginning. No line is refused, and no fault is the source's.
+-- where the sink failed or memory ran out, its beginning. No line is refused, and no fault is the source's. What the summary counts is a history.
 pub record IsGen (m : Making) (agents : List AgentState) (left left' held held' : Option (List ℕ)) (reads reads' writes writes' : ℕ) (result : Status) : Type 0 where
   pub unread : Keeps left left'
   pub says : Says result (Ended (10 + m.count))
@@ -104,3 +122,4 @@ pub record IsGen (m : Making) (agents : List AgentState) (left left' held held' 
   pub appended : Appends held held' written
   pub writes_text : Writes result (summary (10 + m.count) (counts_made m agents)) written
   pub caused : IsCaused result reads reads' writes writes'
+  pub history : CountsHistory m agents (counts_made m agents)

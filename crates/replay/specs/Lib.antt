@@ -1,6 +1,8 @@
 -- what a reader must believe
 pub mod Closings
+pub mod Completeness
 pub mod Gens
+pub mod Histories
 pub mod Outcomes
 pub mod Replays
 pub mod Runs

@@ -7,6 +7,8 @@ use Rattle.agents.specs.Calls.{AgentState}
 use Rattle.replay.specs.declared.status.Status.{Status}
 use Rattle.replay.specs.declared.status.Status.TheVariants as status
 use Rattle.replay.specs.declared.task.Task.{Task}
+use Rattle.replay.specs.declared.task.Task.TheVariants.{Run}
+use Rattle.replay.specs.Histories.{TellsHistory}
 use Rattle.replay.specs.Outcomes.{Ending, Open, Ended, Refused, TooLarge, outcome_of, whole_text}
 
 -- what the status says of an ending
@@ -41,7 +43,8 @@ pub record ReadsNoFurther (task : Task) (agents : List AgentState) (taken : List
   pub piece : length last ≤ 4096
   pub wanted : (outcome_of task agents false before).ending ≡ Open
 
--- The bytes taken from the source have an outcome, which the status and the bytes written tell.
+-- The bytes taken from the source have an outcome, which the status and the bytes written tell; under `run` its text is a
+-- history.
 -- `agents` carry out the methods of resource types; `left` is what the source has, where that is known, and `held` what
 -- the sink has.
 pub record IsRun (task : Task) (agents : List AgentState) (left left' held held' : Option (List ℕ)) (reads reads' writes writes' : ℕ) (result : Status) : Type 0 where
@@ -55,3 +58,4 @@ pub record IsRun (task : Task) (agents : List AgentState) (left left' held held'
   pub appended : Appends held held' written
   pub writes_text : Writes result (whole_text task (outcome_of task agents ended taken)) written
   pub caused : IsCaused result reads reads' writes writes'
+  pub history : task ≡ Run → TellsHistory taken agents (outcome_of task agents ended taken).text

@@ -9,6 +9,7 @@ ghost use Rattle.schedule_gen.specs.Events.{events_from};
 ghost use Rattle.schedule_gen.specs.Grammar.{four_nodes};
 ghost use Rattle.world_model.specs.First.{first_world};
 ghost use Rattle.replay.specs.declared.making.Making.{Making};
+ghost use Rattle.replay.specs.Completeness.{GensAreComplete, RunsAreComplete, SchedulesEnd};
 ghost use Rattle.replay.specs.Gens.{made};
 ghost use Rattle.replay.specs.Outcomes.{Ended, outcome_of};
 ghost use Rattle.replay.specs.Replays.{Completes, TellsReplay, entries, answers_among, texts_of};
@@ -32,4 +33,18 @@ pub fn made_schedule_is_read_to_its_end()
 /// The answers among these lines are those that the device gives to the commands.
 pub fn entries_have_the_answers()
     ensures { (d : Device) (steps : List Step) → answers_among (entries d steps) ≡ run_answers d steps }
+{}
+
+/// Nothing but want of memory stops a whole schedule. One that is in the grammar and within the limits
+/// is read to its end; and where the source has bytes that are read to their end, and neither the source
+/// nor the sink fails, `run` and `check` end with `Done`, and all of the outcome was written, or with
+/// `NoMemory`. So does `gen`, where the sink does not fail.
+///
+/// That a sink takes something of each piece is part of it: one that takes nothing of a piece fails, and
+/// counts a fault. No fault is told by a count that stays and does not stand at the end of its type,
+/// where no rise could be seen.
+pub fn completeness()
+    ensures schedules { SchedulesEnd }
+    ensures runs { RunsAreComplete }
+    ensures made { GensAreComplete }
 {}

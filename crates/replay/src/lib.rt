@@ -16,7 +16,8 @@ mod task;
 
 pub use driver::run_words;
 pub use law::{
-    completed_run_tells_its_schedule, entries_have_the_answers, made_schedule_is_read_to_its_end,
+    completed_run_tells_its_schedule, completeness, entries_have_the_answers,
+    made_schedule_is_read_to_its_end,
 };
 pub use making::{Making, read_making};
 pub use status::Status;

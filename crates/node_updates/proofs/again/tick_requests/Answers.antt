@@ -4,5 +4,5 @@ use Rattle.node_updates.proofs.again.tick_requests.Goals as goal
 
 pub returns-clause-prepares : goal.returns-clause-prepares
 returns-clause-prepares c =
-    prepares_at_tick c.args.up.now c.tick-request_is_due.new.self None c.in-Some.presidency c.tick-prepares_are_due.result c.proposed-proposed.result c.in_ok-prepares.prepares.items
+    prepares_at_tick c.args.up.now c.tick-request_is_due.new.self None c.in-Some.presidency c.tick_presidency-prepares_are_due.result.prepares_are_due c.tick_presidency-prepares_are_due.result.proposed c.in_ok-prepares.prepares.items
     (search rules) (search rules) (search rules) c.in_ok-prepares.ensures.value

@@ -6,12 +6,12 @@ pub returns-then-not-is_of_member-clause-plan : goal.returns-then-not-is_of_memb
 returns-then-not-is_of_member-clause-plan c = λ k me. of_another k me c.args.up.now c.args.from c.args.epoch c.args.place c.is_of_member.result c.is_of_member.ensures.value (search rules)
 
 pub returns-in_default-clause-plan : goal.returns-in_default-clause-plan
-returns-in_default-clause-plan c = λ k me. of_none k me c.args.up.now _ c.args.from c.args.epoch c.args.place c.is_of_member.result c.is_of_member.ensures.value (search rules) (search rules) (search rules)
+returns-in_default-clause-plan c = λ k me. of_none k me c.args.up.now c.args.from c.args.epoch c.args.place c.is_of_member.result c.is_of_member.ensures.value (search rules) (search rules)
 
 pub returns-clause-plan : goal.returns-clause-plan
 returns-clause-plan c = λ k me.
-    of_president k me c.args.up.now _ c.in-Some.presidency c.prepared.new.self c.args.from c.args.epoch c.args.place c.is_of_member.result c.is_prepared-is_prepared.result c.is_of_member.ensures.value
-    (search rules) (search rules) c.prepared.ensures.after (search rules) c.is_prepared-is_prepared.ensures.value
+    of_president k me c.args.up.now c.in-Some.presidency c.prepared_in.new.presidency c.args.from c.args.epoch c.args.place c.is_of_member.result c.prepared_in.result c.is_of_member.ensures.value
+    (search rules) (search rules) c.prepared_in.ensures.after c.prepared_in.ensures.value
 
 pub returns-clause-member : goal.returns-clause-member
 returns-clause-member c = λ h. of_a_member c.args.up.now c.args.from c.args.epoch c.is_of_member.result c.is_of_member.ensures.value (search rules)

@@ -1,0 +1,4 @@
+pub mod Commands
+pub mod Canonical
+pub mod Telling
+pub mod Votes

@@ -1,0 +1,95 @@
+-- What each run tells, however it ends: of a cluster schedule its text is that of moments, one after another, in which
+-- the first of its events are said.
+use Rattle.std.specs.Prelude.{◌≡◌, ◌<◌, ◌^◌, ℕ, List, [], ◌∷◌, length, take, Option, Some, None}
+use Rattle.std.specs.List.{flat_map}
+use Rattle.agents.specs.Calls.{AgentState}
+use Rattle.cl_base.specs.declared.header.Header.{Header}
+use Rattle.pgr_device.specs.Device.{fresh}
+use Rattle.pgr_device.specs.declared.run.Step.{Step}
+use Rattle.schedule_text.specs.declared.event.Event.{Event}
+use Rattle.schedule_text.specs.declared.header.HeaderState.TheVariants.{Opening}
+use Rattle.schedule_text.specs.declared.line.SoFar.{SoFar}
+use Rattle.schedule_text.specs.Allowed.{IsAllowedEvent, IsHeader}
+use Rattle.schedule_text.specs.Lines.{so_far_after_event}
+use Rattle.status_report.specs.Lines.{printed}
+use Rattle.grammar_laws.specs.Reads.{HasSeconds, LacksServers}
+use Rattle.history.specs.Contact.{AttemptsDiffer, HasVotes, Held, Installed, Prepared, Ready, ToldMembers}
+use Rattle.history.specs.Contents.{CarriedUpdates, Heartbeats, InstallsTheBase, KnownHeld, NewestBase, NewestInstalled, Records, Spelled}
+use Rattle.history.specs.DeviceRun.{DeviceRun}
+use Rattle.history.specs.DiskRule.{DiskRule}
+use Rattle.history.specs.History.{Repository}
+use Rattle.history.specs.Links.{Links, drop_due}
+use Rattle.history.specs.Moment.{Moment, lines_of}
+use Rattle.history.specs.Starts.{StartLines, base_due}
+use Rattle.history_setting.specs.Settings.{setting_of}
+use Rattle.world_model.specs.First.{first_world}
+use Rattle.run_history.specs.Telling.{lines_upon}
+use Rattle.run_history.specs.Scenes.{text_of}
+use Rattle.replay.specs.Sessions.{first_so_far}
+use Rattle.replay.specs.Outcomes.{pieces}
+use Rattle.replay.specs.Replays.{OfCluster, OfDevice, Schedule, entries, schedule_of, texts_of}
+
+-- There are moments of which the text is what is printed: exactly these events are said, in this order. They are what can
+-- happen in one cluster: the links and the devices do what their lines say, each start has its base, what was acknowledged
+-- is kept, no device takes a write of a node that a greater membership left out, a node installs, is ready, is a member and
+-- has prepared by the messages that tell of it, and a membership starts with a majority of the votes under its base and with
+-- devices that were seized for it, as its coordinator knew. The bytes of each message spell it: a Promise and an Install show
+-- the record of their sender, the newest in hand is installed and is the base, and a Heartbeat says who is a member. While
+-- there are fewer than 2^63 lines, which number the commands, a Prepare has the words that were proposed, a Request those of
+-- its command, and a member answers what the president's Answer says.
+pub record IsTrace (h : Header) (events : List Event) (text : List ℕ) : Type 0 where
+  pub moments : List Moment
+  pub said : lines_of moments ≡ lines_upon [] events
+  pub told : text ≡ text_of moments
+  pub links : Links 65536 moments
+  pub no_drop_due : drop_due 65536 moments ≡ None
+  pub devices : DeviceRun h moments
+  pub start_lines : StartLines moments
+  pub no_base_due : base_due moments ≡ None
+  pub repository : Repository moments
+  pub disk_rule : DiskRule h moments
+  pub attempts_differ : AttemptsDiffer moments
+  pub installed : Installed moments
+  pub ready : Ready moments
+  pub members : ToldMembers moments
+  pub prepared : Prepared moments
+  pub held : Held h moments
+  pub votes : HasVotes (setting_of h) moments
+  pub spelled : Spelled moments
+  pub records : Records moments
+  pub newest : NewestInstalled moments
+  pub installed_base : InstallsTheBase moments
+  pub newest_base : NewestBase moments
+  pub known_held : KnownHeld h moments
+  pub heartbeats : Heartbeats moments
+  pub updates : length (lines_of moments) < 2 ^ 63 → CarriedUpdates (setting_of h) moments
+
+-- each event is one that the header and the events before it allow, and its seconds have 64 bits
+abbrev pub AreAllowed : Header → SoFar → List Event → Type 0
+AreAllowed h s [] = Unit {0}
+AreAllowed h s (e ∷ events) = IsAllowedEvent h s e × HasSeconds e × AreAllowed h (so_far_after_event s e) events
+
+-- the text is what a fresh device answers to so many of these steps, the first
+pub record AnswersFirst (senders : ℕ) (steps : List Step) (text : List ℕ) : Type 0 where
+  pub count : ℕ
+  pub written : text ≡ flat_map printed (entries (fresh senders) (take count steps))
+
+-- The header is allowed and has no server, and the events are allowed. The text is what the first world of the header, with
+-- these agents, writes of so many of them, the first, and it is the trace of these.
+pub record TellsFirst (agents : List AgentState) (h : Header) (events : List Event) (text : List ℕ) : Type 0 where
+  pub header : IsHeader h
+  pub no_server : LacksServers h
+  pub allowed : AreAllowed h first_so_far events
+  pub count : ℕ
+  pub written : text ≡ texts_of (first_world h 65536 agents) (take count events)
+  pub trace : IsTrace h (take count events) text
+
+-- before the header is whole nothing is written
+abbrev pub TellsFirstOf : Option Schedule → List AgentState → List ℕ → Type 0
+TellsFirstOf None agents text = text ≡ []
+TellsFirstOf (Some (OfDevice senders steps)) agents text = AnswersFirst senders steps text
+TellsFirstOf (Some (OfCluster header events)) agents text = TellsFirst agents header events text
+
+-- the text tells the first of the schedule that these bytes are
+abbrev pub TellsHistory : List ℕ → List AgentState → List ℕ → Type 0
+TellsHistory bytes agents text = TellsFirstOf (schedule_of Opening (pieces bytes)) agents text

@@ -1,0 +1,146 @@
+-- Packets are delivered, lost and repeated.
+use Rattle.std.specs.Prelude.{ℕ, ◌-◌, ◌^◌, ◌≡◌, ◌==◌, nat_lt, List, Option, None, Some, slice_get}
+use Rattle.std.proofs.Common.{refl, sym, subst, ◌∙◌, inl, inr}
+use Rattle.std.proofs.lemmas.Bool.{cond_both}
+use Rattle.cl_base.specs.declared.packet.DropCause.TheVariants as drop
+use Rattle.cmm_attempt.proofs.Basics.{none_some}
+use Rattle.interconnect.specs.Links as links
+use Rattle.interconnect.specs.Links.{Links, Packet, oldest_on, packet_of, removing, sending}
+use Rattle.schedule_text.specs.declared.line.Line.{Line}
+use Rattle.status_report.specs.declared.entry.Entry.{Entry}
+use Rattle.status_report.specs.declared.entry.Entry.TheVariants as entry
+use Rattle.status_report.specs.declared.packet_entry.PacketEntry.TheVariants as packet
+use Rattle.status_report.specs.declared.schedule_entry.ScheduleEntry.TheVariants.{Skipped}
+use Rattle.status_report.specs.declared.schedule_entry.SkipCause.TheVariants.{NoPacket}
+use Rattle.wire.specs.declared.message.Message.{Message}
+use Rattle.wire.specs.Reads.{whole_of}
+use Rattle.node_model.specs.declared.cluster.Cluster.{Cluster}
+use Rattle.node_model.specs.declared.input.Input.TheVariants as input
+use Rattle.node_model.specs.declared.node.Node.TheVariants.{Up}
+use Rattle.node_model.specs.declared.node.UpNode.{UpNode}
+use Rattle.world_model.specs.Packets.{copying, delivering, delivering_as, losing, losing_as, repeating_as, repeating_one, taking, with_oldest}
+use Rattle.world_model.specs.Sends.{giving, with_links}
+use Rattle.world_model.specs.Worlds as world
+use Rattle.world_model.specs.Worlds.{Play, is_up, is_up_node}
+use Rattle.refinement.specs.Worlds.{GivesFit, PacketSent}
+use Rattle.refinement.proofs.Worlds.{all_found, removing_sent, sending_sent}
+use Rattle.run_history.specs.Happenings.{happened, removed}
+use Rattle.run_history.specs.Happenings.Happening.{Arrives, Loses, Misses, Repeats, Strays}
+use Rattle.run_history.specs.Scenes as scene
+use Rattle.run_history.specs.Scenes.{Scene}
+use Rattle.run_history.proofs.Gives.{Gave, gave_so}
+use Rattle.run_history.proofs.Reached.{reached_more}
+use Rattle.run_history.proofs.Stands.{Stands, down_there, followed, is_up_in, node_number, noted, seen, stands_so, up_there}
+use Rattle.run_history.proofs.Views.{Follows, dropped_so, linked_so, told_so}
+
+-- a packet in flight is from a node that sent it
+one_of : (c : Cluster) (first : Scene) (text : List ℕ) (said : List Line) (p : Play) (number : ℕ) (x : Packet) (h : Stands c first text said p)
+    → packet_of p.world.links.packets number ≡ Some x
+    → PacketSent h.nodes.sent x
+one_of c first text said p number x h is = all_found (PacketSent h.nodes.sent) (λ (y : Packet). y.number == number) p.world.links.packets x h.alike.shows.packets is
+
+abbrev without : Play → ℕ → Play
+without p number = with_links p (removing p.world.links number)
+
+-- the packet is taken out of the links
+taken_out : (c : Cluster) (first : Scene) (text : List ℕ) (said : List Line) (p : Play) (number : ℕ) (h : Stands c first text said p)
+    → Follows c text said h.nodes (removed (seen c first text said p h) number) (without p number)
+taken_out c first text said p number h =
+    linked_so c text said h.nodes (seen c first text said p h) p (removing p.world.links number) (removing_sent h.nodes.sent p.world.links number h.alike.shows.packets) (followed c first text said p h)
+
+-- .. and this is told of it
+told_out : (c : Cluster) (first : Scene) (text : List ℕ) (said : List Line) (p : Play) (number : ℕ) (e : Entry) (h : Stands c first text said p)
+    → Follows c text said h.nodes (scene.telling e (removed (seen c first text said p h) number)) (world.telling e (without p number))
+told_out c first text said p number e h = told_so c text said h.nodes (removed (seen c first text said p h) number) (without p number) e (taken_out c first text said p number h)
+
+abbrev delivered_line : ℕ → Packet → Entry
+delivered_line number x = entry.Packet (packet.Delivered number x.from x.to)
+
+-- it comes to a node that is up
+taken_so : (c : Cluster) → GivesFit c
+    → (first : Scene) (text : List ℕ) (said : List Line) (p : Play) (number : ℕ) (x : Packet) (y : UpNode) (o : Option Message) (h : Stands c first text said p)
+    → packet_of p.world.links.packets number ≡ Some x → slice_get p.world.nodes (x.to - 1) ≡ Some (Up y) → whole_of x.bytes ≡ o
+    → Stands c first text said (taking x.from x.to o (world.telling (delivered_line number x) (without p number)))
+taken_so c gives first text said p number x y None h is at whole =
+    let s : Scene = seen c first text said p h in
+    let one : PacketSent h.nodes.sent x = one_of c first text said p number x h is in
+    stands_so c first text said (world.telling (delivered_line number x) (without p number)) h.nodes (happened c s (Strays number x))
+    (reached_more c first s (Strays number x) h.reached (is, whole, is_up_in c h.nodes p.world x.to y one.0 at h.alike)) (told_out c first text said p number (delivered_line number x) h)
+taken_so c gives first text said p number x y (Some m) h is at whole =
+    go (subst (λ z. Gave c text said h.nodes z x.to q.world.clock q.world.nodes (input.Packet x.from m) (giving x.to (input.Packet x.from m) q)) f.is
+    (gave_so c gives text said h.nodes f.moments q x.to (input.Packet x.from m) f.spoken f.written one.0 (one.1 m whole) tt f.alike))
+  where
+    s : Scene
+    s = seen c first text said p h
+
+    q : Play
+    q = world.telling (delivered_line number x) (without p number)
+
+    one : PacketSent h.nodes.sent x
+    one = one_of c first text said p number x h is
+
+    f : Follows c text said h.nodes (scene.telling (delivered_line number x) (removed s number)) q
+    f = told_out c first text said p number (delivered_line number x) h
+
+    go : Gave c text said h.nodes (scene.telling (delivered_line number x) (removed s number)) x.to q.world.clock q.world.nodes (input.Packet x.from m) (giving x.to (input.Packet x.from m) q)
+        → Stands c first text said (giving x.to (input.Packet x.from m) q)
+    go (inl none) = absurd (none_some (Up y) (sym none.nobody ∙ at))
+    go (inr k) =
+        stands_so c first text said (giving x.to (input.Packet x.from m) q) _ (happened c s (Arrives number x m p.world.clock k.ends))
+        (reached_more c first s (Arrives number x m p.world.clock k.ends) h.reached
+        (is, whole, is_up_in c h.nodes p.world x.to y one.0 at h.alike, node_number c h.nodes p.world x.to (Up y) one.0 at h.alike, one.1 m whole, h.alike.shows.clock)) k.follows
+
+delivered_as : (c : Cluster) → GivesFit c → (first : Scene) (text : List ℕ) (said : List Line) (p : Play) (number : ℕ) (o : Option Packet) → packet_of p.world.links.packets number ≡ o
+    → Stands c first text said p → Stands c first text said (delivering_as number o p)
+delivered_as c gives first text said p number None is h = noted c first text said p (Skipped NoPacket) h
+delivered_as c gives first text said p number (Some x) is h =
+    let s : Scene = seen c first text said p h in
+    let one : PacketSent h.nodes.sent x = one_of c first text said p number x h is in
+    let q : Play = without p number in
+    let missed : Entry = entry.Packet (packet.Dropped number drop.Down) in
+    cond_both (is_up p.world x.to) (taking x.from x.to (whole_of x.bytes) (world.telling (delivered_line number x) q)) (world.telling missed q) (Stands c first text said)
+    (λ up. up_there (slice_get p.world.nodes (x.to - 1)) (Stands c first text said (taking x.from x.to (whole_of x.bytes) (world.telling (delivered_line number x) q))) up
+    (λ y at. taken_so c gives first text said p number x y (whole_of x.bytes) h is at refl))
+    (λ down. stands_so c first text said (world.telling missed q) h.nodes (happened c s (Misses number x))
+    (reached_more c first s (Misses number x) h.reached (is, down_there c h.nodes p.world x.to (slice_get p.world.nodes (x.to - 1)) one.0 refl down h.alike)) (told_out c first text said p number missed h))
+
+pub delivered_so : (c : Cluster) → GivesFit c → (first : Scene) (text : List ℕ) (said : List Line) (p : Play) (number : ℕ) → Stands c first text said p
+    → Stands c first text said (delivering number p)
+delivered_so c gives first text said p number h = delivered_as c gives first text said p number (packet_of p.world.links.packets number) refl h
+
+lost_as : (c : Cluster) (first : Scene) (text : List ℕ) (said : List Line) (p : Play) (number : ℕ) (o : Option Packet) → packet_of p.world.links.packets number ≡ o
+    → Stands c first text said p
+    → Stands c first text said (losing_as number o p)
+lost_as c first text said p number None is h = noted c first text said p (Skipped NoPacket) h
+lost_as c first text said p number (Some x) is h =
+    let s : Scene = seen c first text said p h in
+    let lost : Entry = entry.Packet (packet.Lost number) in
+    stands_so c first text said (world.telling lost (without p number)) h.nodes (happened c s (Loses number x)) (reached_more c first s (Loses number x) h.reached is) (told_out c first text said p number lost h)
+
+pub lost_so : (c : Cluster) (first : Scene) (text : List ℕ) (said : List Line) (p : Play) (number : ℕ) → Stands c first text said p → Stands c first text said (losing number p)
+lost_so c first text said p number h = lost_as c first text said p number (packet_of p.world.links.packets number) refl h
+
+repeated_as : (c : Cluster) (first : Scene) (text : List ℕ) (said : List Line) (p : Play) (number : ℕ) (o : Option Packet) → packet_of p.world.links.packets number ≡ o
+    → Stands c first text said p
+    → Stands c first text said (repeating_as number o p)
+repeated_as c first text said p number None is h = noted c first text said p (Skipped NoPacket) h
+repeated_as c first text said p number (Some x) is h =
+    let s : Scene = seen c first text said p h in
+    let one : PacketSent h.nodes.sent x = one_of c first text said p number x h is in
+    let o : links.Outcome = sending p.world.links x.from x.to x.bytes in
+    let copied : Entry = entry.Packet (packet.Repeated number p.world.links.next) in
+    cond_both (nat_lt p.world.links.next (2 ^ 63)) (copying number o p) p (Stands c first text said)
+    (λ e. stands_so c first text said (copying number o p) h.nodes (happened c s (Repeats number x)) (reached_more c first s (Repeats number x) h.reached (is, e))
+    (dropped_so c text said h.nodes (scene.telling copied (scene.with_links s o.after)) (world.telling copied (with_links p o.after)) o.sent.dropped
+    (told_so c text said h.nodes (scene.with_links s o.after) (with_links p o.after) copied
+    (linked_so c text said h.nodes s p o.after (sending_sent h.nodes.sent p.world.links x.from x.to x.bytes h.alike.shows.packets one) (followed c first text said p h)))))
+    (λ e. h)
+
+pub repeated_so : (c : Cluster) (first : Scene) (text : List ℕ) (said : List Line) (p : Play) (number : ℕ) → Stands c first text said p → Stands c first text said (repeating_one number p)
+repeated_so c first text said p number h = repeated_as c first text said p number (packet_of p.world.links.packets number) refl h
+
+pub oldest_so : (c : Cluster) (first : Scene) (text : List ℕ) (said : List Line) (act : ℕ → Play → Play)
+    → ((p : Play) (number : ℕ) → Stands c first text said p → Stands c first text said (act number p)) → (p : Play) (o : Option ℕ) → Stands c first text said p
+    → Stands c first text said (with_oldest act o p)
+oldest_so c first text said act all p None h = noted c first text said p (Skipped NoPacket) h
+oldest_so c first text said act all p (Some number) h = all p number h

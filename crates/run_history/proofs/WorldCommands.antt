@@ -1,0 +1,224 @@
+-- Nodes at devices: commands that are due, writes, faults and stops that are armed.
+use Rattle.std.specs.Prelude.{ℕ, ◌-◌, ◌^◌, ◌≡◌, ◌≤◌, ◌<◌, Bool, true, List, ◌∷◌, Option, None, Some, Result, Ok, Err, is_ok, slice_get}
+use Rattle.std.proofs.Common.{refl, sym, ap, subst, ◌∙◌, inl, inr}
+use Rattle.std.proofs.lemmas.Bool.{cond_both}
+use Rattle.cl_base.specs.declared.method.Outcome as method
+use Rattle.cmm_attempt.proofs.Basics.{none_some}
+use Rattle.local_disk.specs.declared.memory.Choice.{Choice}
+use Rattle.machine_base.proofs.Puts.{put_here}
+use Rattle.pgr_device.specs.Device.{Device}
+use Rattle.pgr_device.specs.declared.command.PrCommand.{PrCommand}
+use Rattle.pgr_device.specs.declared.command.PrCommand.TheVariants as command
+use Rattle.record_disk.specs.Disks.{DiskState}
+use Rattle.schedule_text.specs.declared.event.Event.{Event}
+use Rattle.schedule_text.specs.declared.event.Event.TheVariants as event
+use Rattle.schedule_text.specs.declared.event.StopChoice.{StopChoice}
+use Rattle.schedule_text.specs.declared.line.Line.{Line}
+use Rattle.schedule_text.specs.declared.line.Line.TheVariants as line
+use Rattle.seize.specs.Answers.{Answer}
+use Rattle.status_report.specs.declared.device_entry.DeviceEntry.TheVariants as device
+use Rattle.status_report.specs.declared.device_entry.WriteRefusal.{WriteRefusal}
+use Rattle.status_report.specs.declared.entry.Entry.TheVariants as entry
+use Rattle.status_report.specs.declared.schedule_entry.ScheduleEntry.TheVariants.{Armed, Skipped}
+use Rattle.status_report.specs.declared.schedule_entry.SkipCause.TheVariants as skip
+use Rattle.history.specs.Letters.{arrived}
+use Rattle.history.specs.Moment.{Moment, Said}
+use Rattle.node_model.specs.declared.cluster.Cluster.{Cluster}
+use Rattle.node_model.specs.declared.input.Input.{Input}
+use Rattle.node_model.specs.declared.input.Input.TheVariants as input
+use Rattle.node_model.specs.declared.node.Node.{Node}
+use Rattle.node_model.specs.declared.node.Node.TheVariants.{Down, Up}
+use Rattle.node_model.specs.declared.node.UpNode.{UpNode}
+use Rattle.node_model.specs.Devices.{may_write_as}
+use Rattle.node_model.specs.Steps.{stepped}
+use Rattle.node_widths.specs.Widths.{AnswerFits}
+use Rattle.world_model.specs.Devices as world
+use Rattle.world_model.specs.Devices.{doing_command, doing_due, due, due_at, on_disk, on_disk_due, writing_at, writing_if}
+use Rattle.world_model.specs.Lines.{left_by, with_stop_at}
+use Rattle.world_model.specs.Sends.{giving}
+use Rattle.world_model.specs.Worlds.{Play, WorldState, is_up, node_at, noting, skipping, with_world}
+use Rattle.refinement.specs.Guards.{OfUp}
+use Rattle.refinement.specs.Runs.{AnswersFit, Nodes, WasSent, moved}
+use Rattle.refinement.specs.Runs.Move.{Takes as Takes_in}
+use Rattle.refinement.specs.Steps.{disk_rules}
+use Rattle.refinement.specs.Worlds.{DeviceFits, DevicesFit, GivesFit, Keeps}
+use Rattle.run_history.specs.Happenings as happen
+use Rattle.run_history.specs.Happenings.{IsNode, IsReadied, happened, taking}
+use Rattle.run_history.specs.Happenings.Happening.{Commands, Refuses, Speaks, Takes, Writes}
+use Rattle.run_history.specs.Telling.{IsInHeader}
+use Rattle.run_history.specs.Scenes as scene
+use Rattle.run_history.specs.Scenes.{Scene, adding}
+use Rattle.run_history.proofs.Apart.{readied_apart}
+use Rattle.run_history.proofs.Alike.{alike_devices, alike_no_stop, alike_stop, played, with_arms}
+use Rattle.run_history.proofs.WorldDevices.{After, after_command, commanded_so, viewed, write_keeps}
+use Rattle.run_history.proofs.Gives.{Gave, Nobody, Took, gave_so}
+use Rattle.run_history.proofs.Reached.{reached_more}
+use Rattle.run_history.proofs.Readied.{Ready, readied}
+use Rattle.run_history.proofs.Stands.{Stands, followed, gives_so, node_number, noted, seen, stands_so, took_plain}
+use Rattle.run_history.proofs.Views.{Follows, said_so, told_so, view}
+
+-- A command is done at a device, and the node takes its answer as this input.
+record Done (c : Cluster) (text : List ℕ) (said : List Line) (n : ℕ) (i : Answer → Input) (o : happen.Commanded) (r : Play) : Type 0 where
+  now : ℕ
+  time : now < 2 ^ 64
+  ends : method.Outcome
+  after : Nodes
+  follows : Follows c text said after (taking c n now ends (i o.answer) o.scene) r
+
+done_so : (c : Cluster) → GivesFit c
+    → (first : Scene) (text : List ℕ) (said : List Line) (p : Play) (n d : ℕ) (k : PrCommand) (i : Answer → Input) (node : Node) (h : Stands c first text said p) → 1 ≤ n
+    → slice_get p.world.nodes (n - 1) ≡ Some node → ((device : Device) → DeviceFits device → Keeps device n k) → ((a : Answer) (v : Nodes) → WasSent v (i a))
+    → ((a : Answer) → AnswerFits a → AnswersFit (i a))
+    → Done c text said n i (happen.commanded (seen c first text said p h) n d k) (giving n (i (world.commanded p.world n d k).answer) (with_world p (world.commanded p.world n d k).world))
+done_so c gives first text said p n d k i node h low at keeps sent bounded =
+    subst (λ z. Done c text said n i z (giving n (i o.answer) q)) (commanded_so p.world h.nodes h.moments n d k)
+    (go (gave_so c gives text said h.nodes h.moments q n (i o.answer) h.spoken h.written low (sent o.answer h.nodes) (bounded o.answer a.bounded) a.alike))
+  where
+    o : world.Commanded
+    o = world.commanded p.world n d k
+
+    q : Play
+    q = with_world p o.world
+
+    a : After c h.nodes p.world.nodes o
+    a = after_command c p.world h.nodes n d k keeps h.alike
+
+    go : Gave c text said h.nodes (view h.nodes o.world h.moments) n o.world.clock o.world.nodes (i o.answer) (giving n (i o.answer) q)
+        → Done c text said n i (viewed h.nodes h.moments o) (giving n (i o.answer) q)
+    go (inl none) = absurd (none_some node (sym none.nobody ∙ ap (λ (ns : List Node). slice_get ns (n - 1)) a.same ∙ at))
+    go (inr t) = record { now = o.world.clock; time = a.alike.shows.clock; ends = t.ends; after = moved c h.nodes (Takes_in n o.world.clock t.ends (i o.answer)); follows = t.follows }
+
+-- a command is due at a node that is up
+due_there : (o : Option Node) (d : ℕ) (k : PrCommand) (P : Type 0) → due_at o ≡ Some (d, k) → ((x : UpNode) → o ≡ Some (Up x) → P) → P
+due_there None d k P e f = absurd (none_some (d, k) e)
+due_there (Some Down) d k P e f = absurd (none_some (d, k) e)
+due_there (Some (Up x)) d k P e f = f x refl
+
+abbrev AllReady : WorldState → ℕ → Type 0
+AllReady w n = (z : Node) → node_at w n ≡ Some z → Ready z
+
+commands_so : (c : Cluster) → GivesFit c → DevicesFit c → (first : Scene) (text : List ℕ) (said : List Line) (p : Play) (n d : ℕ) (k : PrCommand) (x : UpNode) → 1 ≤ n → AllReady p.world n
+    → due p.world n ≡ Some (d, k) → node_at p.world n ≡ Some (Up x) → (h : Stands c first text said p) → arrived h.moments ≡ None → Stands c first text said (doing_due n (Some (d, k)) p)
+commands_so c gives fit first text said p n d k x low ready is at h apart =
+    let s : Scene = seen c first text said p h in
+    let node : h.nodes.node n ≡ Up x = h.alike.shows.node n (Up x) low at in
+    let done : Done c text said n input.Answered (happen.commanded s n d k) (doing_due n (Some (d, k)) p) =
+    done_so c gives first text said p n d k input.Answered (Up x) h low at (λ device f. fit p.world n d k device (played c h.nodes p.world h.alike) low is f) (λ a v. tt) (λ a b. b) in
+    stands_so c first text said (doing_due n (Some (d, k)) p) done.after (happened c s (Commands n d k done.now done.ends))
+    (reached_more c first s (Commands n d k done.now done.ends) h.reached
+    (node_number c h.nodes p.world n (Up x) low at h.alike, subst (λ z. OfUp IsReadied z) (sym node) (ready (Up x) at), ap (λ z. due_at (Some z)) node ∙ ap due_at (sym at) ∙ is, done.time, apart)) done.follows
+
+due_so : (c : Cluster) → GivesFit c → DevicesFit c → (first : Scene) (text : List ℕ) (said : List Line) (p : Play) (n : ℕ) (o : Option (ℕ × PrCommand)) → 1 ≤ n → AllReady p.world n
+    → due p.world n ≡ o → (h : Stands c first text said p) → arrived h.moments ≡ None → Stands c first text said (doing_due n o p)
+due_so c gives fit first text said p n None low ready is h apart = h
+due_so c gives fit first text said p n (Some (d, k)) low ready is h apart =
+    due_there (node_at p.world n) d k (Stands c first text said (doing_due n (Some (d, k)) p)) is (λ x at. commands_so c gives fit first text said p n d k x low ready is at h apart)
+
+-- The node readies itself, then does the command that is due.
+pub command_so : (c : Cluster) → GivesFit c → DevicesFit c → (first : Scene) (text : List ℕ) (said : List Line) (p : Play) (n : ℕ) → 1 ≤ n → (h : Stands c first text said p)
+    → arrived h.moments ≡ None → Stands c first text said (doing_command n p)
+command_so c gives fit first text said p n low h apart = go (gives_so c gives first text said p n input.CommandDue h low tt tt)
+  where
+    q : Play
+    q = giving n input.CommandDue p
+
+    none_ready : Nobody c text said h.nodes (seen c first text said p h) n p.world.nodes q → AllReady q.world n
+    none_ready none z at = subst Ready (sym (h.alike.absent n low none.nobody) ∙ none.follows.alike.shows.node n z low at) tt
+
+    took_ready : Took c text said h.nodes (seen c first text said p h) n p.world.clock input.CommandDue q → AllReady q.world n
+    took_ready k z at =
+        subst Ready (sym (put_here h.nodes.node n (stepped disk_rules c n p.world.clock k.ends (h.nodes.node n) (h.nodes.disk n) input.CommandDue).after) ∙ k.follows.alike.shows.node n z low at)
+        (readied c n p.world.clock k.ends (h.nodes.node n) (h.nodes.disk n))
+
+    go : Gave c text said h.nodes (seen c first text said p h) n p.world.clock p.world.nodes input.CommandDue q → Stands c first text said (doing_due n (due q.world n) q)
+    go (inl none) =
+        due_so c gives fit first text said q n (due q.world n) low (none_ready none) refl
+        (stands_so c first text said q h.nodes (seen c first text said p h) h.reached none.follows) (ap (λ (z : Scene). arrived z.moments) none.follows.is ∙ apart)
+    go (inr k) =
+        due_so c gives fit first text said q n (due q.world n) low (took_ready k) refl (took_plain c first text said p n input.CommandDue h tt apart tt k)
+        (ap (λ (z : Scene). arrived z.moments) k.follows.is ∙ readied_apart c n p.world.clock k.ends (seen c first text said p h) apart)
+
+disk_due : (c : Cluster) → GivesFit c → DevicesFit c → (first : Scene) (text : List ℕ) (said : List Line) (p : Play) (n : ℕ) (o : Option (ℕ × PrCommand)) → 1 ≤ n → (h : Stands c first text said p)
+    → arrived h.moments ≡ None → Stands c first text said (on_disk_due n o p)
+disk_due c gives fit first text said p n None low h apart = noted c first text said p (Skipped skip.NoWork) h
+disk_due c gives fit first text said p n (Some due) low h apart = command_so c gives fit first text said p n low h apart
+
+pub disk_so : (c : Cluster) → GivesFit c → DevicesFit c → (first : Scene) (text : List ℕ) (said : List Line) (p : Play) (n : ℕ) → 1 ≤ n → (h : Stands c first text said p)
+    → arrived h.moments ≡ None → Stands c first text said (on_disk n p)
+disk_so c gives fit first text said p n low h apart =
+    cond_both (is_up p.world n) (on_disk_due n (due p.world n) p) (skipping skip.Down p) (Stands c first text said)
+    (λ e. disk_due c gives fit first text said p n (due p.world n) low h apart) (λ e. noted c first text said p (Skipped skip.Down) h)
+
+-- A node writes, or refuses to.
+
+written_if : (c : Cluster) → GivesFit c → (first : Scene) (text : List ℕ) (said : List Line) (p : Play) (n d value : ℕ) (x : UpNode) (r : Result ℕ WriteRefusal) → 1 ≤ n
+    → slice_get p.world.nodes (n - 1) ≡ Some (Up x) → may_write_as c n d x.seat ≡ r → (h : Stands c first text said p) → arrived h.moments ≡ None → Stands c first text said (writing_if n d value r p)
+written_if c gives first text said p n d value x (Ok e) low at may h apart =
+    let s : Scene = seen c first text said p h in
+    let node : h.nodes.node n ≡ Up x = h.alike.shows.node n (Up x) low at in
+    let k : PrCommand = command.Write value in
+    let i : Answer → Input = λ a. input.Wrote d value a in
+    let done : Done c text said n i (happen.commanded s n d k) (writing_if n d value (Ok e) p) =
+    done_so c gives first text said p n d k i (Up x) h low at (λ device f. write_keeps n value device f) (λ a v. tt) (λ a b. tt) in
+    stands_so c first text said (writing_if n d value (Ok e) p) done.after (happened c s (Writes n d value done.now done.ends))
+    (reached_more c first s (Writes n d value done.now done.ends) h.reached
+    (node_number c h.nodes p.world n (Up x) low at h.alike, subst (λ z. OfUp (λ y. is_ok (may_write_as c n d y.seat) ≡ true) z) (sym node) (ap is_ok may), done.time, apart)) done.follows
+written_if c gives first text said p n d value x (Err cause) low at may h apart =
+    let s : Scene = seen c first text said p h in
+    let node : h.nodes.node n ≡ Up x = h.alike.shows.node n (Up x) low at in
+    stands_so c first text said (writing_if n d value (Err cause) p) h.nodes (happened c s (Refuses n d value cause))
+    (reached_more c first s (Refuses n d value cause) h.reached
+    (node_number c h.nodes p.world n (Up x) low at h.alike, subst (λ z. OfUp (λ y. may_write_as c n d y.seat ≡ Err cause) z) (sym node) may))
+    (told_so c text said h.nodes s p (entry.Device (device.Refused n d value cause)) (followed c first text said p h))
+
+pub written_at : (c : Cluster) → GivesFit c → (first : Scene) (text : List ℕ) (said : List Line) (p : Play) (n d value : ℕ) (o : Option Node) → 1 ≤ n → slice_get p.world.nodes (n - 1) ≡ o
+    → (h : Stands c first text said p) → arrived h.moments ≡ None → Stands c first text said (writing_at n d value o p)
+written_at c gives first text said p n d value None low at h apart = noted c first text said p (Skipped skip.Down) h
+written_at c gives first text said p n d value (Some Down) low at h apart = noted c first text said p (Skipped skip.Down) h
+written_at c gives first text said p n d value (Some (Up x)) low at h apart =
+    written_if c gives first text said p n d value x (may_write_as p.world.cluster n d x.seat) low at (ap (λ z. may_write_as z n d x.seat) (sym h.alike.shows.cluster)) h apart
+
+-- A fault is armed.
+
+faulted : (c : Cluster) (text : List ℕ) (said : List Line) (v : Nodes) (s : Scene) (p : Play) (n d : ℕ) (fault : Option Bool) → Follows c text said v s p
+    → Follows c text said v (scene.with_fault s n d fault) (with_world p (world.with_fault p.world n d fault))
+faulted c text said v s p n d fault f = record {
+  moments = f.moments;
+  is = ap (λ z. scene.with_fault z n d fault) f.is;
+  alike = alike_devices c v p.world p.world.devices (world.with_fault p.world n d fault).faults f.alike.shows.device refl f.alike;
+  spoken = f.spoken;
+  written = f.written;
+}
+
+pub fault_so : (c : Cluster) (first : Scene) (text : List ℕ) (said : List Line) (p : Play) (n d : ℕ) (done : Bool) → IsInHeader c.header (event.Fault n d done) → Stands c first text said p
+    → Stands c first text (line.Event (event.Fault n d done) ∷ said) (noting Armed (with_world p (world.with_fault p.world n d (Some done))))
+fault_so c first text said p n d done known h =
+    let s : Scene = seen c first text said p h in
+    let e : Event = event.Fault n d done in
+    let lines : List Line = line.Event e ∷ said in
+    noted c first text lines (with_world p (world.with_fault p.world n d (Some done))) Armed
+    (stands_so c first text lines (with_world p (world.with_fault p.world n d (Some done))) h.nodes (happened c s (Speaks e))
+    (reached_more c first s (Speaks e) h.reached (known.0, known.1, known.2, subst (λ k. d ≤ k) (sym h.alike.count) known.3))
+    (faulted c text lines h.nodes (adding (Said (line.Event e)) s) p n d (Some done) (said_so c text said h.nodes s p e (followed c first text said p h))))
+
+-- A stop is armed.
+
+stopped_at : (c : Cluster) (text : List ℕ) (said : List Line) (v : Nodes) (moments : List Moment) (p : Play) (n calls : ℕ) (choice : Choice) (o : Option DiskState) → 1 ≤ n
+    → slice_get p.world.disks (n - 1) ≡ o → Follows c text said v (view v p.world moments) p
+    → Follows c text said (with_arms c v n calls choice) (view (with_arms c v n calls choice) p.world moments) (with_world p (with_stop_at p.world n calls choice o))
+stopped_at c text said v moments p n calls choice None low is f =
+    record { moments = f.moments; is = ap (λ (z : Scene). record z { nodes = with_arms c v n calls choice }) f.is; alike = alike_no_stop c v p.world n calls choice is f.alike; spoken = f.spoken; written = f.written }
+stopped_at c text said v moments p n calls choice (Some disk) low is f =
+    record { moments = f.moments; is = ap (λ (z : Scene). record z { nodes = with_arms c v n calls choice }) f.is; alike = alike_stop c v p.world n calls choice disk low is f.alike; spoken = f.spoken; written = f.written }
+
+pub stop_so : (c : Cluster) (first : Scene) (text : List ℕ) (said : List Line) (p : Play) (n calls : ℕ) (choice : StopChoice) → 1 ≤ n → Stands c first text said p
+    → Stands c first text (line.Event (event.CrashAt n calls choice) ∷ said) (noting Armed (with_world p (with_stop_at p.world n calls (left_by choice) (slice_get p.world.disks (n - 1)))))
+stop_so c first text said p n calls choice low h =
+    let s : Scene = seen c first text said p h in
+    let e : Event = event.CrashAt n calls choice in
+    let lines : List Line = line.Event e ∷ said in
+    let q : Play = with_world p (with_stop_at p.world n calls (left_by choice) (slice_get p.world.disks (n - 1))) in
+    noted c first text lines q Armed
+    (stands_so c first text lines q (with_arms c h.nodes n calls (left_by choice)) (happened c s (Speaks e)) (reached_more c first s (Speaks e) h.reached tt)
+    (stopped_at c text lines h.nodes (Said (line.Event e) ∷ h.moments) p n calls (left_by choice) (slice_get p.world.disks (n - 1)) low refl
+    (said_so c text said h.nodes s p e (followed c first text said p h))))

@@ -1,0 +1,5 @@
+use Rattle.run_history.proofs.WholeEachRun as proof
+use Rattle.run_history.proofs.runs_write_safely.Goals as goal
+
+pub returns : goal.returns
+returns c = proof.runs_write_safely

@@ -1,0 +1,10 @@
+pub mod Given
+pub mod Reaching
+pub mod Spelling
+pub mod Lines
+pub mod Beats
+pub mod Collecting
+pub mod Seats
+pub mod Changes
+pub mod Doings
+pub mod Runs

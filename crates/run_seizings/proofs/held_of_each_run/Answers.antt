@@ -1,0 +1,5 @@
+use Rattle.run_seizings.proofs.Runs as proof
+use Rattle.run_seizings.proofs.held_of_each_run.Goals as goal
+
+pub returns : goal.returns
+returns c = proof.held_of_each_run

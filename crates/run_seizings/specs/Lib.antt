@@ -1,0 +1,4 @@
+pub mod Laws
+-- what only the proofs need
+pub mod Seized
+pub mod Sites
