@@ -13,16 +13,20 @@ use Rattle.schedule_text.specs.Allowed.{IsAllowedEvent, IsHeader}
 use Rattle.schedule_text.specs.Lines.{so_far_after_event}
 use Rattle.status_report.specs.Lines.{printed}
 use Rattle.grammar_laws.specs.Reads.{HasSeconds, LacksServers}
+use Rattle.history.specs.Commands.{AnswersOnce}
 use Rattle.history.specs.Contact.{AttemptsDiffer, HasVotes, Held, Installed, Prepared, Ready, ToldMembers}
 use Rattle.history.specs.Contents.{CarriedUpdates, Heartbeats, InstallsTheBase, KnownHeld, NewestBase, NewestInstalled, Records, Spelled}
 use Rattle.history.specs.DeviceRun.{DeviceRun}
 use Rattle.history.specs.DiskRule.{DiskRule}
+use Rattle.history.specs.Downs.{stop_due}
 use Rattle.history.specs.History.{Repository}
 use Rattle.history.specs.Links.{Links, drop_due}
 use Rattle.history.specs.Moment.{Moment, lines_of}
+use Rattle.history.specs.Order.{Always}
 use Rattle.history.specs.Starts.{StartLines, base_due}
 use Rattle.history_setting.specs.Settings.{setting_of}
 use Rattle.world_model.specs.First.{first_world}
+use Rattle.run_downs.specs.Laws.{BootIsSaid, CrashIsSaid, FencedByWrite, SavesInEvent, StopComes, StopsAtStop}
 use Rattle.run_history.specs.Telling.{lines_upon}
 use Rattle.run_history.specs.Scenes.{text_of}
 use Rattle.replay.specs.Sessions.{first_so_far}
@@ -34,9 +38,11 @@ use Rattle.replay.specs.Replays.{OfCluster, OfDevice, Schedule, entries, schedul
 -- is kept, no device takes a write of a node that a greater membership left out, a node installs, is ready, is a member and
 -- has prepared by the messages that tell of it, and a membership starts with a majority of the votes under its base and with
 -- devices that were seized for it, as its coordinator knew. The bytes of each message spell it: a Promise and an Install show
--- the record of their sender, the newest in hand is installed and is the base, and a Heartbeat says who is a member. While
--- there are fewer than 2^63 lines, which number the commands, a Prepare has the words that were proposed, a Request those of
--- its command, and a member answers what the president's Answer says.
+-- the record of their sender, the newest in hand is installed and is the base, and a Heartbeat says who is a member. A node
+-- comes up, crashes and saves in the event that makes it do so, panics for a fence where a write of its own was refused, and
+-- stops exactly where an armed stop falls. While there are fewer than 2^63 lines, which number the commands, a Prepare has the
+-- words that were proposed, a Request those of its command, a member answers what the president's Answer says, and each command
+-- is answered once at most.
 pub record IsTrace (h : Header) (events : List Event) (text : List ℕ) : Type 0 where
   pub moments : List Moment
   pub said : lines_of moments ≡ lines_upon [] events
@@ -63,6 +69,14 @@ pub record IsTrace (h : Header) (events : List Event) (text : List ℕ) : Type 0
   pub known_held : KnownHeld h moments
   pub heartbeats : Heartbeats moments
   pub updates : length (lines_of moments) < 2 ^ 63 → CarriedUpdates (setting_of h) moments
+  pub answers_once : length (lines_of moments) < 2 ^ 63 → AnswersOnce moments
+  pub boots : Always BootIsSaid moments
+  pub crashes : Always CrashIsSaid moments
+  pub fences : Always FencedByWrite moments
+  pub saves : Always SavesInEvent moments
+  pub stops : Always StopsAtStop moments
+  pub stops_come : Always StopComes moments
+  pub no_stop_due : stop_due moments ≡ None
 
 -- each event is one that the header and the events before it allow, and its seconds have 64 bits
 abbrev pub AreAllowed : Header → SoFar → List Event → Type 0
