@@ -31,7 +31,7 @@ use Rattle.node_model.specs.declared.output.Output.TheVariants.{Sends, Tells}
 use Rattle.node_model.specs.declared.presidency.Presidency.{Presidency}
 use Rattle.refinement.specs.Cuts.{queue_by}
 use Rattle.run_history.proofs.Lists.{both, mapped, of_each}
-use Rattle.run_commands.specs.Guards.{AreQuiet, GivesSo, Hand, IsQuietOutput, MayMove, Move, QueueGoes, waiting_by}
+use Rattle.run_commands.specs.Guards.{AreQuiet, GivesSo, Hand, IsQuietOutput, MayMove, Move, waiting_by}
 use Rattle.run_commands.specs.Guards.Hand.{Free, Held, Spent}
 use Rattle.run_commands.specs.Guards.Move.{Drops, Pops, Stays, Takes}
 
@@ -74,16 +74,6 @@ served_quiet name client port k = both IsQuietOutput (forgot_lines name k.forgot
 
 pub quiet_gives : (me : ℕ) (h : Hand) (waiting : List Request) (os : List Output) → AreQuiet os → GivesSo me h waiting os h
 quiet_gives me h waiting os quiet = inl (quiet, refl)
-
--- ---- the queue stays
-
-pub same_queue : (held : Hand) (q p : Queue) → held ≡ Free → p.waiting ≡ q.waiting → p.asked ≡ q.asked → QueueGoes held q p held
-same_queue Free q p is waiting asked = record { move = Stays; waiting = waiting; asked = asked; may = (tt, refl) }
-same_queue (Held k) q p is waiting asked = record { move = Stays; waiting = waiting; asked = asked; may = (tt, refl) }
-same_queue (Spent k) q p is waiting asked = absurd (free_spent k is)
-  where
-    free_spent : (j : ℕ) → Spent j ≡ Free → ⊥
-    free_spent j e = cc
 
 -- ---- an answer, and then the queue moves
 

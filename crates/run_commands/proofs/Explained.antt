@@ -56,8 +56,8 @@ told_now : (n : ℕ) (o : Option ℕ) (e : Entry) (ms : List Moment) → Now n o
 told_now n o e ms h q is = or_second (is_asking n q (Told e)) (list_any (is_asking n q) (so_far ms)) (h q is)
 
 told_same : (e : Entry) (ms : List Moment) → NoPacket e → arrived (Told e ∷ ms) ≡ arrived ms
-told_same (entry.Packet e) ms no = absurd no
-told_same _ ms no = refl
+told_same (entry.Packet e) ms quiet = absurd quiet
+told_same _ ms quiet = refl
 
 -- ---- messages
 
@@ -132,7 +132,7 @@ gone_none : (n : ℕ) (o : Option ℕ) (s : Scene) → Now n o s.moments → Are
 gone_none n o s now explained = record { now = now; same = refl; explained = explained; sends = tt }
 
 gone_told : (n : ℕ) (o : Option ℕ) (e : Entry) (os : List Output) (s : Scene) → NoPacket e → Gone n o os (telling e s) → Gone n o (Tells e ∷ os) s
-gone_told n o e os s no g = record { now = g.now; same = g.same ∙ told_same e s.moments no; explained = g.explained; sends = (tt, g.sends) }
+gone_told n o e os s quiet g = record { now = g.now; same = g.same ∙ told_same e s.moments quiet; explained = g.explained; sends = (tt, g.sends) }
 
 pub gone_all : (n : ℕ) (o : Option ℕ) (os : List Output) (s : Scene) → AllSo n o os → Now n o s.moments → AreExplained s.moments → Gone n o os s
 gone_all n o [] s so now explained = gone_none n o s now explained

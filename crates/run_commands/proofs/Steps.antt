@@ -1,5 +1,5 @@
 -- A whole step of a node, whatever comes to it, answers commands that wait.
-use Rattle.std.specs.Prelude.{ℕ, ◌+◌, ◌-◌, ◌^◌, ◌≡◌, ◌≢◌, ◌≤◌, ◌<◌, ◌&&◌, not, Bool, true, false, List, [], ◌∷◌, length, Option, None, Some, slice_get}
+use Rattle.std.specs.Prelude.{ℕ, ◌+◌, ◌-◌, ◌^◌, ◌≡◌, ◌≢◌, ◌≤◌, ◌<◌, ◌&&◌, not, Bool, true, false, List, [], ◌∷◌, length, Option, None, Some, slice_get, if◌then◌else◌}
 use Rattle.std.proofs.Common.{refl, sym, arith}
 use Rattle.admin_words.specs.Commands.{command_of}
 use Rattle.cl_base.specs.declared.command.Ask.{Ask}
