@@ -1,7 +1,6 @@
 -- What is told and sent in a step, as far as answers are concerned.
 use Rattle.std.specs.Prelude.{ℕ, ◌≡◌, ◌==◌, Bool, true, false, List, [], ◌∷◌, Option, None, Some, if◌then◌else◌}
-use Rattle.std.specs.List.{AllByRecursion}
-use Rattle.std.proofs.Common.{refl, sym, ap, subst, ◌∙◌, inl, inr}
+use Rattle.std.proofs.Common.{refl, inl, inr}
 use Rattle.cl_base.specs.declared.method.Method.{Method}
 use Rattle.cl_base.specs.declared.method.Outcome.{Outcome}
 use Rattle.cmm_attempt.proofs.Basics.{if_either}

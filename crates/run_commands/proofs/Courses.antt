@@ -289,8 +289,7 @@ module _ (c : Cluster) (me : ℕ) where
 
   acknowledged_so : (x : UpNode) (p : Presidency) (a : Arrived) (text : List ℕ) → G x (cuts.acknowledged_course c me x p a text)
   acknowledged_so x p a text =
-      let f : Frees me x.requests.waiting x.requests.asked (queue_by me x a) (answer_given me x a answer.Ok) = given_frees me x a answer.Ok in
-      (
+      let f : Frees me x.requests.waiting x.requests.asked (queue_by me x a) (answer_given me x a answer.Ok) = given_frees me x a answer.Ok in (
         f.after,
         record { move = f.move; waiting = f.waiting_so; asked = f.asked_so; may = f.may },
         (f.after, refl, (Free, f.gives (changed c me x (acks_of c me x p a text)).requests.waiting, deciding_so (changed c me x (acks_of c me x p a text)))),

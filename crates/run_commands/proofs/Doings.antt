@@ -1,6 +1,6 @@
 -- What each small step of a node leaves of the commands that wait.
 use Rattle.std.specs.Prelude.{ℕ, ◌≡◌, ◌≢◌, ◌⊎◌, ◌++◌, List, [], ◌∷◌, Option, None, Some, if◌then◌else◌, Bool, true, false}
-use Rattle.std.proofs.Common.{refl, sym, ap, subst, ◌∙◌, inl, inr}
+use Rattle.std.proofs.Common.{refl, sym, subst, ◌∙◌, inl, inr}
 use Rattle.cl_base.specs.Sets.{has}
 use Rattle.cmm_attempt.proofs.Basics.{if_either}
 use Rattle.cmm_attempt.specs.Attempts.{AttemptState}
@@ -12,9 +12,7 @@ use Rattle.status_report.specs.declared.attempt_entry.AttemptEntry.TheVariants a
 use Rattle.status_report.specs.declared.command_entry.Answer.TheVariants.{Unknown}
 use Rattle.status_report.specs.declared.entry.Entry.TheVariants as entry
 use Rattle.status_report.specs.declared.node_entry.NodeEntry.TheVariants as note
-use Rattle.history.specs.Moment.{Moment, Told}
-use Rattle.history.specs.Trace.{answered}
-use Rattle.node_model.specs.Attempts.{seizing_here}
+use Rattle.history.specs.Moment.{Moment}
 use Rattle.node_model.specs.Entries.{answered_line, unknown_lines}
 use Rattle.node_model.specs.Members.{promised_so, rested_by}
 use Rattle.node_model.specs.Seats.{promising, record_of}
@@ -28,8 +26,8 @@ use Rattle.refinement.specs.Doings.Change.{Acks, Admits, Commits, Counts, Distru
 use Rattle.run_history.proofs.Idle.{passing_append}
 use Rattle.run_history.proofs.Lists.{both}
 use Rattle.run_history.specs.Scenes.{Scene, passing, telling}
-use Rattle.run_commands.specs.Guards.{ActSo, AnswersOne, AreQuiet, ChangeSo, Hand, IsQuietOutput, QueueGoes}
-use Rattle.run_commands.specs.Guards.Hand.{Free, Held, Spent}
+use Rattle.run_commands.specs.Guards.{ActSo, AnswersOne, AreQuiet, ChangeSo, Hand, IsQuietOutput}
+use Rattle.run_commands.specs.Guards.Hand.{Free}
 use Rattle.run_commands.specs.Answers.{AnswersWait}
 use Rattle.run_commands.proofs.Owed.{Answered, AreDue, AreOnce, Owed, due_others, owed_answered, owed_moved, owed_none, owed_stays, due_stays}
 use Rattle.run_commands.proofs.Quiet.{GoesOn, ended_quiet, first_quiet, last_quiet, spread_quiet, superseded_quiet, ticked_quiet, write_quiet}

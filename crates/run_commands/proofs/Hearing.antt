@@ -1,8 +1,8 @@
 -- What is told and sent in a step, as far as the readings of texts are concerned; and what comes.
-use Rattle.std.specs.Prelude.{ℕ, ◌+◌, ◌*◌, ◌/◌, ◌%◌, ◌≡◌, ◌≤◌, ◌<◌, ◌==◌, not, Bool, true, false, List, [], ◌∷◌, Option, None, Some, IfSome, Result, Ok, Err, if◌then◌else◌}
+use Rattle.std.specs.Prelude.{ℕ, ◌+◌, ◌/◌, ◌≡◌, ◌≤◌, ◌<◌, ◌==◌, not, Bool, true, false, List, [], ◌∷◌, Option, None, Some, IfSome, if◌then◌else◌}
 use Rattle.std.specs.List.{AllByRecursion}
 use Rattle.std.specs.Str.{bytes_eq}
-use Rattle.std.proofs.Common.{refl, sym, ap, subst, ◌∙◌, inl, inr, arith}
+use Rattle.std.proofs.Common.{refl, sym, ap, subst, ◌∙◌, inl, arith}
 use Rattle.std.proofs.lemmas.Nat.{mod-mul-add}
 use Rattle.std.proofs.lemmas.Slice.Eq.{bytes_eq-Decides}
 use Rattle.admin_words.specs.Commands.{request_of}
@@ -13,26 +13,25 @@ use Rattle.cl_base.specs.Names.{IsName}
 use Rattle.cl_base.specs.declared.header.Version.{Version}
 use Rattle.cl_base.specs.declared.method.Method.{Method}
 use Rattle.cl_base.specs.declared.method.Outcome.{Outcome}
-use Rattle.cmm_attempt.proofs.Basics.{false_true, if_either, none_some}
+use Rattle.cmm_attempt.proofs.Basics.{if_either, none_some}
 use Rattle.cmm_member.specs.Nodes.{NodeState}
 use Rattle.history.specs.Setting.{coordinator}
 use Rattle.node_model.specs.Addresses.{forgot_lines, served_lines}
 use Rattle.node_model.specs.Attempts.{next_epoch}
-use Rattle.node_model.specs.Configurations.{in_force, own_config}
+use Rattle.node_model.specs.Configurations.{own_config}
 use Rattle.node_model.specs.Deciding.{order_sent, orders_sent}
 use Rattle.node_model.specs.Groups.{asked_by, call_told, order_again, order_again_to, order_at, order_told, orders_again_by, orders_again_of}
 use Rattle.node_model.specs.Members.{is_foreign, is_ok}
 use Rattle.node_model.specs.Presidents.{answer_given, own_line, told_lines, word_answer}
-use Rattle.node_model.specs.Seats.{record_of, session_of, state_of, version_of}
+use Rattle.node_model.specs.Seats.{session_of, state_of, version_of}
 use Rattle.node_model.specs.declared.cluster.Cluster.{Cluster}
 use Rattle.node_model.specs.declared.input.Input.{Input}
-use Rattle.node_model.specs.declared.input.Input.TheVariants.{Boot, Crash, Tick, Packet, CommandDue, Answered, Wrote, Commanded, Reported, Client}
+use Rattle.node_model.specs.declared.input.Input.TheVariants.{Packet, Commanded}
 use Rattle.node_model.specs.declared.node.UpNode.{UpNode}
-use Rattle.node_model.specs.declared.output.Output.{Output}
 use Rattle.node_model.specs.declared.output.Output.TheVariants.{Sends, Tells}
 use Rattle.node_model.specs.declared.presidency.Presidency.{Presidency}
 use Rattle.node_model.specs.declared.seat.Seat.TheVariants.{Forming}
-use Rattle.node_widths.proofs.Names.{TableFits, in_force_fits}
+use Rattle.node_widths.proofs.Names.{in_force_fits}
 use Rattle.proposals.specs.declared.arrived.Arrived.{Arrived}
 use Rattle.refinement.specs.Doings.{Change}
 use Rattle.refinement.specs.Doings.Change.{Acks, Admits, Commits, Counts, Distrusts, Installs, Leads, Prepares, Promises, Proposes, Sits, Starts}

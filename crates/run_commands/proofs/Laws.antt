@@ -1,6 +1,5 @@
 -- In each run answers are given once, to commands that wait.
 use Rattle.std.specs.Prelude.{List, [], ◌∷◌}
-use Rattle.status_report.specs.declared.command_entry.Answer.{Answer}
 use Rattle.status_report.specs.declared.command_entry.Answer.TheVariants as answer
 use Rattle.status_report.specs.declared.command_entry.CommandEntry.TheVariants as command
 use Rattle.status_report.specs.declared.entry.Entry.{Entry}

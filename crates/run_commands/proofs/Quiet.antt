@@ -1,6 +1,5 @@
 -- Which outputs of a node are of no boot, no command and no packet.
 use Rattle.std.specs.Prelude.{ℕ, ◌+◌, List, [], ◌∷◌, Option, None, Some, Ok}
-use Rattle.std.specs.List.{AllByRecursion}
 use Rattle.ccr_tables.specs.State.{ConfigState}
 use Rattle.cl_base.specs.Limits.{most_nodes}
 use Rattle.cl_base.specs.Numbers.{numbers_to}
@@ -13,8 +12,7 @@ use Rattle.node_model.specs.Attempts.{adopted_line, adopted_lines, adopted_of, a
 use Rattle.node_model.specs.Configurations.{configured_at}
 use Rattle.node_model.specs.declared.cluster.Cluster.{Cluster}
 use Rattle.node_model.specs.declared.node.UpNode.{UpNode}
-use Rattle.node_model.specs.declared.output.Output.{Output}
-use Rattle.node_model.specs.declared.output.Output.TheVariants.{Sends, Tells}
+use Rattle.node_model.specs.declared.output.Output.TheVariants.{Sends}
 use Rattle.node_model.specs.declared.presidency.Presidency.{Presidency}
 use Rattle.node_model.specs.Presidents.{sent_to}
 use Rattle.node_model.specs.Seats.{coordinator_of}
@@ -31,7 +29,6 @@ use Rattle.rg_view.specs.declared.states.ResourceAt.{ResourceAt}
 use Rattle.rg_view.specs.declared.view.GroupView.{GroupView}
 use Rattle.run_history.proofs.Lists.{both, mapped, of_each}
 use Rattle.seize.specs.Answers.{Answer}
-use Rattle.status_report.specs.declared.entry.Entry.{Entry}
 use Rattle.status_report.specs.declared.entry.Entry.TheVariants as entry
 use Rattle.wire.specs.declared.message.Body.{Body}
 use Rattle.cmm_attempt.specs.Calls.{turn}

@@ -1,7 +1,7 @@
 -- Each thing that happens keeps it that answers are explained; so does each run.
-use Rattle.std.specs.Prelude.{ℕ, ◌-◌, ◌≡◌, ◌≢◌, ◌≤◌, ◌⊎◌, ◌++◌, false, List, [], ◌∷◌, Option, None, Some, slice_get}
+use Rattle.std.specs.Prelude.{ℕ, ◌-◌, ◌≡◌, ◌≢◌, ◌≤◌, ◌⊎◌, false, List, [], ◌∷◌, Option, None, Some, slice_get}
 use Rattle.std.specs.List.{AllByRecursion}
-use Rattle.std.proofs.Common.{refl, sym, subst, inl, inr}
+use Rattle.std.proofs.Common.{sym, subst, inl, inr}
 use Rattle.cl_base.specs.declared.header.Header.{Header}
 use Rattle.cl_base.specs.declared.header.Version.{Version}
 use Rattle.cl_base.specs.declared.method.Outcome as method
@@ -20,7 +20,6 @@ use Rattle.node_model.specs.declared.cluster.Cluster.{Cluster}
 use Rattle.node_model.specs.declared.input.Input.{Input}
 use Rattle.node_model.specs.declared.input.Input.TheVariants as input
 use Rattle.node_model.specs.declared.node.Node.{Node}
-use Rattle.node_model.specs.declared.node.Node.TheVariants.{Down, Up}
 use Rattle.node_model.specs.declared.output.Output.{Output}
 use Rattle.node_model.specs.declared.output.Output.TheVariants.{Sends, Tells}
 use Rattle.pgr_device.specs.Device.{Device}
@@ -48,7 +47,7 @@ use Rattle.run_history.specs.Happenings.{Arrives, Begins, Commands, Happening, I
 use Rattle.run_history.specs.Scenes.{Scene, adding, dropped_so, first_scene, passing, telling, with_links}
 use Rattle.run_history.specs.Stages.{Stage}
 use Rattle.run_messages.proofs.Collecting.{arrival_collects, nothing_collects}
-use Rattle.run_messages.proofs.Reaching.{IsReached, IsSmall, holds_of_each, stage_of}
+use Rattle.run_messages.proofs.Reaching.{IsSmall, holds_of_each, stage_of}
 use Rattle.run_commands.specs.Answers.{AreExplained}
 use Rattle.run_commands.specs.Reads.{BodySo, CameSo, collects}
 use Rattle.run_commands.proofs.Explained.{SendsSo}

@@ -1,7 +1,7 @@
 -- A whole step of a node, whatever comes to it, leaves each answer explained.
-use Rattle.std.specs.Prelude.{ℕ, ◌≡◌, ◌≤◌, ◌==◌, ◌&&◌, ◌||◌, Bool, true, false, List, [], ◌∷◌, Option, None, Some}
-use Rattle.std.specs.List.{AllByRecursion, list_any}
-use Rattle.std.proofs.Common.{refl, sym, ap, subst, ◌∙◌, arith}
+use Rattle.std.specs.Prelude.{ℕ, ◌≡◌, ◌≤◌, ◌==◌, ◌&&◌, ◌||◌, Bool, true, false, List, [], ◌∷◌, None, Some}
+use Rattle.std.specs.List.{list_any}
+use Rattle.std.proofs.Common.{refl, subst, arith}
 use Rattle.admin_words.specs.Commands.{command_of}
 use Rattle.cl_base.specs.declared.header.Version.{Version}
 use Rattle.cl_base.specs.declared.method.Outcome as method
@@ -11,17 +11,14 @@ use Rattle.history.specs.Member.{in_collect}
 use Rattle.history.specs.Moment.{Moment, Told}
 use Rattle.history.specs.Order.{so_far}
 use Rattle.history.specs.Requests.{is_asking}
-use Rattle.node_model.specs.Clusters.{first_valid_of}
 use Rattle.node_model.specs.Requests.{numbered}
-use Rattle.node_model.specs.Seats.{up_with, version_of}
+use Rattle.node_model.specs.Seats.{version_of}
 use Rattle.node_model.specs.Steps.{at_second}
 use Rattle.node_model.specs.declared.cluster.Cluster.{Cluster}
 use Rattle.node_model.specs.declared.input.Input.{Input}
 use Rattle.node_model.specs.declared.input.Input.TheVariants as input
 use Rattle.node_model.specs.declared.node.Node.TheVariants.{Down, Up}
 use Rattle.node_model.specs.declared.node.UpNode.{UpNode}
-use Rattle.node_model.specs.declared.output.Output.{Output}
-use Rattle.node_model.specs.declared.output.Output.TheVariants.{Tells}
 use Rattle.refinement.specs.Courses.{Course, Reply, under}
 use Rattle.refinement.specs.Courses.Reply.{Done, Lost_new, Lost_old}
 use Rattle.refinement.specs.Cuts as cuts
@@ -35,13 +32,13 @@ use Rattle.status_report.specs.declared.node_entry.DownCause.{DownCause}
 use Rattle.status_report.specs.declared.node_entry.DownCause.TheVariants as down
 use Rattle.status_report.specs.declared.node_entry.NodeEntry.TheVariants as note
 use Rattle.node_model.specs.declared.node.Node.{Node}
-use Rattle.run_history.specs.Scenes.{Scene, passing, telling}
+use Rattle.run_history.specs.Scenes.{Scene, telling}
 use Rattle.run_commands.specs.Answers.{AreExplained}
 use Rattle.run_commands.specs.Reads.{CameSo, ReadsIn, collects}
 use Rattle.run_commands.proofs.Explained.{Now}
 use Rattle.run_commands.proofs.Hearing.{IsNoCommand}
 use Rattle.run_commands.proofs.Readings.{course_at_so, worded_so}
-use Rattle.run_commands.proofs.ReadWalk.{Between, Ends_so, NodeReads, down_so, read_walk}
+use Rattle.run_commands.proofs.ReadWalk.{Ends_so, NodeReads, down_so, read_walk}
 
 abbrev EndsBy : Cluster → ℕ → Node → NodeRecord → List Doing → Scene → Type 0
 EndsBy c n node disk ds s = Ends_so n (version_of c) (after_all c n (site node disk) ds).node (given_all c n (site node disk) ds) s

@@ -1,7 +1,7 @@
 -- A course of a node that is up, under all replies of its disk, leaves each answer explained.
-use Rattle.std.specs.Prelude.{ℕ, ◌≡◌, ◌==◌, ◌&&◌, ◌++◌, Bool, true, false, List, [], ◌∷◌, Option, None, Some, Ok, if◌then◌else◌}
+use Rattle.std.specs.Prelude.{ℕ, ◌≡◌, ◌==◌, ◌&&◌, ◌++◌, Bool, true, false, List, [], ◌∷◌, Option, None, Some, Ok}
 use Rattle.std.specs.List.{AllByRecursion}
-use Rattle.std.proofs.Common.{refl, sym, ap, subst, ◌∙◌, arith}
+use Rattle.std.proofs.Common.{sym, ap, subst, ◌∙◌, arith}
 use Rattle.cl_base.specs.Limits.{most_nodes}
 use Rattle.cl_base.specs.Numbers.{numbers_to}
 use Rattle.cl_base.specs.Sets.{has}
@@ -17,7 +17,6 @@ use Rattle.request_queue.specs.declared.request.Request.{Request}
 use Rattle.seize.specs.Answers.{Answer}
 use Rattle.seize.specs.Seizing as seizing
 use Rattle.status_report.specs.declared.attempt_entry.AttemptEntry.TheVariants as attempt
-use Rattle.status_report.specs.declared.command_entry.CommandEntry.TheVariants as command
 use Rattle.status_report.specs.declared.entry.Entry.{Entry}
 use Rattle.status_report.specs.declared.entry.Entry.TheVariants as entry
 use Rattle.status_report.specs.declared.node_entry.DownCause.{DownCause}

@@ -39,7 +39,7 @@ use Rattle.status_report.specs.declared.packet_entry.PacketEntry.TheVariants as 
 use Rattle.world_model.specs.First.{first_cluster}
 use Rattle.run_history.proofs.Idle.{passing_nodes}
 use Rattle.run_history.proofs.Reached.{kept_holds}
-use Rattle.run_history.specs.Happenings.{Arrives, Begins, Commands, Happening, IsPlain, IsSaid, Loses, MayAllHappen, MayHappen, Misses, Notes, Refuses, Repeats, Speaks, Strays, Takes, Writes, all_happened, armed_by, commanded, commanded_at, given_by, happened, removed, taking}
+use Rattle.run_history.specs.Happenings.{Arrives, Begins, Commands, Happening, IsSaid, Loses, MayAllHappen, MayHappen, Misses, Notes, Refuses, Repeats, Speaks, Strays, Takes, Writes, all_happened, armed_by, commanded, commanded_at, given_by, happened, removed, taking}
 use Rattle.run_history.specs.Scenes.{Scene, adding, dropped_so, first_scene, passing, telling, with_links}
 use Rattle.run_requests.specs.Steps.{used_lines}
 use Rattle.run_requests.proofs.Counts.{dropped_used, few_longer, more_used, passing_used, then_le}
@@ -47,7 +47,7 @@ use Rattle.run_commands.specs.Guards.Hand.{Free}
 use Rattle.run_commands.specs.Answers.{AnswersWait}
 use Rattle.run_commands.proofs.Owed.{Owed, owed_stays}
 use Rattle.run_commands.proofs.Steps.{Stepped, down_step, up_step}
-use Rattle.run_commands.proofs.Waiting.{Leaves, WaitOn, dropped_leaves, packet_leaves, passing_waits, quiet_leaves}
+use Rattle.run_commands.proofs.Waiting.{Leaves, WaitOn, packet_leaves, passing_waits, quiet_leaves}
 use Rattle.run_commands.proofs.Walk.{NodeOwes}
 
 -- the commands of a node that wait are those in its queue, with no more numbers than lines

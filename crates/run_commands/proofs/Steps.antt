@@ -1,11 +1,11 @@
 -- A whole step of a node, whatever comes to it, answers commands that wait.
-use Rattle.std.specs.Prelude.{ℕ, ◌+◌, ◌-◌, ◌^◌, ◌≡◌, ◌≢◌, ◌≤◌, ◌<◌, ◌&&◌, not, Bool, true, false, List, [], ◌∷◌, length, Option, None, Some, slice_get, if◌then◌else◌}
+use Rattle.std.specs.Prelude.{ℕ, ◌+◌, ◌-◌, ◌^◌, ◌≡◌, ◌≤◌, ◌<◌, ◌&&◌, not, Bool, true, false, List, [], ◌∷◌, length, Option, None, Some, slice_get, if◌then◌else◌}
 use Rattle.std.proofs.Common.{refl, sym, arith}
 use Rattle.admin_words.specs.Commands.{command_of}
 use Rattle.cl_base.specs.declared.command.Ask.{Ask}
 use Rattle.cl_base.specs.declared.method.Outcome as method
 use Rattle.cmm_member.specs.Records.{NodeRecord}
-use Rattle.history.specs.Moment.{Moment, Said, lines_of}
+use Rattle.history.specs.Moment.{Said, lines_of}
 use Rattle.node_model.specs.Clusters.{first_valid_of}
 use Rattle.node_model.specs.Configurations.{own_config}
 use Rattle.node_model.specs.Groups.{asked_by, monitor_asked, report_told, reported, result_of}
@@ -27,7 +27,7 @@ use Rattle.refinement.specs.Cuts as cuts
 use Rattle.refinement.specs.Cuts.{course_at, down_doings}
 use Rattle.refinement.specs.Doings.{Doing, after_all, given_all, gone_line, of_node, site}
 use Rattle.refinement.specs.Doings.Act.{Minds}
-use Rattle.request_queue.specs.Queue.{Queue, is_full, next_number}
+use Rattle.request_queue.specs.Queue.{is_full, next_number}
 use Rattle.rgm_member.specs.Probes.{probed}
 use Rattle.update_words.specs.Words.{ask_words_of}
 use Rattle.rgm_member.specs.declared.probed.Probed.{Probed}
@@ -48,15 +48,14 @@ use Rattle.run_history.specs.Scenes.{Scene, passing, telling}
 use Rattle.run_requests.specs.Steps.{Counted, used_lines}
 use Rattle.run_requests.proofs.Commands.{next_is}
 use Rattle.run_requests.proofs.Counts.{next_low, passing_used, room_left, then_le, told_uses}
-use Rattle.run_commands.specs.Guards.{Hand, IsQuietOutput}
 use Rattle.run_commands.specs.Guards.Hand.{Free, Held}
 use Rattle.run_commands.specs.Answers.{AnswersWait}
 use Rattle.run_commands.proofs.Asides.{quiet_gives}
 use Rattle.run_commands.proofs.Courses.{IsNoCommand, asking_if_so, course_at_so, worded_so}
 use Rattle.run_commands.proofs.Doings.{Was}
-use Rattle.run_commands.proofs.Owed.{Owed, owed_added, owed_asked, owed_none, owed_stays}
-use Rattle.run_commands.proofs.Waiting.{Leaves, passing_quiet, quiet_leaves}
-use Rattle.run_commands.proofs.Walk.{Ends, down_ends, then_ends, walk}
+use Rattle.run_commands.proofs.Owed.{owed_added, owed_asked, owed_none, owed_stays}
+use Rattle.run_commands.proofs.Waiting.{Leaves, quiet_leaves}
+use Rattle.run_commands.proofs.Walk.{Ends, then_ends, walk}
 
 -- what a step leaves: the numbers of the node are within the lines used
 pub record Stepped (n : ℕ) (node : Node) (os : List Output) (s : Scene) : Type 0 where

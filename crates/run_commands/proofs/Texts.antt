@@ -1,6 +1,6 @@
 -- The texts of the president's answers, and of the requests of nodes, are read.
-use Rattle.std.specs.Prelude.{ℕ, ◌≡◌, ◌==◌, not, Bool, true, false, List, [], ◌∷◌, ◌++◌, map, length, Option, None, Some, IfSome, Result, Ok, Err, codes, option_map, if◌then◌else◌}
-use Rattle.std.specs.List.{AllByRecursion, list_all}
+use Rattle.std.specs.Prelude.{ℕ, ◌≡◌, ◌==◌, not, Bool, true, false, List, [], ◌∷◌, ◌++◌, map, Option, None, Some, IfSome, Ok, Err, codes, option_map, if◌then◌else◌}
+use Rattle.std.specs.List.{list_all}
 use Rattle.std.specs.Str.{bytes_eq}
 use Rattle.std.proofs.Common.{refl, sym, ap, subst, ◌∙◌, arith}
 use Rattle.std.proofs.lemmas.Bool.Decides.{nat_tests}
@@ -9,13 +9,12 @@ use Rattle.std.proofs.lemmas.List.Splits.{slice_split_at}
 use Rattle.std.proofs.lemmas.Slice.Eq.{bytes_eq-Decides}
 use Rattle.std.specs.Fmt.{decimal}
 use Rattle.admin_words.specs.Answers.{Spelled}
-use Rattle.admin_words.specs.Commands.{acting, as_request, command_in, command_of, name_request, request_in, request_of}
+use Rattle.admin_words.specs.Commands.{acting, as_request, command_in, command_of, name_request, request_in}
 use Rattle.admin_words.specs.Spellings.{tool_named}
 use Rattle.admin_words.specs.declared.error.WordError.TheVariants.{UnknownCommand}
-use Rattle.admin_words.specs.declared.request.Request.{Request as Wanted}
 use Rattle.answer_words.specs.Answers.{answer_in, answer_of, plainly_refused, refused, refused_by, refused_if}
 use Rattle.answer_words.specs.Operands.{names_in, node_in, one, thing_in, two}
-use Rattle.answer_words.specs.Spellings.{operand_word_in, plain_refusal_in, refused_command_in, whole_answer_in}
+use Rattle.answer_words.specs.Spellings.{operand_word_in, plain_refusal_in, refused_command_in}
 use Rattle.answer_words.specs.declared.spelling.OperandWord.{OperandWord}
 use Rattle.answer_words.specs.declared.spelling.OperandWord.TheVariants as reason
 use Rattle.answer_words.proofs.Cuts.{spaceless}

@@ -1,7 +1,7 @@
 -- How a moment changes whether a command waits.
 use Rattle.std.specs.Prelude.{ℕ, ◌≡◌, ◌≢◌, ◌==◌, ◌&&◌, ◌||◌, not, Bool, true, false, List, [], ◌∷◌, if◌then◌else◌}
 use Rattle.std.specs.List.{AllByRecursion, list_any}
-use Rattle.std.proofs.Common.{refl, sym, ap, subst, ◌∙◌, arith}
+use Rattle.std.proofs.Common.{refl, sym, arith}
 use Rattle.cl_base.specs.declared.packet.DropCause.{DropCause}
 use Rattle.cmm_attempt.proofs.Basics.{if_either}
 use Rattle.interconnect.specs.Links as links

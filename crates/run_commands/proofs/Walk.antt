@@ -15,7 +15,6 @@ use Rattle.refinement.specs.Courses.Course.{Acts, Falls, Keeps, Stops}
 use Rattle.refinement.specs.Courses.Reply.{Done, Lost_new, Lost_old}
 use Rattle.refinement.specs.Doings.{Change, acted, after_all, changed, effect, first_lines, given_all, gone_line, of_node, said, saved_lines, site}
 use Rattle.refinement.specs.Doings.Doing.{Saves}
-use Rattle.request_queue.specs.Queue.{Queue}
 use Rattle.run_history.proofs.Idle.{passing_append}
 use Rattle.run_history.proofs.Lists.{both}
 use Rattle.run_history.specs.Scenes.{Scene, passing}

@@ -1,5 +1,5 @@
 -- When a node may answer a command in a step: one that waits, once.
-use Rattle.std.specs.Prelude.{ℕ, ◌≡◌, ◌⊎◌, ◌++◌, Bool, true, false, List, [], ◌∷◌, Option, Some}
+use Rattle.std.specs.Prelude.{ℕ, ◌≡◌, ◌⊎◌, ◌++◌, Bool, true, false, List, [], ◌∷◌, Some}
 use Rattle.std.specs.List.{AllByRecursion}
 use Rattle.request_queue.specs.Queue.{Queue, oldest_in}
 use Rattle.request_queue.specs.declared.request.Request.{Request}
