@@ -1,0 +1,221 @@
+-- A whole step of a node, whatever comes to it, answers commands that wait.
+use Rattle.std.specs.Prelude.{ℕ, ◌+◌, ◌-◌, ◌^◌, ◌≡◌, ◌≤◌, ◌<◌, ◌&&◌, not, Bool, true, false, List, [], ◌∷◌, length, Option, None, Some, slice_get, if◌then◌else◌}
+use Rattle.std.proofs.Common.{refl, sym, arith}
+use Rattle.admin_words.specs.Commands.{command_of}
+use Rattle.cl_base.specs.declared.command.Ask.{Ask}
+use Rattle.cl_base.specs.declared.method.Outcome as method
+use Rattle.cmm_member.specs.Records.{NodeRecord}
+use Rattle.history.specs.Moment.{Said, lines_of}
+use Rattle.node_model.specs.Clusters.{first_valid_of}
+use Rattle.node_model.specs.Configurations.{own_config}
+use Rattle.node_model.specs.Groups.{asked_by, monitor_asked, report_told, reported, result_of}
+use Rattle.node_model.specs.Requests.{is_idle, numbered}
+use Rattle.node_model.specs.Seats.{is_member, up_with, version_of}
+use Rattle.node_model.specs.Steps.{at_second}
+use Rattle.node_model.specs.declared.cluster.Cluster.{Cluster}
+use Rattle.node_model.specs.declared.input.Input.{Input}
+use Rattle.node_model.specs.declared.input.Input.TheVariants as input
+use Rattle.node_model.specs.declared.node.Node.{Node}
+use Rattle.node_model.specs.declared.node.Node.TheVariants.{Down, Up}
+use Rattle.node_model.specs.declared.node.UpNode.{UpNode}
+use Rattle.node_model.specs.declared.output.Output.{Output}
+use Rattle.node_model.specs.declared.output.Output.TheVariants.{Tells}
+use Rattle.refinement.specs.Courses.{Course, Reply, under}
+use Rattle.refinement.specs.Courses.Course.{Acts, Stops}
+use Rattle.refinement.specs.Courses.Reply.{Done, Lost_new, Lost_old}
+use Rattle.refinement.specs.Cuts as cuts
+use Rattle.refinement.specs.Cuts.{course_at, down_doings}
+use Rattle.refinement.specs.Doings.{Doing, after_all, given_all, gone_line, of_node, site}
+use Rattle.refinement.specs.Doings.Act.{Minds}
+use Rattle.request_queue.specs.Queue.{is_full, next_number}
+use Rattle.rgm_member.specs.Probes.{probed}
+use Rattle.update_words.specs.Words.{ask_words_of}
+use Rattle.rgm_member.specs.declared.probed.Probed.{Probed}
+use Rattle.rgm_member.specs.declared.probed.Probed.TheVariants as probe
+use Rattle.schedule_text.specs.declared.event.Event.TheVariants as event
+use Rattle.schedule_text.specs.declared.line.Line.{Line}
+use Rattle.schedule_text.specs.declared.line.Line.TheVariants as line
+use Rattle.status_report.specs.declared.call_entry.CallEntry.TheVariants as call
+use Rattle.status_report.specs.declared.call_entry.ProbeResult.TheVariants as result
+use Rattle.status_report.specs.declared.command_entry.CommandEntry.TheVariants as command
+use Rattle.status_report.specs.declared.entry.Entry.{Entry}
+use Rattle.status_report.specs.declared.entry.Entry.TheVariants as entry
+use Rattle.status_report.specs.declared.node_entry.DownCause.{DownCause}
+use Rattle.status_report.specs.declared.node_entry.DownCause.TheVariants as down
+use Rattle.status_report.specs.declared.node_entry.NodeEntry.TheVariants as note
+use Rattle.run_history.specs.Happenings.{IsSaid}
+use Rattle.run_history.specs.Scenes.{Scene, passing, telling}
+use Rattle.run_requests.specs.Steps.{Counted, used_lines}
+use Rattle.run_requests.proofs.Commands.{next_is}
+use Rattle.run_requests.proofs.Counts.{next_low, passing_used, room_left, then_le, told_uses}
+use Rattle.run_commands.specs.Guards.Hand.{Free, Held}
+use Rattle.run_commands.specs.Answers.{AnswersWait}
+use Rattle.run_commands.proofs.Asides.{quiet_gives}
+use Rattle.run_commands.proofs.Courses.{IsNoCommand, asking_if_so, course_at_so, worded_so}
+use Rattle.run_commands.proofs.Doings.{Was}
+use Rattle.run_commands.proofs.Owed.{owed_added, owed_asked, owed_none, owed_stays}
+use Rattle.run_commands.proofs.Waiting.{Leaves, quiet_leaves}
+use Rattle.run_commands.proofs.Walk.{Ends, then_ends, walk}
+
+-- what a step leaves: the numbers of the node are within the lines used
+pub record Stepped (n : ℕ) (node : Node) (os : List Output) (s : Scene) : Type 0 where
+  pub last : ℕ
+  pub ends : Ends n last node os s
+  pub low : last ≤ used_lines (passing n os s).moments
+
+abbrev SteppedBy : Cluster → ℕ → UpNode → NodeRecord → List Doing → Scene → Type 0
+SteppedBy c n x disk ds s = Stepped n (after_all c n (site (Up x) disk) ds).node (given_all c n (site (Up x) disk) ds) s
+
+low_next : (a b : ℕ) → b ≡ a + 1 → b ≤ a + 1
+low_next a b is = grind arith
+
+low_same : (a : ℕ) → a ≤ a + 1
+low_same a = omega arith
+
+none_used : (k : ℕ) → 0 ≤ k
+none_used k = omega arith
+
+-- ---- a step that takes no number
+
+stays_counted : (n asked : ℕ) (node : Node) (os : List Output) (s : Scene) → Counted asked s.moments → Ends n asked node os s → Stepped n node os s
+stays_counted n asked node os s k e = record { last = asked; ends = e; low = then_le asked (used_lines s.moments) (used_lines (passing n os s).moments) k.low (passing_used n os s).used }
+
+plain_step : (c : Cluster) (n now : ℕ) (ends : method.Outcome) (i : Input) (replies : List Reply) (x : UpNode) (disk : NodeRecord) (s : Scene) → IsNoCommand i → Was n Free x.requests s
+    → Counted x.requests.asked s.moments → SteppedBy c n x disk (under replies (course_at c n now ends x i)) s
+plain_step c n now ends i replies x disk s plain w k =
+    stays_counted n x.requests.asked _ _ s k (walk c n false replies (course_at c n now ends x i) Free x.requests.asked x disk s (course_at_so c n now ends x i plain) refl w)
+
+-- ---- a command
+
+command_step : (c : Cluster) (n : ℕ) (replies : List Reply) (x : UpNode) (disk : NodeRecord) (words : List ℕ) (s : Scene) → slice_get s.moments 0 ≡ Some (Said (line.Event (event.Command n words)))
+    → Was n Free x.requests s → Counted x.requests.asked s.moments → SteppedBy c n x disk (under replies (cuts.command_course c n x words)) s
+command_step c n replies x disk words s said w k =
+    let q : ℕ = next_number x.requests in
+    let is : q ≡ x.requests.asked + 1 = next_is x.requests.asked x refl (room_left x.requests.asked s.moments k) in
+    let y : UpNode = numbered x in
+    let told : Entry = entry.Command (command.Asked n q) in
+    let t : Scene = telling told s in
+    let rest : Course = cuts.worded_course c n y q (command_of (version_of c) words) in
+    let more : List Output = given_all c n (site (Up y) disk) (under replies rest) in
+    let e : Ends n q (after_all c n (site (Up y) disk) (under replies rest)).node more t =
+    walk c n true replies rest (Held q) q y disk t (worded_so c n y q (command_of (version_of c) words)) refl
+    (record { owed = owed_asked n s.moments x.requests.asked q x.requests.waiting is w.owed; said = (tt, w.said) }) in
+    record {
+      last = q;
+      ends = record { own = e.own; said = e.said; apart = λ j ne. (tt, e.apart j ne) };
+      low = then_le q (length (lines_of s.moments)) (used_lines (passing n (Tells told ∷ more) s).moments)
+          (next_low x.requests.asked q (line.Event (event.Command n words)) s.moments (low_next x.requests.asked q is) said k) (told_uses n told more s);
+    }
+
+-- ---- a monitor's report
+
+-- at most one number more
+record Rises (n asked : ℕ) (node : Node) (os : List Output) (s : Scene) : Type 0 where
+  last : ℕ
+  ends : Ends n last node os s
+  low : last ≤ asked + 1
+
+abbrev RisesBy : Cluster → ℕ → UpNode → NodeRecord → List Doing → Scene → Type 0
+RisesBy c n x disk ds s = Rises n x.requests.asked (after_all c n (site (Up x) disk) ds).node (given_all c n (site (Up x) disk) ds) s
+
+nothing_asked : (c : Cluster) (n : ℕ) (replies : List Reply) (x : UpNode) (disk : NodeRecord) (s : Scene) → Was n Free x.requests s → RisesBy c n x disk (under replies Stops) s
+nothing_asked c n replies x disk s w = record { last = x.requests.asked; ends = walk c n false replies Stops Free x.requests.asked x disk s tt refl w; low = low_same x.requests.asked }
+
+asking_when : (c : Cluster) (n : ℕ) (replies : List Reply) (x : UpNode) (disk : NodeRecord) (ask : Ask) (s : Scene) (b : Bool) → x.requests.asked < 2 ^ 64 - 1 → Was n Free x.requests s
+    → (let k : Course = if b then Acts (Minds (monitor_asked x ask).requests x.presidency) (cuts.asking_if_course (is_idle x.requests.waiting) c n (monitor_asked x ask)) else Stops in
+    RisesBy c n x disk (under replies k) s)
+asking_when c n replies x disk ask s false room w = nothing_asked c n replies x disk s w
+asking_when c n replies x disk ask s true room w =
+    let y : UpNode = monitor_asked x ask in
+    let q : ℕ = next_number x.requests in
+    let is : q ≡ x.requests.asked + 1 = next_is x.requests.asked x refl room in
+    let rest : Course = cuts.asking_if_course (is_idle x.requests.waiting) c n y in
+    record {
+      last = q;
+      ends = walk c n false replies rest Free q y disk s (asking_if_so c n (is_idle x.requests.waiting) y) refl
+          (record { owed = owed_added n s.moments x.requests.asked x.requests.waiting (record { number = q; text = ask_words_of ask; told = false; second = x.second }) is refl w.owed; said = w.said });
+      low = low_next x.requests.asked q is;
+    }
+
+asking_this : (c : Cluster) (n : ℕ) (replies : List Reply) (x : UpNode) (disk : NodeRecord) (o : Option Ask) (s : Scene) → x.requests.asked < 2 ^ 64 - 1 → Was n Free x.requests s
+    → RisesBy c n x disk (under replies (cuts.asking_this_course c n x o)) s
+asking_this c n replies x disk None s room w = nothing_asked c n replies x disk s w
+asking_this c n replies x disk (Some ask) s room w = asking_when c n replies x disk ask s (is_member x.seat && not (is_full x.requests)) room w
+
+report_step : (c : Cluster) (n : ℕ) (replies : List Reply) (x : UpNode) (disk : NodeRecord) (r : List ℕ) (p : Probed) (said_line : Line) (s : Scene) → slice_get s.moments 0 ≡ Some (Said said_line)
+    → Was n Free x.requests s → Counted x.requests.asked s.moments → SteppedBy c n x disk (under replies (cuts.reporting_course c n x r p)) s
+report_step c n replies x disk r probe.NoMonitor said_line s said w k = stays_counted n x.requests.asked _ _ s k (walk c n false replies Stops Free x.requests.asked x disk s tt refl w)
+report_step c n replies x disk r probe.Good said_line s said w k =
+    stays_counted n x.requests.asked _ _ s k
+    (walk c n false replies (cuts.reporting_course c n x r probe.Good) Free x.requests.asked x disk s
+    (Free, quiet_gives n Free x.requests.waiting (report_told n r result.Ok ∷ []) (tt, tt), (Free, refl, tt)) refl w)
+report_step c n replies x disk r (probe.Failed a) said_line s said w k =
+    let told : Entry = entry.Call (call.Probed n r (result_of a)) in
+    let t : Scene = telling told s in
+    let y : UpNode = reported x c r (probe.Failed a) in
+    let ds : List Doing = under replies (cuts.asking_this_course c n y (asked_by a r)) in
+    let l : Leaves s.moments t.moments = quiet_leaves told s.moments tt in
+    let e : RisesBy c n y disk ds t =
+    asking_this c n replies y disk (asked_by a r) t (room_left x.requests.asked s.moments k)
+    (record { owed = owed_stays n s.moments t.moments Free x.requests.asked x.requests.waiting (l.wait n) w.owed; said = l.said w.said }) in
+    record {
+      last = e.last;
+      ends = then_ends n e.last (after_all c n (site (Up y) disk) ds).node (Tells told ∷ []) (given_all c n (site (Up y) disk) ds) s (λ j ne. (tt, tt)) e.ends;
+      low = then_le e.last (length (lines_of s.moments)) _ (next_low x.requests.asked e.last said_line s.moments e.low said k) (told_uses n told (given_all c n (site (Up y) disk) ds) s);
+    }
+
+-- ---- a node that is up
+
+pub up_step : (c : Cluster) (n now : ℕ) (ends : method.Outcome) (i : Input) (replies : List Reply) (x : UpNode) (disk : NodeRecord) (s : Scene) → IsSaid s.moments n i → Was n Free x.requests s
+    → Counted x.requests.asked s.moments → SteppedBy c n x disk (under replies (course_at c n now ends x i)) s
+up_step c n now ends (input.Commanded words) replies x disk s said w k = command_step c n replies (at_second now x) disk words s said w k
+up_step c n now ends (input.Reported p good) replies x disk s said w k =
+    let y : UpNode = at_second now x in
+    report_step c n replies y disk p (probed y.worker (own_config c y) p good y.second) (line.Event (event.Probe n p good)) s said w k
+up_step c n now ends input.Boot replies x disk s said w k = plain_step c n now ends input.Boot replies x disk s tt w k
+up_step c n now ends input.Crash replies x disk s said w k = plain_step c n now ends input.Crash replies x disk s tt w k
+up_step c n now ends input.Tick replies x disk s said w k = plain_step c n now ends input.Tick replies x disk s tt w k
+up_step c n now ends (input.Packet from m) replies x disk s said w k = plain_step c n now ends (input.Packet from m) replies x disk s tt w k
+up_step c n now ends input.CommandDue replies x disk s said w k = plain_step c n now ends input.CommandDue replies x disk s tt w k
+up_step c n now ends (input.Answered a) replies x disk s said w k = plain_step c n now ends (input.Answered a) replies x disk s tt w k
+up_step c n now ends (input.Wrote d value a) replies x disk s said w k = plain_step c n now ends (input.Wrote d value a) replies x disk s tt w k
+up_step c n now ends (input.Client name client port) replies x disk s said w k = plain_step c n now ends (input.Client name client port) replies x disk s tt w k
+
+-- ---- a node that is down
+
+boot_ends : (n : ℕ) (why : DownCause) (s : Scene) → AnswersWait s.moments → Stepped n Down (of_node n note.Up ∷ gone_line n why) s
+boot_ends n why s said = record {
+  last = 0;
+  ends = record { own = tt; said = (tt, (tt, said)); apart = λ k ne. ((λ same. ne (sym same)), (tt, tt)) };
+  low = none_used (used_lines (passing n (of_node n note.Up ∷ gone_line n why) s).moments);
+}
+
+boots : (c : Cluster) (n : ℕ) (disk : NodeRecord) (s : Scene) → AnswersWait s.moments → Stepped n (Up (up_with n (first_valid_of c n) disk)) (of_node n note.Up ∷ []) s
+boots c n disk s said = record {
+  last = 0;
+  ends = record { own = (refl, owed_none n _ 0 [] refl); said = (tt, said); apart = λ k ne. ((λ same. ne (sym same)), tt) };
+  low = none_used (used_lines (passing n (of_node n note.Up ∷ []) s).moments);
+}
+
+booted : (c : Cluster) (n : ℕ) (replies : List Reply) (disk : NodeRecord) (s : Scene) → AnswersWait s.moments
+    → Stepped n (after_all c n (site Down disk) (cuts.boot_doings replies)).node (given_all c n (site Down disk) (cuts.boot_doings replies)) s
+booted c n [] disk s said = boot_ends n down.Stopped s said
+booted c n (Done ∷ replies) disk s said = boots c n disk s said
+booted c n (Lost_new why ∷ replies) disk s said = boot_ends n why s said
+booted c n (Lost_old why ∷ replies) disk s said = boot_ends n why s said
+
+nothing_taken : (n : ℕ) (s : Scene) → AnswersWait s.moments → Stepped n Down [] s
+nothing_taken n s said = record { last = 0; ends = record { own = tt; said = said; apart = λ k ne. tt }; low = none_used (used_lines s.moments) }
+
+pub down_step : (c : Cluster) (n : ℕ) (i : Input) (replies : List Reply) (disk : NodeRecord) (s : Scene) → AnswersWait s.moments
+    → Stepped n (after_all c n (site Down disk) (down_doings replies i)).node (given_all c n (site Down disk) (down_doings replies i)) s
+down_step c n input.Boot replies disk s said = booted c n replies disk s said
+down_step c n input.Crash replies disk s said = nothing_taken n s said
+down_step c n input.Tick replies disk s said = nothing_taken n s said
+down_step c n (input.Packet from m) replies disk s said = nothing_taken n s said
+down_step c n input.CommandDue replies disk s said = nothing_taken n s said
+down_step c n (input.Answered a) replies disk s said = nothing_taken n s said
+down_step c n (input.Wrote d value a) replies disk s said = nothing_taken n s said
+down_step c n (input.Commanded words) replies disk s said = nothing_taken n s said
+down_step c n (input.Reported r good) replies disk s said = nothing_taken n s said
+down_step c n (input.Client name client port) replies disk s said = nothing_taken n s said

@@ -1,0 +1,212 @@
+-- How a moment changes whether a command waits.
+use Rattle.std.specs.Prelude.{ℕ, ◌≡◌, ◌≢◌, ◌==◌, ◌&&◌, ◌||◌, not, Bool, true, false, List, [], ◌∷◌, if◌then◌else◌}
+use Rattle.std.specs.List.{AllByRecursion, list_any}
+use Rattle.std.proofs.Common.{refl, sym, arith}
+use Rattle.cl_base.specs.declared.packet.DropCause.{DropCause}
+use Rattle.cmm_attempt.proofs.Basics.{if_either}
+use Rattle.interconnect.specs.Links as links
+use Rattle.interconnect.specs.Links.{sending}
+use Rattle.status_report.specs.declared.command_entry.Answer.{Answer}
+use Rattle.status_report.specs.declared.command_entry.CommandEntry.TheVariants as command
+use Rattle.status_report.specs.declared.entry.Entry.{Entry}
+use Rattle.status_report.specs.declared.entry.Entry.TheVariants as entry
+use Rattle.status_report.specs.declared.node_entry.NodeEntry.TheVariants as note
+use Rattle.status_report.specs.declared.packet_entry.PacketEntry.{PacketEntry}
+use Rattle.status_report.specs.declared.packet_entry.PacketEntry.TheVariants as packet
+use Rattle.std.specs.Prelude.{Option, None, Some}
+use Rattle.wire.specs.Spelling.{spelling}
+use Rattle.wire.specs.declared.message.Message.{Message}
+use Rattle.history.specs.Commands.{is_answered_to, waits}
+use Rattle.history.specs.Moment.{Moment, Told}
+use Rattle.history.specs.Order.{since}
+use Rattle.history.specs.Requests.{is_asking}
+use Rattle.history.specs.Seizing.{is_boot}
+use Rattle.history.specs.Trace.{answered, asked, up}
+use Rattle.node_model.specs.declared.output.Output.{Output}
+use Rattle.node_model.specs.declared.output.Output.TheVariants.{Sends, Tells}
+use Rattle.world_model.specs.Sends.{is_sent, name_of}
+use Rattle.run_history.specs.Scenes.{Scene, dropped_so, passing, posting, sent_as, telling, with_links}
+use Rattle.run_commands.specs.Guards.{AreQuiet, IsQuiet}
+use Rattle.run_commands.specs.Answers.{AnswerWaits, AnswersWait}
+
+-- each command of node k that waits waits still
+abbrev pub WaitOn : ℕ → List Moment → List Moment → Type 0
+WaitOn k before after = (q : ℕ) → waits k q before ≡ true → waits k q after ≡ true
+
+pub wait_same : (k : ℕ) (ms : List Moment) → WaitOn k ms ms
+wait_same k ms q h = h
+
+pub wait_then : (k : ℕ) (a b c : List Moment) → WaitOn k a b → WaitOn k b c → WaitOn k a c
+wait_then k a b c f g q h = g q (f q h)
+
+-- ---- a command is asked
+
+-- behind its own line it waits; one of another number waits on
+pub asked_waits : (k m q : ℕ) (ms : List Moment) → WaitOn k ms (asked m q ∷ ms)
+asked_waits k m q ms r h = by_test (is_asking k r (asked m q))
+  where
+    by_test : (b : Bool) → ((b || list_any (is_asking k r) (since (is_boot k) ms)) && not (list_any (is_answered_to k r) (if b then [] else asked m q ∷ since (is_asking k r) ms))) ≡ true
+    by_test true = refl
+    by_test false = h
+
+is_here : (k : ℕ) → (k == k) ≡ true
+is_here k = grind arith
+
+and_here : (a b : Bool) → a ≡ true → b ≡ true → (a && b) ≡ true
+and_here true true g h = refl
+and_here true false g h = cc
+and_here false b g h = cc
+
+pub asked_here : (k q : ℕ) (ms : List Moment) → waits k q (asked k q ∷ ms) ≡ true
+asked_here k q ms = by_test (is_asking k q (asked k q)) (and_here (k == k) (q == q) (is_here k) (is_here q))
+  where
+    by_test : (b : Bool) → b ≡ true
+        → ((b || list_any (is_asking k q) (since (is_boot k) ms)) && not (list_any (is_answered_to k q) (if b then [] else asked k q ∷ since (is_asking k q) ms))) ≡ true
+    by_test true is = refl
+    by_test false is = cc
+
+-- ---- a command is answered
+
+is_other : (a b : ℕ) → a ≢ b → (a == b) ≡ false
+is_other a b ne = grind arith
+
+and_first : (a b : Bool) → a ≡ false → (a && b) ≡ false
+and_first true b h = cc
+and_first false b h = refl
+
+and_second : (a b : Bool) → b ≡ false → (a && b) ≡ false
+and_second true b h = h
+and_second false b h = refl
+
+still : (k m q r : ℕ) (reply : Answer) (ms : List Moment) → ((m == k) && (q == r)) ≡ false → waits k r ms ≡ true → waits k r (answered m q reply ∷ ms) ≡ true
+still k m q r reply ms other h = by_test ((m == k) && (q == r)) other
+  where
+    by_test : (b : Bool) → b ≡ false → (list_any (is_asking k r) (since (is_boot k) ms) && not (b || list_any (is_answered_to k r) (since (is_asking k r) ms))) ≡ true
+    by_test true is = cc
+    by_test false is = h
+
+-- one of another number waits on
+pub other_waits : (k q r : ℕ) (reply : Answer) (ms : List Moment) → r ≢ q → waits k r ms ≡ true → waits k r (answered k q reply ∷ ms) ≡ true
+other_waits k q r reply ms ne h = still k k q r reply ms (and_second (k == k) (q == r) (is_other q r (λ same. ne (sym same)))) h
+
+pub others_wait : (k m q : ℕ) (reply : Answer) (ms : List Moment) → m ≢ k → WaitOn k ms (answered m q reply ∷ ms)
+others_wait k m q reply ms ne r h = still k m q r reply ms (and_first (m == k) (q == r) (is_other m k ne)) h
+
+-- ---- another node goes up
+
+pub others_boot : (k m : ℕ) (ms : List Moment) → m ≢ k → WaitOn k ms (up m ∷ ms)
+others_boot k m ms ne r h = by_test (m == k) (is_other m k ne)
+  where
+    by_test : (b : Bool) → b ≡ false → (list_any (is_asking k r) (if b then [] else up m ∷ since (is_boot k) ms) && not (list_any (is_answered_to k r) (since (is_asking k r) ms))) ≡ true
+    by_test true is = cc
+    by_test false is = h
+
+-- ---- other lines
+
+pub quiet_waits : (k : ℕ) (e : Entry) (ms : List Moment) → IsQuiet e → WaitOn k ms (Told e ∷ ms)
+quiet_waits k (entry.Node m note.Up) ms quiet r h = absurd quiet
+quiet_waits k (entry.Node m note.Ticked) ms quiet r h = h
+quiet_waits k (entry.Node m note.Saved) ms quiet r h = h
+quiet_waits k (entry.Node m (note.Down why)) ms quiet r h = h
+quiet_waits k (entry.Node m (note.Member e)) ms quiet r h = h
+quiet_waits k (entry.Node m (note.Installed e)) ms quiet r h = h
+quiet_waits k (entry.Command e) ms quiet r h = absurd quiet
+quiet_waits k (entry.Packet e) ms quiet r h = absurd quiet
+quiet_waits k _ ms quiet r h = h
+
+pub quiet_said : (e : Entry) (ms : List Moment) → IsQuiet e → AnswerWaits ms (Told e)
+quiet_said (entry.Node m e) ms quiet = tt
+quiet_said (entry.Command e) ms quiet = absurd quiet
+quiet_said (entry.Packet e) ms quiet = absurd quiet
+quiet_said _ ms quiet = tt
+
+-- ---- what a node gives
+
+-- what outputs leave of the commands that wait, and of the answers
+pub record Leaves (before after : List Moment) : Type 0 where
+  pub wait : (k : ℕ) → WaitOn k before after
+  pub said : AnswersWait before → AnswersWait after
+
+pub leaves_same : (ms : List Moment) → Leaves ms ms
+leaves_same ms = record { wait = λ k. wait_same k ms; said = λ h. h }
+
+pub leaves_then : (a b c : List Moment) → Leaves a b → Leaves b c → Leaves a c
+leaves_then a b c f g = record { wait = λ k. wait_then k a b c (f.wait k) (g.wait k); said = λ h. g.said (f.said h) }
+
+pub packet_leaves : (e : PacketEntry) (ms : List Moment) → Leaves ms (Told (entry.Packet e) ∷ ms)
+packet_leaves e ms = record { wait = λ k q h. h; said = λ h. (tt, h) }
+
+pub quiet_leaves : (e : Entry) (ms : List Moment) → IsQuiet e → Leaves ms (Told e ∷ ms)
+quiet_leaves e ms quiet = record { wait = λ k. quiet_waits k e ms quiet; said = λ h. (quiet_said e ms quiet, h) }
+
+pub dropped_leaves : (o : Option (ℕ × DropCause)) (s : Scene) → Leaves s.moments (dropped_so o s).moments
+dropped_leaves None s = leaves_same s.moments
+dropped_leaves (Some drop) s = packet_leaves (packet.Dropped drop.0 drop.1) s.moments
+
+pub posting_leaves : (from to : ℕ) (m : Message) (s : Scene) → Leaves s.moments (posting from to m s).moments
+posting_leaves from to m s =
+    let o : links.Outcome = sending s.links from to (spelling m) in
+    let e : PacketEntry = packet.Sent s.links.next from to (name_of m.body) (spelling m) in
+    let t : Scene = telling (entry.Packet e) (with_links s o.after) in
+    if_either (λ (z : Scene). Leaves s.moments z.moments) (is_sent s.links m) (sent_as from to m o s) s
+    (leaves_then s.moments t.moments (dropped_so o.sent.dropped t).moments (packet_leaves e s.moments) (dropped_leaves o.sent.dropped t)) (leaves_same s.moments)
+
+pub passing_quiet : (n : ℕ) (os : List Output) (s : Scene) → AreQuiet os → Leaves s.moments (passing n os s).moments
+passing_quiet n [] s quiet = leaves_same s.moments
+passing_quiet n (Tells e ∷ os) s quiet =
+    leaves_then s.moments (telling e s).moments (passing n os (telling e s)).moments (quiet_leaves e s.moments quiet.0) (passing_quiet n os (telling e s) quiet.1)
+passing_quiet n (Sends to b ∷ os) s quiet =
+    let t : Scene = posting n to (record { sender = n; body = b }) s in
+    leaves_then s.moments t.moments (passing n os t).moments (posting_leaves n to (record { sender = n; body = b }) s) (passing_quiet n os t quiet.1)
+
+-- ---- what another node gives
+
+-- the line is of no boot and of no answer of node k
+abbrev pub IsApart : ℕ → Entry → Type 0
+IsApart k (entry.Node m note.Up) = m ≢ k
+IsApart k (entry.Command (command.Answered m q reply)) = m ≢ k
+IsApart k (entry.Packet e) = ⊥
+IsApart k _ = Unit {0}
+
+abbrev pub IsApartOutput : ℕ → Output → Type 0
+IsApartOutput k (Tells e) = IsApart k e
+IsApartOutput k (Sends to b) = Unit {0}
+
+abbrev pub AreApart : ℕ → List Output → Type 0
+AreApart k os = AllByRecursion (IsApartOutput k) os
+
+apart_waits : (k : ℕ) (e : Entry) (ms : List Moment) → IsApart k e → WaitOn k ms (Told e ∷ ms)
+apart_waits k (entry.Node m note.Up) ms ne = others_boot k m ms ne
+apart_waits k (entry.Node m note.Ticked) ms ne = λ r h. h
+apart_waits k (entry.Node m note.Saved) ms ne = λ r h. h
+apart_waits k (entry.Node m (note.Down why)) ms ne = λ r h. h
+apart_waits k (entry.Node m (note.Member e)) ms ne = λ r h. h
+apart_waits k (entry.Node m (note.Installed e)) ms ne = λ r h. h
+apart_waits k (entry.Command (command.Asked m q)) ms ne = asked_waits k m q ms
+apart_waits k (entry.Command (command.Answered m q reply)) ms ne = others_wait k m q reply ms ne
+apart_waits k (entry.Packet e) ms ne = absurd ne
+apart_waits k _ ms ne = λ r h. h
+
+pub passing_waits : (k n : ℕ) (os : List Output) (s : Scene) → AreApart k os → WaitOn k s.moments (passing n os s).moments
+passing_waits k n [] s apart = wait_same k s.moments
+passing_waits k n (Tells e ∷ os) s apart =
+    wait_then k s.moments (telling e s).moments (passing n os (telling e s)).moments (apart_waits k e s.moments apart.0) (passing_waits k n os (telling e s) apart.1)
+passing_waits k n (Sends to b ∷ os) s apart =
+    let t : Scene = posting n to (record { sender = n; body = b }) s in
+    wait_then k s.moments t.moments (passing n os t).moments ((posting_leaves n to (record { sender = n; body = b }) s).wait k) (passing_waits k n os t apart.1)
+
+quiet_apart : (k : ℕ) (e : Entry) → IsQuiet e → IsApart k e
+quiet_apart k (entry.Node m note.Up) h = absurd h
+quiet_apart k (entry.Node m note.Ticked) h = tt
+quiet_apart k (entry.Node m note.Saved) h = tt
+quiet_apart k (entry.Node m (note.Down why)) h = tt
+quiet_apart k (entry.Node m (note.Member e)) h = tt
+quiet_apart k (entry.Node m (note.Installed e)) h = tt
+quiet_apart k (entry.Command e) h = absurd h
+quiet_apart k (entry.Packet e) h = absurd h
+quiet_apart k _ h = tt
+
+pub quiets_apart : (k : ℕ) (os : List Output) → AreQuiet os → AreApart k os
+quiets_apart k [] h = tt
+quiets_apart k (Tells e ∷ os) h = (quiet_apart k e h.0, quiets_apart k os h.1)
+quiets_apart k (Sends to b ∷ os) h = (tt, quiets_apart k os h.1)

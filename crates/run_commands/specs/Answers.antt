@@ -1,0 +1,27 @@
+-- What is so at each answer, in two parts: the command waits; and it is answered so for a reason.
+use Rattle.std.specs.Prelude.{◌≡◌, ◌⊎◌, List, true, false}
+use Rattle.std.specs.List.{list_any}
+use Rattle.status_report.specs.declared.command_entry.Answer.TheVariants as answer
+use Rattle.history.specs.Commands.{differs, is_own_answer, waits}
+use Rattle.history.specs.Member.{member_of}
+use Rattle.history.specs.Moment.{Moment}
+use Rattle.history.specs.Order.{Always, so_far}
+use Rattle.history.specs.Requests.{before_asking, is_asking}
+use Rattle.history.specs.Trace.{answered}
+
+-- the command that is answered waits
+abbrev pub AnswerWaits : List Moment → Moment → Type 0
+AnswerWaits before (answered n q reply) = waits n q before ≡ true
+AnswerWaits before _ = Unit {0}
+
+abbrev pub AnswersWait : List Moment → Type 0
+AnswersWait moments = Always AnswerWaits moments
+
+-- its membership has ended where the answer is `unknown`; an answer of the node itself stands in the event of the command
+abbrev pub IsExplained : List Moment → Moment → Type 0
+IsExplained before (answered n q answer.Unknown) = differs (member_of n (before_asking n q before)) (member_of n before) ≡ true
+IsExplained before (answered n q reply) = (is_own_answer reply ≡ false) ⊎ (list_any (is_asking n q) (so_far before) ≡ true)
+IsExplained before _ = Unit {0}
+
+abbrev pub AreExplained : List Moment → Type 0
+AreExplained moments = Always IsExplained moments

@@ -1,0 +1,10 @@
+-- What is proved of each run of the world, as things that happen: what is answered to commands.
+use Rattle.std.specs.Prelude.{◌<◌, ◌^◌, length}
+use Rattle.history.specs.Commands.{AnswersOnce}
+use Rattle.history.specs.Moment.{lines_of}
+use Rattle.history_setting.specs.Laws.{OfEachRunIn}
+
+-- While fewer than 2^63 lines are said, which number the commands: each answer is given to a command that waits, `unknown` only once its
+-- membership has ended, and what a node answers by itself in the event of the command.
+abbrev pub AnswersOnceInEachRun : Type 0
+AnswersOnceInEachRun = OfEachRunIn (λ S moments. length (lines_of moments) < 2 ^ 63 → AnswersOnce moments)

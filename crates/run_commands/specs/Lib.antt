@@ -1,0 +1,6 @@
+-- what a reader must believe
+pub mod Laws
+-- what only the proofs need
+pub mod Answers
+pub mod Guards
+pub mod Reads
