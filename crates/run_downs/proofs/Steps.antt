@@ -80,13 +80,16 @@ boot_passed n valid disk s boot left due so =
 
     stops : stops_in_four disk.stop ≡ true → BootPassed n valid disk s (record { after = crashed disk; lost = Some Stopped })
     stops near = record {
-      so = (record {
-        boots = tt;
-        crashes = tt;
-        fences = tt;
-        stops = same ∙ near;
-        comes = subst (λ o. StopsWhereDue o (Told (entry.Node n (note.Down cause.Stopped)))) (sym (if_true (stops_next n ms) (Some n) None (same ∙ near))) (same_number n);
-      }, (up_so n ms boot due, so));
+      so = (
+        record {
+          boots = tt;
+          crashes = tt;
+          fences = tt;
+          stops = same ∙ near;
+          comes = subst (λ o. StopsWhereDue o (Told (entry.Node n (note.Down cause.Stopped)))) (sym (if_true (stops_next n ms) (Some n) None (same ∙ near))) (same_number n);
+        },
+        (up_so n ms boot due, so),
+      );
       left = if_true (n == n) None (calls_left n (Told (entry.Node n note.Up) ∷ ms)) (same_number n);
       others = λ j ne. if_false (n == j) None (calls_left j (Told (entry.Node n note.Up) ∷ ms)) (other_number j n ne) ∙ up_left j ne;
       due = refl;
