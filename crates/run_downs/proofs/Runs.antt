@@ -1,5 +1,6 @@
 -- Each thing that happens leaves each stop armed as the lines leave it; so does each run.
-use Rattle.std.specs.Prelude.{ℕ, ◌-◌, ◌==◌, ◌≡◌, ◌≢◌, ◌⊎◌, List, [], ◌∷◌, Option, None, Some, slice_get}
+use Rattle.std.specs.Prelude.{ℕ, ◌-◌, ◌==◌, ◌≡◌, ◌≢◌, ◌⊎◌, ◌||◌, Bool, true, false, List, [], ◌∷◌, Option, None, Some, slice_get}
+use Rattle.std.specs.List.{list_any}
 use Rattle.std.proofs.Common.{refl, sym, ap, subst, ◌∙◌, arith, inl, inr}
 use Rattle.cl_base.specs.declared.header.Header.{Header}
 use Rattle.cl_base.specs.declared.method.Outcome as method
@@ -7,9 +8,9 @@ use Rattle.cl_base.specs.declared.packet.DropCause.TheVariants as drop
 use Rattle.cmm_attempt.proofs.Basics.{same_some}
 use Rattle.history.specs.Downs.{calls_left, stop_due, stops_here, stops_next}
 use Rattle.history.specs.Moment.{Moment, Part, Said, Told}
-use Rattle.history.specs.Order.{Always, under_way}
+use Rattle.history.specs.Order.{Always, so_far, under_way}
 use Rattle.interconnect.specs.Links as links
-use Rattle.interconnect.specs.Links.{sending}
+use Rattle.interconnect.specs.Links.{Packet, sending}
 use Rattle.machine_base.specs.Put.{put}
 use Rattle.machine_base.proofs.Puts.{put_here, put_there, same_or_not}
 use Rattle.node_model.specs.declared.cluster.Cluster.{Cluster}
@@ -33,7 +34,7 @@ use Rattle.status_report.specs.declared.packet_entry.PacketEntry.{PacketEntry}
 use Rattle.status_report.specs.declared.packet_entry.PacketEntry.TheVariants as packet
 use Rattle.world_model.specs.First.{first_cluster}
 use Rattle.world_model.specs.Lines.{left_by}
-use Rattle.run_history.specs.Bringing.{IsBrought}
+use Rattle.run_history.specs.Bringing.{IsBrought, IsDelivery}
 use Rattle.run_history.specs.Happenings.{Arrives, Begins, Commands, Happening, IsPlain, Loses, MayAllHappen, MayHappen, Misses, Notes, Refuses, Repeats, Speaks, Strays, Takes, Writes, all_happened, armed_by, commanded, commanded_at, given_by, happened, removed, taking}
 use Rattle.run_history.specs.Scenes.{Scene, adding, dropped_so, first_scene, passing, telling, with_links}
 use Rattle.run_history.proofs.Idle.{if_false, if_true, passing_nodes}
@@ -41,7 +42,7 @@ use Rattle.run_history.proofs.Reached.{kept_holds}
 use Rattle.run_downs.proofs.Lines.{Stays, dropped_stays, none_comes, packet_stays, stays_by, stays_then}
 use Rattle.run_downs.proofs.Steps.{AtEvent, step_passed}
 use Rattle.run_downs.specs.Calls.{AreArmed, GoesSo, Passed, calls_in}
-use Rattle.run_downs.specs.Laws.{BootIsSaid, BootsOfEachRun, CrashIsSaid, CrashesOfEachRun, FencedByWrite, FencesOfEachRun, NoStopIsDue, StopComes, StopsAtStop, StopsComeInEachRun, StopsOfEachRun}
+use Rattle.run_downs.specs.Laws.{BootIsSaid, BootsOfEachRun, CrashIsSaid, CrashesOfEachRun, FencedByWrite, FencesOfEachRun, IsInOwnEvent, NoStopIsDue, SavesInEvent, SavesOfEachRun, StopComes, StopsAtStop, StopsComeInEachRun, StopsOfEachRun, comes_to, is_of}
 
 -- ---- what says nothing of stops
 
@@ -62,7 +63,7 @@ dropped_armed (Some x) s h = packet_armed (packet.Dropped x.0 x.1) s (dropped_so
 -- ---- a line
 
 said_stays : (e : Event) (ms : List Moment) → ((j : ℕ) → calls_left j (Said (line.Event e) ∷ ms) ≡ calls_left j ms) → Stays ms (Said (line.Event e) ∷ ms)
-said_stays e ms same = stays_by (Said (line.Event e)) ms (λ c. record { boots = tt; crashes = tt; fences = tt; stops = tt; comes = c }) same refl (λ j. refl)
+said_stays e ms same = stays_by (Said (line.Event e)) ms (λ c. record { boots = tt; crashes = tt; fences = tt; stops = tt; saves = tt; comes = c }) same refl (λ j. refl)
 
 same_number : (m n : ℕ) → m ≡ n → (n == m) ≡ true
 same_number m n e = grind arith
@@ -74,7 +75,7 @@ speaks_armed : (c : Cluster) (e : Event) (s : Scene) → AreArmed s → AreArmed
 speaks_armed c (event.CrashAt n calls choice) s h = record {
   calls = λ j. by_node j (same_or_not j n);
   due = refl;
-  so = (record { boots = tt; crashes = tt; fences = tt; stops = tt; comes = none_comes s.moments (Said (line.Event (event.CrashAt n calls choice))) h.due }, h.so);
+  so = (record { boots = tt; crashes = tt; fences = tt; stops = tt; saves = tt; comes = none_comes s.moments (Said (line.Event (event.CrashAt n calls choice))) h.due }, h.so);
 }
   where
     disk : DiskState
@@ -126,23 +127,40 @@ not_up n (Part p ∷ ms) e is other so = refl
 not_up n (Told (entry.Node m note.Up) ∷ ms) e is other so = absurd (subst NoBoot (sym (same_some (event.Boot m) e (sym so.0.boots ∙ is))) other)
 not_up n (Told _ ∷ ms) e is other so = refl
 
+own_by : (n : ℕ) (e : Event) (ms : List Moment) → under_way ms ≡ Some e → is_of n (Some e) (so_far ms) ≡ true → IsInOwnEvent n ms
+own_by n e ms is own = subst (λ o. is_of n o (so_far ms) ≡ true) (sym is) own
+
 at_event : (n : ℕ) (i : Input) (ms : List Moment) → IsPlain i → IsBrought (under_way ms) n i → Always GoesSo ms → AtEvent i n ms
 at_event n input.Boot ms plain is so = is
 at_event n input.Crash ms plain is so = is
-at_event n input.Tick ms plain is so = not_up n ms (event.Tick n) is tt so
-at_event n input.CommandDue ms plain is so = not_up n ms (event.Disk n) is tt so
-at_event n (input.Commanded words) ms plain is so = not_up n ms (event.Command n words) is tt so
-at_event n (input.Reported r good) ms plain is so = not_up n ms (event.Probe n r good) is tt so
+at_event n input.Tick ms plain is so = (not_up n ms (event.Tick n) is tt so, own_by n (event.Tick n) ms is (same_number n n refl))
+at_event n input.CommandDue ms plain is so = (not_up n ms (event.Disk n) is tt so, own_by n (event.Disk n) ms is (same_number n n refl))
+at_event n (input.Commanded words) ms plain is so = (not_up n ms (event.Command n words) is tt so, own_by n (event.Command n words) ms is (same_number n n refl))
+at_event n (input.Reported r good) ms plain is so = (not_up n ms (event.Probe n r good) is tt so, own_by n (event.Probe n r good) ms is (same_number n n refl))
 at_event n (input.Client address client port) ms plain is so = not_up n ms (event.Client n address client port) is tt so
 at_event n (input.Packet from m) ms plain is so = absurd plain
 at_event n (input.Answered a) ms plain is so = absurd plain
 at_event n (input.Wrote d value a) ms plain is so = absurd plain
+
+first_true : (a b : Bool) → a ≡ true → (a || b) ≡ true
+first_true true b h = refl
+first_true false b h = cc
+
+-- the delivery of a packet is an event of the node to which it goes
+delivery_own : (packets : List Packet) (number n : ℕ) (e : Option Event) (x : Moment) (here : List Moment) → IsDelivery packets number e → comes_to n x ≡ true → is_of n e (x ∷ here) ≡ true
+delivery_own packets number n (Some (event.Deliver k)) x here is to = first_true (comes_to n x) (list_any (comes_to n) here) to
+delivery_own packets number n (Some (event.Next from at)) x here is to = first_true (comes_to n x) (list_any (comes_to n) here) to
+delivery_own packets number n _ x here is to = absurd is
 
 -- ---- a command at a device
 
 commanded_armed : (s : Scene) (n d : ℕ) (o : Option Device) (k : PrCommand) → AreArmed s → AreArmed (commanded_at s n d o k).scene
 commanded_armed s n d None k h = h
 commanded_armed s n d (Some x) k h = record { calls = h.calls; due = h.due; so = h.so }
+
+commanded_own : (s : Scene) (n d j : ℕ) (o : Option Device) (k : PrCommand) → IsInOwnEvent j s.moments → IsInOwnEvent j (commanded_at s n d o k).scene.moments
+commanded_own s n d j None k h = h
+commanded_own s n d j (Some x) k h = h
 
 commanded_under : (s : Scene) (n d j : ℕ) (o : Option Device) (k : PrCommand) (e : Event) → under_way s.moments ≡ Some e → NoBoot e → Always GoesSo s.moments
     → stops_here j (commanded_at s n d o k).scene.moments ≡ stops_next j (commanded_at s n d o k).scene.moments
@@ -154,15 +172,16 @@ commanded_under s n d j (Some x) k e is other so = not_up j s.moments e is other
 happening_armed : (c : Cluster) (s : Scene) (x : Happening) → MayHappen c s x → AreArmed s → AreArmed (happened c s x)
 happening_armed c s (Speaks e) may h = speaks_armed c e s h
 happening_armed c s (Begins e) may h =
-    stays_armed s (adding (Part e) s) refl (stays_by (Part e) s.moments (λ k. record { boots = tt; crashes = tt; fences = tt; stops = tt; comes = k }) (λ j. refl) refl (λ j. refl)) h
+    stays_armed s (adding (Part e) s) refl (stays_by (Part e) s.moments (λ k. record { boots = tt; crashes = tt; fences = tt; stops = tt; saves = tt; comes = k }) (λ j. refl) refl (λ j. refl)) h
 happening_armed c s (Notes e) may h =
     stays_armed s (telling (entry.Schedule e) s) refl
-    (stays_by (Told (entry.Schedule e)) s.moments (λ k. record { boots = tt; crashes = tt; fences = tt; stops = tt; comes = k }) (λ j. refl) refl (λ j. refl)) h
+    (stays_by (Told (entry.Schedule e)) s.moments (λ k. record { boots = tt; crashes = tt; fences = tt; stops = tt; saves = tt; comes = k }) (λ j. refl) refl (λ j. refl)) h
 happening_armed c s (Takes n now ends i) may h = taking_armed c n now ends i s (at_event n i s.moments may.1 may.5 h.so) h
 happening_armed c s (Arrives number x m now ends) may h =
     let e : PacketEntry = packet.Delivered number x.from x.to in
     let t : Scene = telling (entry.Packet e) (removed s number) in
-    taking_armed c x.to now ends (input.Packet x.from m) t refl (packet_armed e s t refl refl h)
+    taking_armed c x.to now ends (input.Packet x.from m) t
+    (refl, delivery_own s.links.packets number x.to (under_way s.moments) (Told (entry.Packet e)) (so_far s.moments) may.6 (same_number x.to x.to refl)) (packet_armed e s t refl refl h)
 happening_armed c s (Strays number x) may h = packet_armed (packet.Delivered number x.from x.to) s _ refl refl h
 happening_armed c s (Misses number x) may h = packet_armed (packet.Dropped number drop.Down) s _ refl refl h
 happening_armed c s (Loses number x) may h = packet_armed (packet.Lost number) s _ refl refl h
@@ -173,14 +192,15 @@ happening_armed c s (Repeats number x) may h =
     dropped_armed o.sent.dropped t (packet_armed e s t refl refl h)
 happening_armed c s (Commands n d k now ends) may h =
     let o : Option Device = slice_get s.devices (d - 1) in
-    taking_armed c n now ends (input.Answered (commanded s n d k).answer) (commanded s n d k).scene (commanded_under s n d n o k (event.Disk n) may.5 tt h.so) (commanded_armed s n d o k h)
+    taking_armed c n now ends (input.Answered (commanded s n d k).answer) (commanded s n d k).scene
+    (commanded_under s n d n o k (event.Disk n) may.5 tt h.so, commanded_own s n d n o k (own_by n (event.Disk n) s.moments may.5 (same_number n n refl))) (commanded_armed s n d o k h)
 happening_armed c s (Writes n d value now ends) may h =
     let o : Option Device = slice_get s.devices (d - 1) in
     let k : PrCommand = command.Write value in
     taking_armed c n now ends (input.Wrote d value (commanded s n d k).answer) (commanded s n d k).scene (commanded_under s n d n o k (event.Write n d value) may.4 tt h.so) (commanded_armed s n d o k h)
 happening_armed c s (Refuses n d value why) may h =
     let e : _ = entry.Device (device.Refused n d value why) in
-    stays_armed s (telling e s) refl (stays_by (Told e) s.moments (λ k. record { boots = tt; crashes = tt; fences = tt; stops = tt; comes = k }) (λ j. refl) refl (λ j. refl)) h
+    stays_armed s (telling e s) refl (stays_by (Told e) s.moments (λ k. record { boots = tt; crashes = tt; fences = tt; stops = tt; saves = tt; comes = k }) (λ j. refl) refl (λ j. refl)) h
 
 -- ---- runs
 
@@ -206,6 +226,9 @@ fences_of_each_run h cells hs few small may = always GoesSo FencedByWrite (λ b 
 
 pub stops_of_each_run : StopsOfEachRun
 stops_of_each_run h cells hs few small may = always GoesSo StopsAtStop (λ b x g. g.stops) _ (run_armed h cells hs may).so
+
+pub saves_of_each_run : SavesOfEachRun
+saves_of_each_run h cells hs few small may = always GoesSo SavesInEvent (λ b x g. g.saves) _ (run_armed h cells hs may).so
 
 pub stops_come_in_each_run : StopsComeInEachRun
 stops_come_in_each_run h cells hs few small may = always GoesSo StopComes (λ b x g. g.comes) _ (run_armed h cells hs may).so

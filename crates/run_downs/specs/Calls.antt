@@ -1,5 +1,5 @@
 -- The calls of its local disk that are left to a node's stop, as its outputs tell them.
-use Rattle.std.specs.Prelude.{ℕ, ◌≡◌, ◌≢◌, true, false, List, [], ◌∷◌, Option, None, Some}
+use Rattle.std.specs.Prelude.{ℕ, ◌≡◌, ◌≢◌, Bool, true, false, List, [], ◌∷◌, Option, None, Some}
 use Rattle.std.specs.List.{AllByRecursion}
 use Rattle.cl_base.specs.declared.panic.Panic.TheVariants as panic
 use Rattle.local_disk.specs.declared.memory.Stop.{Stop}
@@ -11,7 +11,7 @@ use Rattle.history.specs.Moment.{Moment}
 use Rattle.history.specs.Order.{Always}
 use Rattle.node_model.specs.declared.output.Output.{Output}
 use Rattle.node_model.specs.declared.output.Output.TheVariants.{Tells, Sends}
-use Rattle.run_downs.specs.Laws.{BootIsSaid, CrashIsSaid, FencedByWrite, StopComes, StopsAtStop}
+use Rattle.run_downs.specs.Laws.{BootIsSaid, CrashIsSaid, FencedByWrite, SavesInEvent, StopComes, StopsAtStop}
 use Rattle.run_history.specs.Scenes.{Scene}
 
 -- the calls left to the stop that is armed in a disk
@@ -29,18 +29,19 @@ abbrev pub left_by_all : Option ℕ → List Output → Option ℕ
 left_by_all k [] = k
 left_by_all k (o ∷ os) = left_by_all (left_by k o) os
 
--- so node n may tell of itself, where its stop has this many calls left: it neither comes up nor crashes here, and is not fenced
-abbrev pub IsFine : ℕ → Option ℕ → Output → Type 0
-IsFine n k (Tells (entry.Node m note.Up)) = ⊥
-IsFine n k (Tells (entry.Node m note.Saved)) = (m ≡ n) × (are_four k ≡ false)
-IsFine n k (Tells (entry.Node m (note.Down cause.Stopped))) = (m ≡ n) × (are_four k ≡ true)
-IsFine n k (Tells (entry.Node m (note.Down cause.Crash))) = ⊥
-IsFine n k (Tells (entry.Node m (note.Down (cause.Panic (panic.Fenced d))))) = ⊥
-IsFine n k _ = Unit {0}
+-- so node n may tell of itself, where it may save here or not, and its stop has this many calls left: it neither comes up nor crashes here, and
+-- is not fenced
+abbrev pub IsFine : ℕ → Bool → Option ℕ → Output → Type 0
+IsFine n may k (Tells (entry.Node m note.Up)) = ⊥
+IsFine n may k (Tells (entry.Node m note.Saved)) = (m ≡ n) × (are_four k ≡ false) × (may ≡ true)
+IsFine n may k (Tells (entry.Node m (note.Down cause.Stopped))) = (m ≡ n) × (are_four k ≡ true) × (may ≡ true)
+IsFine n may k (Tells (entry.Node m (note.Down cause.Crash))) = ⊥
+IsFine n may k (Tells (entry.Node m (note.Down (cause.Panic (panic.Fenced d))))) = ⊥
+IsFine n may k _ = Unit {0}
 
-abbrev pub AreFine : ℕ → Option ℕ → List Output → Type 0
-AreFine n k [] = Unit {0}
-AreFine n k (o ∷ os) = IsFine n k o × AreFine n (left_by k o) os
+abbrev pub AreFine : ℕ → Bool → Option ℕ → List Output → Type 0
+AreFine n may k [] = Unit {0}
+AreFine n may k (o ∷ os) = IsFine n may k o × AreFine n may (left_by k o) os
 
 -- it tells neither that a node is up or down, nor that it has saved
 abbrev pub IsSteady : Output → Type 0
@@ -58,6 +59,7 @@ pub record GoesSo (before : List Moment) (x : Moment) : Type 0 where
   pub crashes : CrashIsSaid before x
   pub fences : FencedByWrite before x
   pub stops : StopsAtStop before x
+  pub saves : SavesInEvent before x
   pub comes : StopComes before x
 
 -- the moments go on so to these, after which the stop of node n has this many calls left

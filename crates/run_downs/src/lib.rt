@@ -4,7 +4,7 @@
 //! all agents.
 #![tactic(auto)]
 
-ghost use Rattle.run_downs.specs.Laws.{BootsOfEachRun, CrashesOfEachRun, FencesOfEachRun, NoStopIsDue, StopsComeInEachRun, StopsOfEachRun};
+ghost use Rattle.run_downs.specs.Laws.{BootsOfEachRun, CrashesOfEachRun, FencesOfEachRun, NoStopIsDue, SavesOfEachRun, StopsComeInEachRun, StopsOfEachRun};
 
 /// A node comes up in the event of its boot.
 pub fn boots_of_each_run()
@@ -24,6 +24,12 @@ pub fn fences_of_each_run()
 /// A node stops where the stop that was armed falls in one of the four calls of its save or of its mounting, and saves where none does.
 pub fn stops_of_each_run()
     ensures { StopsOfEachRun }
+{}
+
+/// A node saves, and stops, in an event of its own alone: its boot, its tick, its command at a device, a command or a probe that is given to it, or
+/// the delivery of a packet to it.
+pub fn saves_of_each_run()
+    ensures { SavesOfEachRun }
 {}
 
 /// Where the stop falls in a mounting the node stops at once: that is the next line after `up`.
