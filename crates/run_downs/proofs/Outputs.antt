@@ -1,5 +1,5 @@
 -- Most outputs of a node tell neither that it is up or down, nor that it has saved.
-use Rattle.std.specs.Prelude.{ℕ, ◌+◌, ◌++◌, List, [], ◌∷◌, Option, None, Some, Ok}
+use Rattle.std.specs.Prelude.{ℕ, ◌+◌, List, [], ◌∷◌, Option, None, Some, Ok}
 use Rattle.std.specs.List.{AllByRecursion}
 use Rattle.ccr_commit.specs.Entries.{all_committed}
 use Rattle.ccr_tables.specs.State.{ConfigState}

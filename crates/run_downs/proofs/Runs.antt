@@ -6,7 +6,7 @@ use Rattle.cl_base.specs.declared.header.Header.{Header}
 use Rattle.cl_base.specs.declared.method.Outcome as method
 use Rattle.cl_base.specs.declared.packet.DropCause.TheVariants as drop
 use Rattle.cmm_attempt.proofs.Basics.{same_some}
-use Rattle.history.specs.Downs.{calls_left, stop_due, stops_here, stops_next}
+use Rattle.history.specs.Downs.{calls_left, stops_here, stops_next}
 use Rattle.history.specs.Moment.{Moment, Part, Said, Told}
 use Rattle.history.specs.Order.{Always, so_far, under_way}
 use Rattle.interconnect.specs.Links as links
@@ -35,11 +35,11 @@ use Rattle.status_report.specs.declared.packet_entry.PacketEntry.TheVariants as 
 use Rattle.world_model.specs.First.{first_cluster}
 use Rattle.world_model.specs.Lines.{left_by}
 use Rattle.run_history.specs.Bringing.{IsBrought, IsDelivery}
-use Rattle.run_history.specs.Happenings.{Arrives, Begins, Commands, Happening, IsPlain, Loses, MayAllHappen, MayHappen, Misses, Notes, Refuses, Repeats, Speaks, Strays, Takes, Writes, all_happened, armed_by, commanded, commanded_at, given_by, happened, removed, taking}
+use Rattle.run_history.specs.Happenings.{Arrives, Begins, Commands, Happening, IsPlain, Loses, MayAllHappen, MayHappen, Misses, Notes, Refuses, Repeats, Speaks, Strays, Takes, Writes, all_happened, armed_by, commanded, commanded_at, happened, removed, taking}
 use Rattle.run_history.specs.Scenes.{Scene, adding, dropped_so, first_scene, passing, telling, with_links}
 use Rattle.run_history.proofs.Idle.{if_false, if_true, passing_nodes}
 use Rattle.run_history.proofs.Reached.{kept_holds}
-use Rattle.run_downs.proofs.Lines.{Stays, dropped_stays, none_comes, packet_stays, stays_by, stays_then}
+use Rattle.run_downs.proofs.Lines.{Stays, none_comes, packet_stays, stays_by}
 use Rattle.run_downs.proofs.Steps.{AtEvent, step_passed}
 use Rattle.run_downs.specs.Calls.{AreArmed, GoesSo, Passed, calls_in}
 use Rattle.run_downs.specs.Laws.{BootIsSaid, BootsOfEachRun, CrashIsSaid, CrashesOfEachRun, FencedByWrite, FencesOfEachRun, IsInOwnEvent, NoStopIsDue, SavesInEvent, SavesOfEachRun, StopComes, StopsAtStop, StopsComeInEachRun, StopsOfEachRun, comes_to, is_of}

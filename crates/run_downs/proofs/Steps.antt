@@ -18,7 +18,6 @@ use Rattle.node_model.specs.declared.input.Input.TheVariants.{Answered, Boot, Cl
 use Rattle.node_model.specs.declared.node.Node.{Node}
 use Rattle.node_model.specs.declared.node.Node.TheVariants.{Down, Up}
 use Rattle.node_model.specs.declared.node.UpNode.{UpNode}
-use Rattle.node_model.specs.declared.output.Output.{Output}
 use Rattle.node_model.specs.declared.output.Output.TheVariants.{Tells}
 use Rattle.node_model.specs.declared.presidency.Presidency.{Presidency}
 use Rattle.node_model.specs.Devices.{answer_told, write_told, wrote}
@@ -43,7 +42,7 @@ use Rattle.status_report.specs.declared.entry.Entry.TheVariants as entry
 use Rattle.status_report.specs.declared.node_entry.DownCause.TheVariants as cause
 use Rattle.status_report.specs.declared.node_entry.NodeEntry.TheVariants as note
 use Rattle.run_history.specs.Names.{UpNames}
-use Rattle.run_history.specs.Scenes.{Scene, passing, telling}
+use Rattle.run_history.specs.Scenes.{Scene, passing}
 use Rattle.run_history.proofs.Handlers.{distrusting_is, packet_is, progress_is, tick_is}
 use Rattle.run_history.proofs.Idle.{if_false, if_true}
 use Rattle.run_history.proofs.LineSteps.{Any, any_known, any_node}

@@ -10,7 +10,7 @@ use Rattle.history.specs.Downs.{after_four, are_four, calls_left, stop_due}
 use Rattle.history.specs.Moment.{Moment}
 use Rattle.history.specs.Order.{Always}
 use Rattle.node_model.specs.declared.output.Output.{Output}
-use Rattle.node_model.specs.declared.output.Output.TheVariants.{Tells, Sends}
+use Rattle.node_model.specs.declared.output.Output.TheVariants.{Tells}
 use Rattle.run_downs.specs.Laws.{BootIsSaid, CrashIsSaid, FencedByWrite, SavesInEvent, StopComes, StopsAtStop}
 use Rattle.run_history.specs.Scenes.{Scene}
 
