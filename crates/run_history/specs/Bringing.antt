@@ -1,5 +1,5 @@
 -- What the event under way brings: all that happens is of the line, or of the part of a round, that came last.
-use Rattle.std.specs.Prelude.{ℕ, ◌≡◌, List, Option, None, Some}
+use Rattle.std.specs.Prelude.{ℕ, ◌≡◌, List, Option, Some}
 use Rattle.interconnect.specs.Links.{Packet, oldest_on}
 use Rattle.schedule_text.specs.declared.event.Event.{Event}
 use Rattle.schedule_text.specs.declared.event.Event.TheVariants as event
