@@ -1,5 +1,5 @@
 -- What a node does with each input is ordinary, but for the command whose answer comes.
-use Rattle.std.specs.Prelude.{ℕ, ◌≡◌, ◌==◌, ◌||◌, nat_le, nat_lt, not, Bool, true, false, Option, None, Some, Ok, is_some}
+use Rattle.std.specs.Prelude.{ℕ, ◌≡◌, ◌==◌, ◌||◌, nat_le, nat_lt, not, Bool, true, false, Option, None, Some, is_some}
 use Rattle.std.proofs.Common.{refl}
 use Rattle.answer_words.specs.Answers.{answer_in}
 use Rattle.cl_base.specs.Seizings.{SeizeResult}
@@ -14,7 +14,6 @@ use Rattle.attempt_laws.proofs.Walk.{if_with}
 use Rattle.device_queue.specs.declared.progress.Progress.{Progress}
 use Rattle.device_queue.specs.declared.progress.Progress.TheVariants.{GoesOn, Seized, Joined}
 use Rattle.device_queue.specs.Queue.{joins, kept_of}
-use Rattle.pgr_device.specs.declared.command.PrAnswer.TheVariants as given
 use Rattle.pgr_device.specs.declared.command.PrCommand.{PrCommand}
 use Rattle.seize.specs.Answers.{Answer}
 use Rattle.seize.specs.declared.kind.JoinResult.{JoinResult}
@@ -207,8 +206,3 @@ pub progress_is : (D : ℕ → Type 0) (c : Cluster) (me : ℕ) (x : UpNode) (at
 progress_is D c me x at k a GoesOn K n = (refl, refl, refl, tt)
 progress_is D c me x at k a (Seized d result) K n = (refl, refl, refl, seized_is D c me (answered_so x a) d result (coordinator_of (answered_so x a)) K (taken_names D x a n))
 progress_is D c me x at k a (Joined d result) K n = joining_is D c me x at k a d result K n
-
-pub fenced_is : (D : ℕ → Type 0) (d : ℕ) (a : Answer) → IsOrdinary D (cuts.fenced_course d a)
-fenced_is D d (Ok given.Good) = tt
-fenced_is D d (Ok given.Conflict) = tt
-fenced_is D d _ = tt

@@ -123,7 +123,7 @@ pub then_is : (D : ℕ → Type 0) (c : Cluster) (me : ℕ) (x : UpNode) (k : Co
 then_is D c me x Stops next K n h f = f x n
 then_is D c me x (Acts a rest) next K n h f = (h.0, then_is D c me (acted c me x a) rest next K (act_names D c me x a K h.0 n) h.1 f)
 then_is D c me x (Keeps change rest) next K n h f = (h.0, then_is D c me (changed c me x change) rest next K (change_names D c me x change K h.0 n) h.1 f)
-then_is D c me x (Falls why) next K n h f = tt
+then_is D c me x (Falls why) next K n h f = h
 
 -- .. whatever node it leaves
 pub any_is : (D : ℕ → Type 0) (c : Cluster) (me : ℕ) (x : UpNode) (k : Course) (next : UpNode → Course) → IsOrdinary D k
@@ -131,4 +131,4 @@ pub any_is : (D : ℕ → Type 0) (c : Cluster) (me : ℕ) (x : UpNode) (k : Cou
 any_is D c me x Stops next h f = f x
 any_is D c me x (Acts a rest) next h f = (h.0, any_is D c me (acted c me x a) rest next h.1 f)
 any_is D c me x (Keeps change rest) next h f = (h.0, any_is D c me (changed c me x change) rest next h.1 f)
-any_is D c me x (Falls why) next h f = tt
+any_is D c me x (Falls why) next h f = h

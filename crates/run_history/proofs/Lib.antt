@@ -7,6 +7,7 @@ pub mod WorldDevices
 pub mod Stands
 pub mod Packets
 pub mod Apart
+pub mod UnderWay
 pub mod WorldCommands
 pub mod Lines
 pub mod Told

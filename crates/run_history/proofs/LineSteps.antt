@@ -34,7 +34,7 @@ use Rattle.run_history.specs.NodeLines.{CommandsAreTold, DevicesAreKnown}
 use Rattle.run_history.specs.CommandLines.{AllQuiet, GivesQuiet, NodeTells, TellsDue, UpTells}
 use Rattle.run_history.specs.Names.{AttachedOf, AttemptNames, IsListed, NodeNames, SeizingOf, TaskOf, UpNames}
 use Rattle.run_history.proofs.Given.{answer_first, answer_names, course_names, course_quiet}
-use Rattle.run_history.proofs.Handlers.{distrusting_is, fenced_is, packet_is, progress_is, tick_is}
+use Rattle.run_history.proofs.Handlers.{distrusting_is, packet_is, progress_is, tick_is}
 use Rattle.run_history.proofs.Lists.{both}
 use Rattle.run_history.proofs.Ordinary.{IsOrdinary, Knows}
 use Rattle.run_history.proofs.Small.{AllSmall, answer_small, course_small}
@@ -77,6 +77,25 @@ write_quiet me x d value (Ok given.Good) = (tt, tt)
 write_quiet me x d value (Ok given.Conflict) = (tt, tt)
 write_quiet me x d value _ = (tt, tt)
 
+-- after a write: the node stays, or goes down where it is fenced
+
+fenced_quiet : (c : Cluster) (me : ℕ) (y : UpNode) (disk : NodeRecord) (replies : List Reply) (d : ℕ) (a : Answer)
+    → AllQuiet (given_all c me (site (Up y) disk) (under replies (cuts.fenced_course d a)))
+fenced_quiet c me y disk replies d (Ok given.Good) = tt
+fenced_quiet c me y disk replies d (Ok given.Conflict) = (tt, tt)
+fenced_quiet c me y disk replies d _ = tt
+
+fenced_names : (D : ℕ → Type 0) (c : Cluster) (me : ℕ) (y : UpNode) (disk : NodeRecord) (replies : List Reply) (d : ℕ) (a : Answer) → UpNames D y
+    → NodeNames D (after_all c me (site (Up y) disk) (under replies (cuts.fenced_course d a))).node
+fenced_names D c me y disk replies d (Ok given.Good) n = n
+fenced_names D c me y disk replies d (Ok given.Conflict) n = tt
+fenced_names D c me y disk replies d _ n = n
+
+fenced_small : (replies : List Reply) (d : ℕ) (a : Answer) → AllSmall (under replies (cuts.fenced_course d a))
+fenced_small replies d (Ok given.Good) = tt
+fenced_small replies d (Ok given.Conflict) = (tt, tt)
+fenced_small replies d _ = tt
+
 written : (D : ℕ → Type 0) (c : Cluster) (me : ℕ) (ends : Outcome) (x y : UpNode) (disk : NodeRecord) (replies : List Reply) (d value : ℕ) (a : Answer) → Knows c D → UpNames D y
     → Ends D c me x (Wrote d value a) (site (Up y) disk) (under replies (course_of c me ends y (Wrote d value a)))
 written D c me ends x y disk replies d value a K n =
@@ -85,10 +104,10 @@ written D c me ends x y disk replies d value a K n =
       tells = record {
         others = write_lines me y d value a ++ rest;
         first = refl;
-        quiet = both GivesQuiet (write_lines me y d value a) rest (write_quiet me y d value a) (course_quiet D c me y disk replies (cuts.fenced_course d a) (fenced_is D d a));
+        quiet = both GivesQuiet (write_lines me y d value a) rest (write_quiet me y d value a) (fenced_quiet c me y disk replies d a);
       };
-      names = course_names D c me y disk replies (cuts.fenced_course d a) K n (fenced_is D d a);
-      small = (tt, course_small D replies (cuts.fenced_course d a) (fenced_is D d a));
+      names = fenced_names D c me y disk replies d a n;
+      small = (tt, fenced_small replies d a);
     }
 
 up_ends : (D : ℕ → Type 0) (c : Cluster) (me now : ℕ) (ends : Outcome) (x : UpNode) (disk : NodeRecord) (replies : List Reply) (i : Input) → Knows c D → UpNames D x
@@ -155,7 +174,7 @@ step_ends D c me now ends (Up x) disk i K n =
 
 -- The laws.
 
-abbrev Any : ℕ → Type 0
+abbrev pub Any : ℕ → Type 0
 Any d = Unit {0}
 
 any_tasks : (ts : List Task) → AllByRecursion (TaskOf Any) ts
@@ -174,11 +193,11 @@ any_attempt : (o : Option AttemptState) → IfSome o (AttemptNames Any)
 any_attempt None = tt
 any_attempt (Some a) = (any_attached a.plan.attached, any_seizings a.devices)
 
-any_node : (node : Node) → NodeNames Any node
+pub any_node : (node : Node) → NodeNames Any node
 any_node Down = tt
 any_node (Up x) = (any_tasks x.tasks, any_attempt x.attempt)
 
-any_known : (c : Cluster) → Knows c Any
+pub any_known : (c : Cluster) → Knows c Any
 any_known c = record { listed = λ d h. tt; attached = any_attached c.attached }
 
 pub commands_are_told : CommandsAreTold

@@ -110,7 +110,7 @@ linked_kept cells c s (Arrives number x m now ends) may h =
     taking_linked cells c x.to now ends (input.Packet x.from m) (telling (entry.Packet (packet.Delivered number x.from x.to)) (removed s number)) (delivered_linked cells s number x h may.0)
 linked_kept cells c s (Strays number x) may h = delivered_linked cells s number x h may.0
 linked_kept cells c s (Misses number x) may h = missed_linked cells s number x h may.0
-linked_kept cells c s (Loses number x) may h = lost_linked cells s number x h may
+linked_kept cells c s (Loses number x) may h = lost_linked cells s number x h may.0
 linked_kept cells c s (Repeats number x) may h = repeated_linked cells s number x h may.0
 linked_kept cells c s (Commands n d k now ends) may h =
     taking_linked cells c n now ends (input.Answered (commanded s n d k).answer) (commanded s n d k).scene (commanded_linked cells s n d _ k h)

@@ -2,9 +2,12 @@
 use Rattle.std.specs.Prelude.{ℕ, ◌≡◌, true}
 use Rattle.std.specs.List.{AllByRecursion}
 use Rattle.cl_base.specs.Sets.{has}
+use Rattle.cl_base.specs.declared.panic.Panic.TheVariants as panic
 use Rattle.cmm_attempt.specs.Calls.{turn}
 use Rattle.status_report.specs.declared.entry.Entry.{Entry}
 use Rattle.status_report.specs.declared.entry.Entry.TheVariants as entry
+use Rattle.status_report.specs.declared.node_entry.DownCause.{DownCause}
+use Rattle.status_report.specs.declared.node_entry.DownCause.TheVariants as down
 use Rattle.node_model.specs.declared.cluster.Cluster.{Cluster}
 use Rattle.node_model.specs.declared.output.Output.{Output}
 use Rattle.node_model.specs.declared.output.Output.TheVariants.{Tells, Sends}
@@ -49,8 +52,14 @@ ActsSo D (Makes change) = ChangesSo D change
 ActsSo D (Gives os) = AllByRecursion GivesAside os
 ActsSo D _ = Unit {0}
 
+-- a node falls by its own step where an attempt excludes it, or where a method of its own must stop it
+abbrev pub IsOwnFall : DownCause → Type 0
+IsOwnFall (down.Panic (panic.Excluded f)) = Unit {0}
+IsOwnFall (down.Panic (panic.Stop resource)) = Unit {0}
+IsOwnFall _ = ⊥
+
 abbrev pub IsOrdinary : (ℕ → Type 0) → Course → Type 0
 IsOrdinary D Stops = Unit {0}
 IsOrdinary D (Acts a rest) = ActsSo D a × IsOrdinary D rest
 IsOrdinary D (Keeps change rest) = ChangesSo D change × IsOrdinary D rest
-IsOrdinary D (Falls why) = Unit {0}
+IsOrdinary D (Falls why) = IsOwnFall why

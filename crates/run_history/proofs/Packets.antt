@@ -14,6 +14,7 @@ use Rattle.status_report.specs.declared.schedule_entry.ScheduleEntry.TheVariants
 use Rattle.status_report.specs.declared.schedule_entry.SkipCause.TheVariants.{NoPacket}
 use Rattle.wire.specs.declared.message.Message.{Message}
 use Rattle.wire.specs.Reads.{whole_of}
+use Rattle.history.specs.Order.{under_way}
 use Rattle.node_model.specs.declared.cluster.Cluster.{Cluster}
 use Rattle.node_model.specs.declared.input.Input.TheVariants as input
 use Rattle.node_model.specs.declared.node.Node.TheVariants.{Up}
@@ -24,6 +25,7 @@ use Rattle.world_model.specs.Worlds as world
 use Rattle.world_model.specs.Worlds.{Play, is_up, is_up_node}
 use Rattle.refinement.specs.Worlds.{GivesFit, PacketSent}
 use Rattle.refinement.proofs.Worlds.{all_found, removing_sent, sending_sent}
+use Rattle.run_history.specs.Bringing.{IsDelivery, IsLoss, IsRepeat}
 use Rattle.run_history.specs.Happenings.{happened, removed}
 use Rattle.run_history.specs.Happenings.Happening.{Arrives, Loses, Misses, Repeats, Strays}
 use Rattle.run_history.specs.Scenes as scene
@@ -60,13 +62,13 @@ delivered_line number x = entry.Packet (packet.Delivered number x.from x.to)
 taken_so : (c : Cluster) → GivesFit c
     → (first : Scene) (text : List ℕ) (said : List Line) (p : Play) (number : ℕ) (x : Packet) (y : UpNode) (o : Option Message) (h : Stands c first text said p)
     → packet_of p.world.links.packets number ≡ Some x → slice_get p.world.nodes (x.to - 1) ≡ Some (Up y) → whole_of x.bytes ≡ o
-    → Stands c first text said (taking x.from x.to o (world.telling (delivered_line number x) (without p number)))
-taken_so c gives first text said p number x y None h is at whole =
+    → IsDelivery p.world.links.packets number (under_way h.moments) → Stands c first text said (taking x.from x.to o (world.telling (delivered_line number x) (without p number)))
+taken_so c gives first text said p number x y None h is at whole brought =
     let s : Scene = seen c first text said p h in
     let one : PacketSent h.nodes.sent x = one_of c first text said p number x h is in
     stands_so c first text said (world.telling (delivered_line number x) (without p number)) h.nodes (happened c s (Strays number x))
-    (reached_more c first s (Strays number x) h.reached (is, whole, is_up_in c h.nodes p.world x.to y one.0 at h.alike)) (told_out c first text said p number (delivered_line number x) h)
-taken_so c gives first text said p number x y (Some m) h is at whole =
+    (reached_more c first s (Strays number x) h.reached (is, whole, is_up_in c h.nodes p.world x.to y one.0 at h.alike, brought)) (told_out c first text said p number (delivered_line number x) h)
+taken_so c gives first text said p number x y (Some m) h is at whole brought =
     go (subst (λ z. Gave c text said h.nodes z x.to q.world.clock q.world.nodes (input.Packet x.from m) (giving x.to (input.Packet x.from m) q)) f.is
     (gave_so c gives text said h.nodes f.moments q x.to (input.Packet x.from m) f.spoken f.written one.0 (one.1 m whole) tt f.alike))
   where
@@ -88,59 +90,59 @@ taken_so c gives first text said p number x y (Some m) h is at whole =
     go (inr k) =
         stands_so c first text said (giving x.to (input.Packet x.from m) q) _ (happened c s (Arrives number x m p.world.clock k.ends))
         (reached_more c first s (Arrives number x m p.world.clock k.ends) h.reached
-        (is, whole, is_up_in c h.nodes p.world x.to y one.0 at h.alike, node_number c h.nodes p.world x.to (Up y) one.0 at h.alike, one.1 m whole, h.alike.shows.clock)) k.follows
+        (is, whole, is_up_in c h.nodes p.world x.to y one.0 at h.alike, node_number c h.nodes p.world x.to (Up y) one.0 at h.alike, one.1 m whole, h.alike.shows.clock, brought)) k.follows
 
 delivered_as : (c : Cluster) → GivesFit c → (first : Scene) (text : List ℕ) (said : List Line) (p : Play) (number : ℕ) (o : Option Packet) → packet_of p.world.links.packets number ≡ o
-    → Stands c first text said p → Stands c first text said (delivering_as number o p)
-delivered_as c gives first text said p number None is h = noted c first text said p (Skipped NoPacket) h
-delivered_as c gives first text said p number (Some x) is h =
+    → (h : Stands c first text said p) → IsDelivery p.world.links.packets number (under_way h.moments) → Stands c first text said (delivering_as number o p)
+delivered_as c gives first text said p number None is h brought = noted c first text said p (Skipped NoPacket) h
+delivered_as c gives first text said p number (Some x) is h brought =
     let s : Scene = seen c first text said p h in
     let one : PacketSent h.nodes.sent x = one_of c first text said p number x h is in
     let q : Play = without p number in
     let missed : Entry = entry.Packet (packet.Dropped number drop.Down) in
     cond_both (is_up p.world x.to) (taking x.from x.to (whole_of x.bytes) (world.telling (delivered_line number x) q)) (world.telling missed q) (Stands c first text said)
     (λ up. up_there (slice_get p.world.nodes (x.to - 1)) (Stands c first text said (taking x.from x.to (whole_of x.bytes) (world.telling (delivered_line number x) q))) up
-    (λ y at. taken_so c gives first text said p number x y (whole_of x.bytes) h is at refl))
+    (λ y at. taken_so c gives first text said p number x y (whole_of x.bytes) h is at refl brought))
     (λ down. stands_so c first text said (world.telling missed q) h.nodes (happened c s (Misses number x))
-    (reached_more c first s (Misses number x) h.reached (is, down_there c h.nodes p.world x.to (slice_get p.world.nodes (x.to - 1)) one.0 refl down h.alike)) (told_out c first text said p number missed h))
+    (reached_more c first s (Misses number x) h.reached (is, down_there c h.nodes p.world x.to (slice_get p.world.nodes (x.to - 1)) one.0 refl down h.alike, brought)) (told_out c first text said p number missed h))
 
-pub delivered_so : (c : Cluster) → GivesFit c → (first : Scene) (text : List ℕ) (said : List Line) (p : Play) (number : ℕ) → Stands c first text said p
-    → Stands c first text said (delivering number p)
-delivered_so c gives first text said p number h = delivered_as c gives first text said p number (packet_of p.world.links.packets number) refl h
+pub delivered_so : (c : Cluster) → GivesFit c → (first : Scene) (text : List ℕ) (said : List Line) (p : Play) (number : ℕ) → (h : Stands c first text said p)
+    → IsDelivery p.world.links.packets number (under_way h.moments) → Stands c first text said (delivering number p)
+delivered_so c gives first text said p number h brought = delivered_as c gives first text said p number (packet_of p.world.links.packets number) refl h brought
 
 lost_as : (c : Cluster) (first : Scene) (text : List ℕ) (said : List Line) (p : Play) (number : ℕ) (o : Option Packet) → packet_of p.world.links.packets number ≡ o
-    → Stands c first text said p
-    → Stands c first text said (losing_as number o p)
-lost_as c first text said p number None is h = noted c first text said p (Skipped NoPacket) h
-lost_as c first text said p number (Some x) is h =
+    → (h : Stands c first text said p) → IsLoss p.world.links.packets number (under_way h.moments) → Stands c first text said (losing_as number o p)
+lost_as c first text said p number None is h brought = noted c first text said p (Skipped NoPacket) h
+lost_as c first text said p number (Some x) is h brought =
     let s : Scene = seen c first text said p h in
     let lost : Entry = entry.Packet (packet.Lost number) in
-    stands_so c first text said (world.telling lost (without p number)) h.nodes (happened c s (Loses number x)) (reached_more c first s (Loses number x) h.reached is) (told_out c first text said p number lost h)
+    stands_so c first text said (world.telling lost (without p number)) h.nodes (happened c s (Loses number x)) (reached_more c first s (Loses number x) h.reached (is, brought)) (told_out c first text said p number lost h)
 
-pub lost_so : (c : Cluster) (first : Scene) (text : List ℕ) (said : List Line) (p : Play) (number : ℕ) → Stands c first text said p → Stands c first text said (losing number p)
-lost_so c first text said p number h = lost_as c first text said p number (packet_of p.world.links.packets number) refl h
+pub lost_so : (c : Cluster) (first : Scene) (text : List ℕ) (said : List Line) (p : Play) (number : ℕ) → (h : Stands c first text said p) → IsLoss p.world.links.packets number (under_way h.moments)
+    → Stands c first text said (losing number p)
+lost_so c first text said p number h brought = lost_as c first text said p number (packet_of p.world.links.packets number) refl h brought
 
 repeated_as : (c : Cluster) (first : Scene) (text : List ℕ) (said : List Line) (p : Play) (number : ℕ) (o : Option Packet) → packet_of p.world.links.packets number ≡ o
-    → Stands c first text said p
-    → Stands c first text said (repeating_as number o p)
-repeated_as c first text said p number None is h = noted c first text said p (Skipped NoPacket) h
-repeated_as c first text said p number (Some x) is h =
+    → (h : Stands c first text said p) → IsRepeat p.world.links.packets number (under_way h.moments) → Stands c first text said (repeating_as number o p)
+repeated_as c first text said p number None is h brought = noted c first text said p (Skipped NoPacket) h
+repeated_as c first text said p number (Some x) is h brought =
     let s : Scene = seen c first text said p h in
     let one : PacketSent h.nodes.sent x = one_of c first text said p number x h is in
     let o : links.Outcome = sending p.world.links x.from x.to x.bytes in
     let copied : Entry = entry.Packet (packet.Repeated number p.world.links.next) in
     cond_both (nat_lt p.world.links.next (2 ^ 63)) (copying number o p) p (Stands c first text said)
-    (λ e. stands_so c first text said (copying number o p) h.nodes (happened c s (Repeats number x)) (reached_more c first s (Repeats number x) h.reached (is, e))
+    (λ e. stands_so c first text said (copying number o p) h.nodes (happened c s (Repeats number x)) (reached_more c first s (Repeats number x) h.reached (is, e, brought))
     (dropped_so c text said h.nodes (scene.telling copied (scene.with_links s o.after)) (world.telling copied (with_links p o.after)) o.sent.dropped
     (told_so c text said h.nodes (scene.with_links s o.after) (with_links p o.after) copied
     (linked_so c text said h.nodes s p o.after (sending_sent h.nodes.sent p.world.links x.from x.to x.bytes h.alike.shows.packets one) (followed c first text said p h)))))
     (λ e. h)
 
-pub repeated_so : (c : Cluster) (first : Scene) (text : List ℕ) (said : List Line) (p : Play) (number : ℕ) → Stands c first text said p → Stands c first text said (repeating_one number p)
-repeated_so c first text said p number h = repeated_as c first text said p number (packet_of p.world.links.packets number) refl h
+pub repeated_so : (c : Cluster) (first : Scene) (text : List ℕ) (said : List Line) (p : Play) (number : ℕ) → (h : Stands c first text said p)
+    → IsRepeat p.world.links.packets number (under_way h.moments) → Stands c first text said (repeating_one number p)
+repeated_so c first text said p number h brought = repeated_as c first text said p number (packet_of p.world.links.packets number) refl h brought
 
-pub oldest_so : (c : Cluster) (first : Scene) (text : List ℕ) (said : List Line) (act : ℕ → Play → Play)
-    → ((p : Play) (number : ℕ) → Stands c first text said p → Stands c first text said (act number p)) → (p : Play) (o : Option ℕ) → Stands c first text said p
-    → Stands c first text said (with_oldest act o p)
-oldest_so c first text said act all p None h = noted c first text said p (Skipped NoPacket) h
-oldest_so c first text said act all p (Some number) h = all p number h
+-- the oldest packet of a link, where it has one
+pub oldest_so : (c : Cluster) (first : Scene) (text : List ℕ) (said : List Line) (act : ℕ → Play → Play) (p : Play) (o : Option ℕ)
+    → ((number : ℕ) → o ≡ Some number → Stands c first text said (act number p)) → Stands c first text said p → Stands c first text said (with_oldest act o p)
+oldest_so c first text said act p None all h = noted c first text said p (Skipped NoPacket) h
+oldest_so c first text said act p (Some number) all h = all number refl

@@ -11,6 +11,7 @@ use Rattle.status_report.specs.declared.entry.Entry.TheVariants as entry
 use Rattle.status_report.specs.declared.schedule_entry.ScheduleEntry.{ScheduleEntry}
 use Rattle.history.specs.Letters.{arrived}
 use Rattle.history.specs.Moment.{Moment, Said, lines_of}
+use Rattle.history.specs.Order.{under_way}
 use Rattle.node_model.specs.declared.cluster.Cluster.{Cluster}
 use Rattle.node_model.specs.declared.input.Input.{Input}
 use Rattle.node_model.specs.declared.node.Node.{Node}
@@ -23,6 +24,7 @@ use Rattle.refinement.specs.Guards.{IsDown}
 use Rattle.refinement.specs.Runs.{AnswersFit, Nodes, WasSent}
 use Rattle.refinement.specs.Worlds.{GivesFit}
 use Rattle.refinement.proofs.Worlds.{number_low}
+use Rattle.run_history.specs.Bringing.{IsBrought}
 use Rattle.run_history.specs.Happenings.{IsNode, IsPlaced, IsPlain, IsSaid, IsUp, armed_by, happened}
 use Rattle.run_history.specs.Happenings.Happening.{Begins, Notes, Speaks, Takes}
 use Rattle.run_history.specs.Scenes.{Scene, adding, text_of}
@@ -92,22 +94,23 @@ pub gives_so : (c : Cluster) → GivesFit c → (first : Scene) (text : List ℕ
 gives_so c gives first text said p n i h low sent bounded = gave_so c gives text said h.nodes h.moments p n i h.spoken h.written low sent bounded h.alike
 
 abbrev pub took_plain : (c : Cluster) (first : Scene) (text : List ℕ) (said : List Line) (p : Play) (n : ℕ) (i : Input) (h : Stands c first text said p) → IsPlain i
-    → arrived h.moments ≡ None → IsSaid h.moments n i → Took c text said h.nodes (seen c first text said p h) n p.world.clock i (giving n i p) → Stands c first text said (giving n i p)
-took_plain c first text said p n i h plain apart lined k =
+    → arrived h.moments ≡ None → IsSaid h.moments n i → IsBrought (under_way h.moments) n i → Took c text said h.nodes (seen c first text said p h) n p.world.clock i (giving n i p)
+    → Stands c first text said (giving n i p)
+took_plain c first text said p n i h plain apart lined brought k =
     let s : Scene = seen c first text said p h in
     stands_so c first text said (giving n i p) _ (happened c s (Takes n p.world.clock k.ends i))
-    (reached_more c first s (Takes n p.world.clock k.ends i) h.reached ((k.may.0, k.may.1), plain, h.alike.shows.clock, apart, lined)) k.follows
+    (reached_more c first s (Takes n p.world.clock k.ends i) h.reached ((k.may.0, k.may.1), plain, h.alike.shows.clock, apart, lined, brought)) k.follows
 
 pub given_so : (c : Cluster) → GivesFit c → (first : Scene) (text : List ℕ) (said : List Line) (p : Play) (n : ℕ) (i : Input) → 1 ≤ n → IsPlain i → ((v : Nodes) → WasSent v i) → AnswersFit i
-    → (h : Stands c first text said p) → arrived h.moments ≡ None → IsSaid h.moments n i → Stands c first text said (giving n i p)
-given_so c gives first text said p n i low plain sent bounded h apart lined = go (gives_so c gives first text said p n i h low (sent h.nodes) bounded)
+    → (h : Stands c first text said p) → arrived h.moments ≡ None → IsSaid h.moments n i → IsBrought (under_way h.moments) n i → Stands c first text said (giving n i p)
+given_so c gives first text said p n i low plain sent bounded h apart lined brought = go (gives_so c gives first text said p n i h low (sent h.nodes) bounded)
   where
     s : Scene
     s = seen c first text said p h
 
     go : Gave c text said h.nodes s n p.world.clock p.world.nodes i (giving n i p) → Stands c first text said (giving n i p)
     go (inl none) = stands_so c first text said (giving n i p) h.nodes s h.reached none.follows
-    go (inr k) = took_plain c first text said p n i h plain apart lined k
+    go (inr k) = took_plain c first text said p n i h plain apart lined brought k
 
 -- Nodes at their places.
 

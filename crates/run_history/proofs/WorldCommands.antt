@@ -23,6 +23,7 @@ use Rattle.status_report.specs.declared.schedule_entry.ScheduleEntry.TheVariants
 use Rattle.status_report.specs.declared.schedule_entry.SkipCause.TheVariants as skip
 use Rattle.history.specs.Letters.{arrived}
 use Rattle.history.specs.Moment.{Moment, Said}
+use Rattle.history.specs.Order.{under_way}
 use Rattle.node_model.specs.declared.cluster.Cluster.{Cluster}
 use Rattle.node_model.specs.declared.input.Input.{Input}
 use Rattle.node_model.specs.declared.input.Input.TheVariants as input
@@ -49,6 +50,7 @@ use Rattle.run_history.specs.Telling.{IsInHeader}
 use Rattle.run_history.specs.Scenes as scene
 use Rattle.run_history.specs.Scenes.{Scene, adding}
 use Rattle.run_history.proofs.Apart.{readied_apart}
+use Rattle.run_history.proofs.UnderWay.{taking_under}
 use Rattle.run_history.proofs.Alike.{alike_devices, alike_no_stop, alike_stop, played, with_arms}
 use Rattle.run_history.proofs.WorldDevices.{After, after_command, commanded_so, viewed, write_keeps}
 use Rattle.run_history.proofs.Gives.{Gave, Nobody, Took, gave_so}
@@ -98,26 +100,27 @@ abbrev AllReady : WorldState → ℕ → Type 0
 AllReady w n = (z : Node) → node_at w n ≡ Some z → Ready z
 
 commands_so : (c : Cluster) → GivesFit c → DevicesFit c → (first : Scene) (text : List ℕ) (said : List Line) (p : Play) (n d : ℕ) (k : PrCommand) (x : UpNode) → 1 ≤ n → AllReady p.world n
-    → due p.world n ≡ Some (d, k) → node_at p.world n ≡ Some (Up x) → (h : Stands c first text said p) → arrived h.moments ≡ None → Stands c first text said (doing_due n (Some (d, k)) p)
-commands_so c gives fit first text said p n d k x low ready is at h apart =
+    → due p.world n ≡ Some (d, k) → node_at p.world n ≡ Some (Up x) → (h : Stands c first text said p) → arrived h.moments ≡ None → under_way h.moments ≡ Some (event.Disk n)
+    → Stands c first text said (doing_due n (Some (d, k)) p)
+commands_so c gives fit first text said p n d k x low ready is at h apart brought =
     let s : Scene = seen c first text said p h in
     let node : h.nodes.node n ≡ Up x = h.alike.shows.node n (Up x) low at in
     let done : Done c text said n input.Answered (happen.commanded s n d k) (doing_due n (Some (d, k)) p) =
     done_so c gives first text said p n d k input.Answered (Up x) h low at (λ device f. fit p.world n d k device (played c h.nodes p.world h.alike) low is f) (λ a v. tt) (λ a b. b) in
     stands_so c first text said (doing_due n (Some (d, k)) p) done.after (happened c s (Commands n d k done.now done.ends))
     (reached_more c first s (Commands n d k done.now done.ends) h.reached
-    (node_number c h.nodes p.world n (Up x) low at h.alike, subst (λ z. OfUp IsReadied z) (sym node) (ready (Up x) at), ap (λ z. due_at (Some z)) node ∙ ap due_at (sym at) ∙ is, done.time, apart)) done.follows
+    (node_number c h.nodes p.world n (Up x) low at h.alike, subst (λ z. OfUp IsReadied z) (sym node) (ready (Up x) at), ap (λ z. due_at (Some z)) node ∙ ap due_at (sym at) ∙ is, done.time, apart, brought)) done.follows
 
 due_so : (c : Cluster) → GivesFit c → DevicesFit c → (first : Scene) (text : List ℕ) (said : List Line) (p : Play) (n : ℕ) (o : Option (ℕ × PrCommand)) → 1 ≤ n → AllReady p.world n
-    → due p.world n ≡ o → (h : Stands c first text said p) → arrived h.moments ≡ None → Stands c first text said (doing_due n o p)
-due_so c gives fit first text said p n None low ready is h apart = h
-due_so c gives fit first text said p n (Some (d, k)) low ready is h apart =
-    due_there (node_at p.world n) d k (Stands c first text said (doing_due n (Some (d, k)) p)) is (λ x at. commands_so c gives fit first text said p n d k x low ready is at h apart)
+    → due p.world n ≡ o → (h : Stands c first text said p) → arrived h.moments ≡ None → under_way h.moments ≡ Some (event.Disk n) → Stands c first text said (doing_due n o p)
+due_so c gives fit first text said p n None low ready is h apart brought = h
+due_so c gives fit first text said p n (Some (d, k)) low ready is h apart brought =
+    due_there (node_at p.world n) d k (Stands c first text said (doing_due n (Some (d, k)) p)) is (λ x at. commands_so c gives fit first text said p n d k x low ready is at h apart brought)
 
 -- The node readies itself, then does the command that is due.
 pub command_so : (c : Cluster) → GivesFit c → DevicesFit c → (first : Scene) (text : List ℕ) (said : List Line) (p : Play) (n : ℕ) → 1 ≤ n → (h : Stands c first text said p)
-    → arrived h.moments ≡ None → Stands c first text said (doing_command n p)
-command_so c gives fit first text said p n low h apart = go (gives_so c gives first text said p n input.CommandDue h low tt tt)
+    → arrived h.moments ≡ None → under_way h.moments ≡ Some (event.Disk n) → Stands c first text said (doing_command n p)
+command_so c gives fit first text said p n low h apart brought = go (gives_so c gives first text said p n input.CommandDue h low tt tt)
   where
     q : Play
     q = giving n input.CommandDue p
@@ -134,26 +137,29 @@ command_so c gives fit first text said p n low h apart = go (gives_so c gives fi
     go (inl none) =
         due_so c gives fit first text said q n (due q.world n) low (none_ready none) refl
         (stands_so c first text said q h.nodes (seen c first text said p h) h.reached none.follows) (ap (λ (z : Scene). arrived z.moments) none.follows.is ∙ apart)
+        (ap (λ (z : Scene). under_way z.moments) none.follows.is ∙ brought)
     go (inr k) =
-        due_so c gives fit first text said q n (due q.world n) low (took_ready k) refl (took_plain c first text said p n input.CommandDue h tt apart tt k)
+        due_so c gives fit first text said q n (due q.world n) low (took_ready k) refl (took_plain c first text said p n input.CommandDue h tt apart tt brought k)
         (ap (λ (z : Scene). arrived z.moments) k.follows.is ∙ readied_apart c n p.world.clock k.ends (seen c first text said p h) apart)
+        (ap (λ (z : Scene). under_way z.moments) k.follows.is ∙ (taking_under c n p.world.clock k.ends input.CommandDue (seen c first text said p h) ∙ brought))
 
 disk_due : (c : Cluster) → GivesFit c → DevicesFit c → (first : Scene) (text : List ℕ) (said : List Line) (p : Play) (n : ℕ) (o : Option (ℕ × PrCommand)) → 1 ≤ n → (h : Stands c first text said p)
-    → arrived h.moments ≡ None → Stands c first text said (on_disk_due n o p)
-disk_due c gives fit first text said p n None low h apart = noted c first text said p (Skipped skip.NoWork) h
-disk_due c gives fit first text said p n (Some due) low h apart = command_so c gives fit first text said p n low h apart
+    → arrived h.moments ≡ None → under_way h.moments ≡ Some (event.Disk n) → Stands c first text said (on_disk_due n o p)
+disk_due c gives fit first text said p n None low h apart brought = noted c first text said p (Skipped skip.NoWork) h
+disk_due c gives fit first text said p n (Some due) low h apart brought = command_so c gives fit first text said p n low h apart brought
 
 pub disk_so : (c : Cluster) → GivesFit c → DevicesFit c → (first : Scene) (text : List ℕ) (said : List Line) (p : Play) (n : ℕ) → 1 ≤ n → (h : Stands c first text said p)
-    → arrived h.moments ≡ None → Stands c first text said (on_disk n p)
-disk_so c gives fit first text said p n low h apart =
+    → arrived h.moments ≡ None → under_way h.moments ≡ Some (event.Disk n) → Stands c first text said (on_disk n p)
+disk_so c gives fit first text said p n low h apart brought =
     cond_both (is_up p.world n) (on_disk_due n (due p.world n) p) (skipping skip.Down p) (Stands c first text said)
-    (λ e. disk_due c gives fit first text said p n (due p.world n) low h apart) (λ e. noted c first text said p (Skipped skip.Down) h)
+    (λ e. disk_due c gives fit first text said p n (due p.world n) low h apart brought) (λ e. noted c first text said p (Skipped skip.Down) h)
 
 -- A node writes, or refuses to.
 
 written_if : (c : Cluster) → GivesFit c → (first : Scene) (text : List ℕ) (said : List Line) (p : Play) (n d value : ℕ) (x : UpNode) (r : Result ℕ WriteRefusal) → 1 ≤ n
-    → slice_get p.world.nodes (n - 1) ≡ Some (Up x) → may_write_as c n d x.seat ≡ r → (h : Stands c first text said p) → arrived h.moments ≡ None → Stands c first text said (writing_if n d value r p)
-written_if c gives first text said p n d value x (Ok e) low at may h apart =
+    → slice_get p.world.nodes (n - 1) ≡ Some (Up x) → may_write_as c n d x.seat ≡ r → (h : Stands c first text said p) → arrived h.moments ≡ None
+    → under_way h.moments ≡ Some (event.Write n d value) → Stands c first text said (writing_if n d value r p)
+written_if c gives first text said p n d value x (Ok e) low at may h apart brought =
     let s : Scene = seen c first text said p h in
     let node : h.nodes.node n ≡ Up x = h.alike.shows.node n (Up x) low at in
     let k : PrCommand = command.Write value in
@@ -162,21 +168,21 @@ written_if c gives first text said p n d value x (Ok e) low at may h apart =
     done_so c gives first text said p n d k i (Up x) h low at (λ device f. write_keeps n value device f) (λ a v. tt) (λ a b. tt) in
     stands_so c first text said (writing_if n d value (Ok e) p) done.after (happened c s (Writes n d value done.now done.ends))
     (reached_more c first s (Writes n d value done.now done.ends) h.reached
-    (node_number c h.nodes p.world n (Up x) low at h.alike, subst (λ z. OfUp (λ y. is_ok (may_write_as c n d y.seat) ≡ true) z) (sym node) (ap is_ok may), done.time, apart)) done.follows
-written_if c gives first text said p n d value x (Err cause) low at may h apart =
+    (node_number c h.nodes p.world n (Up x) low at h.alike, subst (λ z. OfUp (λ y. is_ok (may_write_as c n d y.seat) ≡ true) z) (sym node) (ap is_ok may), done.time, apart, brought)) done.follows
+written_if c gives first text said p n d value x (Err cause) low at may h apart brought =
     let s : Scene = seen c first text said p h in
     let node : h.nodes.node n ≡ Up x = h.alike.shows.node n (Up x) low at in
     stands_so c first text said (writing_if n d value (Err cause) p) h.nodes (happened c s (Refuses n d value cause))
     (reached_more c first s (Refuses n d value cause) h.reached
-    (node_number c h.nodes p.world n (Up x) low at h.alike, subst (λ z. OfUp (λ y. may_write_as c n d y.seat ≡ Err cause) z) (sym node) may))
+    (node_number c h.nodes p.world n (Up x) low at h.alike, subst (λ z. OfUp (λ y. may_write_as c n d y.seat ≡ Err cause) z) (sym node) may, brought))
     (told_so c text said h.nodes s p (entry.Device (device.Refused n d value cause)) (followed c first text said p h))
 
 pub written_at : (c : Cluster) → GivesFit c → (first : Scene) (text : List ℕ) (said : List Line) (p : Play) (n d value : ℕ) (o : Option Node) → 1 ≤ n → slice_get p.world.nodes (n - 1) ≡ o
-    → (h : Stands c first text said p) → arrived h.moments ≡ None → Stands c first text said (writing_at n d value o p)
-written_at c gives first text said p n d value None low at h apart = noted c first text said p (Skipped skip.Down) h
-written_at c gives first text said p n d value (Some Down) low at h apart = noted c first text said p (Skipped skip.Down) h
-written_at c gives first text said p n d value (Some (Up x)) low at h apart =
-    written_if c gives first text said p n d value x (may_write_as p.world.cluster n d x.seat) low at (ap (λ z. may_write_as z n d x.seat) (sym h.alike.shows.cluster)) h apart
+    → (h : Stands c first text said p) → arrived h.moments ≡ None → under_way h.moments ≡ Some (event.Write n d value) → Stands c first text said (writing_at n d value o p)
+written_at c gives first text said p n d value None low at h apart brought = noted c first text said p (Skipped skip.Down) h
+written_at c gives first text said p n d value (Some Down) low at h apart brought = noted c first text said p (Skipped skip.Down) h
+written_at c gives first text said p n d value (Some (Up x)) low at h apart brought =
+    written_if c gives first text said p n d value x (may_write_as p.world.cluster n d x.seat) low at (ap (λ z. may_write_as z n d x.seat) (sym h.alike.shows.cluster)) h apart brought
 
 -- A fault is armed.
 

@@ -22,6 +22,7 @@ use Rattle.wire.specs.declared.message.Message.{Message}
 use Rattle.wire.specs.Reads.{whole_of}
 use Rattle.history.specs.Letters.{arrived}
 use Rattle.history.specs.Moment.{Moment, Said, Part}
+use Rattle.history.specs.Order.{under_way}
 use Rattle.node_model.specs.declared.cluster.Cluster.{Cluster}
 use Rattle.node_model.specs.declared.input.Input.{Input}
 use Rattle.node_model.specs.declared.input.Input.TheVariants as input
@@ -37,6 +38,7 @@ use Rattle.refinement.specs.Guards.{IsDown, OfUp}
 use Rattle.refinement.specs.Runs.{IsAmong, Nodes, moved}
 use Rattle.refinement.specs.Runs.Move.{Arms, Takes as Takes_in}
 use Rattle.refinement.specs.Steps.{disk_rules}
+use Rattle.run_history.specs.Bringing.{IsBrought, IsDelivery, IsLoss, IsRepeat}
 use Rattle.run_history.specs.Scenes.{Scene, adding, dropped_so, fault_in, passing, telling, with_fault, with_links}
 
 pub data Happening : Type 0 where
@@ -150,18 +152,25 @@ IsSaid moments n (input.Commanded words) = slice_get moments 0 ≡ Some (Said (l
 IsSaid moments n (input.Reported resource good) = slice_get moments 0 ≡ Some (Said (line.Event (event.Probe n resource good)))
 IsSaid moments n _ = Unit {0}
 
+-- the event under way is this one
+abbrev pub IsUnder : Scene → Event → Type 0
+IsUnder s e = under_way s.moments ≡ Some e
+
 abbrev pub MayHappen : Cluster → Scene → Happening → Type 0
 MayHappen c s (Speaks e) = IsPlaced c s e
 MayHappen c s (Takes n now ends i) = IsNode n × IsPlain i × (now < 2 ^ 64) × IsApart s × IsSaid s.moments n i
+    × IsBrought (under_way s.moments) n i
 MayHappen c s (Arrives number x m now ends) =
     (packet_of s.links.packets number ≡ Some x) × (whole_of x.bytes ≡ Some m) × IsUp (s.nodes.node x.to) × IsNode x.to × IsAmong x.from m.body s.nodes.sent × (now < 2 ^ 64)
-MayHappen c s (Strays number x) = (packet_of s.links.packets number ≡ Some x) × (whole_of x.bytes ≡ None) × IsUp (s.nodes.node x.to)
-MayHappen c s (Misses number x) = (packet_of s.links.packets number ≡ Some x) × IsDown (s.nodes.node x.to)
-MayHappen c s (Loses number x) = packet_of s.links.packets number ≡ Some x
-MayHappen c s (Repeats number x) = (packet_of s.links.packets number ≡ Some x) × (nat_lt s.links.next (2 ^ 63) ≡ true)
-MayHappen c s (Commands n d k now ends) = IsNode n × OfUp IsReadied (s.nodes.node n) × (due_at (Some (s.nodes.node n)) ≡ Some (d, k)) × (now < 2 ^ 64) × IsApart s
-MayHappen c s (Writes n d value now ends) = IsNode n × OfUp (λ x. is_ok (may_write_as c n d x.seat) ≡ true) (s.nodes.node n) × (now < 2 ^ 64) × IsApart s
-MayHappen c s (Refuses n d value cause) = IsNode n × OfUp (λ x. may_write_as c n d x.seat ≡ Err cause) (s.nodes.node n)
+    × IsDelivery s.links.packets number (under_way s.moments)
+MayHappen c s (Strays number x) =
+    (packet_of s.links.packets number ≡ Some x) × (whole_of x.bytes ≡ None) × IsUp (s.nodes.node x.to) × IsDelivery s.links.packets number (under_way s.moments)
+MayHappen c s (Misses number x) = (packet_of s.links.packets number ≡ Some x) × IsDown (s.nodes.node x.to) × IsDelivery s.links.packets number (under_way s.moments)
+MayHappen c s (Loses number x) = (packet_of s.links.packets number ≡ Some x) × IsLoss s.links.packets number (under_way s.moments)
+MayHappen c s (Repeats number x) = (packet_of s.links.packets number ≡ Some x) × (nat_lt s.links.next (2 ^ 63) ≡ true) × IsRepeat s.links.packets number (under_way s.moments)
+MayHappen c s (Commands n d k now ends) = IsNode n × OfUp IsReadied (s.nodes.node n) × (due_at (Some (s.nodes.node n)) ≡ Some (d, k)) × (now < 2 ^ 64) × IsApart s × IsUnder s (event.Disk n)
+MayHappen c s (Writes n d value now ends) = IsNode n × OfUp (λ x. is_ok (may_write_as c n d x.seat) ≡ true) (s.nodes.node n) × (now < 2 ^ 64) × IsApart s × IsUnder s (event.Write n d value)
+MayHappen c s (Refuses n d value cause) = IsNode n × OfUp (λ x. may_write_as c n d x.seat ≡ Err cause) (s.nodes.node n) × IsUnder s (event.Write n d value)
 MayHappen c s _ = Unit {0}
 
 abbrev pub MayAllHappen : Cluster → Scene → List Happening → Type 0

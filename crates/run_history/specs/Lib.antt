@@ -1,5 +1,6 @@
 -- what a reader must believe
 pub mod Scenes
+pub mod Bringing
 pub mod Happenings
 pub mod Telling
 pub mod CommandLines

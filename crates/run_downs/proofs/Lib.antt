@@ -1,0 +1,5 @@
+pub mod Outputs
+pub mod Lines
+pub mod Courses
+pub mod Steps
+pub mod Runs

@@ -1,0 +1,5 @@
+use Rattle.run_downs.proofs.Runs as proof
+use Rattle.run_downs.proofs.crashes_of_each_run.Goals as goal
+
+pub returns : goal.returns
+returns c = proof.crashes_of_each_run

@@ -1,0 +1,5 @@
+use Rattle.run_downs.proofs.Runs as proof
+use Rattle.run_downs.proofs.saves_of_each_run.Goals as goal
+
+pub returns : goal.returns
+returns c = proof.saves_of_each_run

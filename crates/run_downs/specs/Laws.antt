@@ -1,0 +1,84 @@
+-- What is proved of each run of the world, as things that happen: why nodes come up and go down, and where they stop.
+use Rattle.std.specs.Prelude.{ℕ, ◌≡◌, ◌==◌, Bool, true, false, List, Option, None, Some}
+use Rattle.std.specs.List.{list_any}
+use Rattle.cl_base.specs.declared.panic.Panic.TheVariants as panic
+use Rattle.schedule_text.specs.declared.event.Event.{Event}
+use Rattle.schedule_text.specs.declared.event.Event.TheVariants as event
+use Rattle.status_report.specs.declared.node_entry.DownCause.TheVariants as cause
+use Rattle.history.specs.Downs.{StopsWhereDue, is_fenced_write, stop_due, stops_here, stops_next}
+use Rattle.history.specs.Moment.{Moment}
+use Rattle.history.specs.Order.{Always, so_far, under_way}
+use Rattle.history.specs.Trace.{delivered, down, saved, stopped, up}
+use Rattle.run_history.specs.ContactRuns.{OfEachRun}
+
+-- a node comes up in the event of its boot
+abbrev pub BootIsSaid : List Moment → Moment → Type 0
+BootIsSaid before (up n) = under_way before ≡ Some (event.Boot n)
+BootIsSaid before _ = Unit {0}
+
+-- it crashes in the event of its crash
+abbrev pub CrashIsSaid : List Moment → Moment → Type 0
+CrashIsSaid before (down n cause.Crash) = under_way before ≡ Some (event.Crash n)
+CrashIsSaid before _ = Unit {0}
+
+-- it is fenced where the device has refused a write of its own in this event
+abbrev pub FencedByWrite : List Moment → Moment → Type 0
+FencedByWrite before (down n (cause.Panic (panic.Fenced d))) = list_any (is_fenced_write n d) (so_far before) ≡ true
+FencedByWrite before _ = Unit {0}
+
+-- it stops where an armed stop falls in its save or its mounting, and saves where none does
+abbrev pub StopsAtStop : List Moment → Moment → Type 0
+StopsAtStop before (stopped n) = stops_here n before ≡ true
+StopsAtStop before (saved n) = stops_next n before ≡ false
+StopsAtStop before _ = Unit {0}
+
+-- the moment delivers a packet to node n
+abbrev pub comes_to : ℕ → Moment → Bool
+comes_to n (delivered p from to) = to == n
+comes_to n _ = false
+
+-- the event is one of node n's: its boot, its tick, its command at a device, a command or a probe that is given to it, or the delivery of a packet to it
+abbrev pub is_of : ℕ → Option Event → List Moment → Bool
+is_of n (Some (event.Boot m)) here = m == n
+is_of n (Some (event.Tick m)) here = m == n
+is_of n (Some (event.Disk m)) here = m == n
+is_of n (Some (event.Command m words)) here = m == n
+is_of n (Some (event.Probe m resource good)) here = m == n
+is_of n (Some (event.Deliver p)) here = list_any (comes_to n) here
+is_of n (Some (event.Next from to)) here = list_any (comes_to n) here
+is_of n _ here = false
+
+abbrev pub IsInOwnEvent : ℕ → List Moment → Type 0
+IsInOwnEvent n before = is_of n (under_way before) (so_far before) ≡ true
+
+-- it saves, and stops, in an event of its own
+abbrev pub SavesInEvent : List Moment → Moment → Type 0
+SavesInEvent before (stopped n) = IsInOwnEvent n before
+SavesInEvent before (saved n) = IsInOwnEvent n before
+SavesInEvent before _ = Unit {0}
+
+-- a stop that is due comes next
+abbrev pub StopComes : List Moment → Moment → Type 0
+StopComes before x = StopsWhereDue (stop_due before) x
+
+abbrev pub BootsOfEachRun : Type 0
+BootsOfEachRun = OfEachRun (Always BootIsSaid)
+
+abbrev pub CrashesOfEachRun : Type 0
+CrashesOfEachRun = OfEachRun (Always CrashIsSaid)
+
+abbrev pub FencesOfEachRun : Type 0
+FencesOfEachRun = OfEachRun (Always FencedByWrite)
+
+abbrev pub StopsOfEachRun : Type 0
+StopsOfEachRun = OfEachRun (Always StopsAtStop)
+
+abbrev pub SavesOfEachRun : Type 0
+SavesOfEachRun = OfEachRun (Always SavesInEvent)
+
+abbrev pub StopsComeInEachRun : Type 0
+StopsComeInEachRun = OfEachRun (Always StopComes)
+
+-- at the end of a run no stop is to come
+abbrev pub NoStopIsDue : Type 0
+NoStopIsDue = OfEachRun (λ moments. stop_due moments ≡ None)
