@@ -46,9 +46,9 @@ all_answered =
 
 -- ---- what may not be
 
--- an update is proposed while the request of the one before it is not answered
-abbrev pub proposed_unanswered : List Moment
-proposed_unanswered = propose 65 3 another ∷ second_acknowledged
+-- one that two have asked for is proposed three times
+abbrev pub proposed_too_often : List Moment
+proposed_too_often = propose 65 4 another ∷ all_answered
 
 -- one that is asked for once is proposed twice
 abbrev pub proposed_once_more : List Moment
