@@ -402,7 +402,7 @@ module _ (c : Cluster) (me : ℕ) where
   waiting_so x number text =
       either_held number x (is_full x.requests) _ _ (replying_so x number answer.QueueFull) (
         Free,
-        record { move = Joins (record { number = number; text = text; told = true; second = x.second }); waiting = refl; asked = refl; may = (refl, refl) },
+        record { move = Joins (record { number = number; text = text; told = true; second = x.second }); waiting = refl; asked = refl; may = (refl, refl, refl) },
         loosely c me Free (waiting_with x number text) _ (asking_if_so (is_idle x.requests.waiting) (waiting_with x number text)),
       )
 

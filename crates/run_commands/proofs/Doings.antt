@@ -1,5 +1,5 @@
 -- What each small step of a node leaves of the commands that wait.
-use Rattle.std.specs.Prelude.{ℕ, ◌≡◌, ◌≢◌, ◌⊎◌, ◌++◌, List, [], ◌∷◌, Option, None, Some, if◌then◌else◌, Bool, true, false}
+use Rattle.std.specs.Prelude.{ℕ, ◌<◌, ◌≡◌, ◌≢◌, ◌⊎◌, ◌++◌, List, [], ◌∷◌, Option, None, Some, if◌then◌else◌, Bool, true, false}
 use Rattle.std.proofs.Common.{refl, sym, subst, ◌∙◌, inl, inr}
 use Rattle.cl_base.specs.Sets.{has}
 use Rattle.cmm_attempt.proofs.Basics.{if_either}
@@ -29,9 +29,9 @@ use Rattle.run_history.specs.Scenes.{Scene, passing, telling}
 use Rattle.run_commands.specs.Guards.{ActSo, AnswersOne, AreQuiet, ChangeSo, Hand, IsQuietOutput}
 use Rattle.run_commands.specs.Guards.Hand.{Free}
 use Rattle.run_commands.specs.Answers.{AnswersWait}
-use Rattle.run_commands.proofs.Owed.{Answered, AreDue, AreOnce, Owed, due_others, owed_answered, owed_moved, owed_none, owed_stays, due_stays}
+use Rattle.run_commands.proofs.Owed.{Answered, AreDue, AreLow, AreOnce, Owed, due_others, due_stays, fresh_still, owed_answered, owed_moved, owed_none, owed_stays}
 use Rattle.run_commands.proofs.Quiet.{GoesOn, ended_quiet, first_quiet, last_quiet, spread_quiet, superseded_quiet, ticked_quiet, write_quiet}
-use Rattle.run_commands.proofs.Waiting.{AreApart, IsApartOutput, Leaves, passing_quiet, quiets_apart}
+use Rattle.run_commands.proofs.Waiting.{AreApart, IsApartOutput, Leaves, answered_since, passing_quiet, quiets_apart}
 
 -- after these outputs of node n, which is so then
 pub record Left (n : ℕ) (g : Hand) (before : Queue) (after : Queue) (os : List Output) (s : Scene) : Type 0 where
@@ -67,33 +67,43 @@ same_left n h g before after os s quiet waiting asked is w =
 
 -- ---- what waits is told as unknown
 
+-- no number above this one is answered
+abbrev Fresh : ℕ → ℕ → List Moment → Type 0
+Fresh n top ms = (k : ℕ) → top < k → answered_since n k ms ≡ false
+
 -- the answers, and what is apart from them
-record Ended (n : ℕ) (os : List Output) (s : Scene) : Type 0 where
+record Ended (n top : ℕ) (os : List Output) (s : Scene) : Type 0 where
   said : AnswersWait (passing n os s).moments
   apart : (k : ℕ) → k ≢ n → AreApart k os
+  fresh : Fresh n top (passing n os s).moments
 
-ended_more : (n : ℕ) (r : Request) (rs : List Request) (s : Scene) → AreOnce (r ∷ rs) → AreDue n s.moments (r ∷ rs) → AnswersWait s.moments
-    → ((t : Scene) → AreDue n t.moments rs → AnswersWait t.moments → Ended n (unknown_lines n rs) t) → (b : Bool) → r.told ≡ b
-    → Ended n ((if b then Tells (answered_line n r.number Unknown) ∷ [] else []) ++ unknown_lines n rs) s
-ended_more n r rs s once due said next true is =
+ended_more : (n top : ℕ) (r : Request) (rs : List Request) (s : Scene) → AreOnce (r ∷ rs) → AreLow top (r ∷ rs) → AreDue n s.moments (r ∷ rs) → Fresh n top s.moments → AnswersWait s.moments
+    → ((t : Scene) → AreDue n t.moments rs → Fresh n top t.moments → AnswersWait t.moments → Ended n top (unknown_lines n rs) t) → (b : Bool) → r.told ≡ b
+    → Ended n top ((if b then Tells (answered_line n r.number Unknown) ∷ [] else []) ++ unknown_lines n rs) s
+ended_more n top r rs s once low due fresh said next true is =
     let t : Scene = telling (answered_line n r.number Unknown) s in
-    let e : Ended n (unknown_lines n rs) t = next t (due_others n r.number Unknown s.moments rs once.0 due.1) (due.0 is, said) in
-    record { said = e.said; apart = λ k ne. ((λ same. ne (sym same)), e.apart k ne) }
-ended_more n r rs s once due said next false is = next s due.1 said
+    let e : Ended n top (unknown_lines n rs) t =
+    next t (due_others n r.number Unknown s.moments rs once.0 due.1) (fresh_still n r.number Unknown s.moments top low.0 fresh) ((due.0 is).0, said) in
+    record { said = e.said; apart = λ k ne. ((λ same. ne (sym same)), e.apart k ne); fresh = e.fresh }
+ended_more n top r rs s once low due fresh said next false is = next s due.1 fresh said
 
-unknown_said : (n : ℕ) (rs : List Request) (s : Scene) → AreOnce rs → AreDue n s.moments rs → AnswersWait s.moments → Ended n (unknown_lines n rs) s
-unknown_said n [] s once due said = record { said = said; apart = λ k ne. tt }
-unknown_said n (r ∷ rs) s once due said = ended_more n r rs s once due said (λ t d a. unknown_said n rs t once.1 d a) r.told refl
+unknown_said : (n top : ℕ) (rs : List Request) (s : Scene) → AreOnce rs → AreLow top rs → AreDue n s.moments rs → Fresh n top s.moments → AnswersWait s.moments
+    → Ended n top (unknown_lines n rs) s
+unknown_said n top [] s once low due fresh said = record { said = said; apart = λ k ne. tt; fresh = fresh }
+unknown_said n top (r ∷ rs) s once low due fresh said = ended_more n top r rs s once low due fresh said (λ t d f a. unknown_said n top rs t once.1 low.1 d f a) r.told refl
 
 -- behind quiet lines
 ended_left : (n : ℕ) (before after : Queue) (os : List Output) (s : Scene) → AreQuiet os → after.waiting ≡ [] → after.asked ≡ before.asked → Was n Free before s
     → Left n Free before after (os ++ unknown_lines n before.waiting) s
 ended_left n before after os s quiet none asked w =
     let l : Leaves s.moments (passing n os s).moments = passing_quiet n os s quiet in
-    let e : Ended n (unknown_lines n before.waiting) (passing n os s) =
-    unknown_said n before.waiting (passing n os s) w.owed.once (due_stays n s.moments (passing n os s).moments before.waiting (l.wait n) w.owed.due) (l.said w.said) in
+    let e : Ended n before.asked (unknown_lines n before.waiting) (passing n os s) =
+    unknown_said n before.asked before.waiting (passing n os s) w.owed.once w.owed.low (due_stays n s.moments (passing n os s).moments before.waiting (l.wait n) w.owed.due)
+    (λ k above. (l.wait n).unanswered k (w.owed.fresh k above)) (l.said w.said) in
+    let fresh : Fresh n before.asked (passing n (os ++ unknown_lines n before.waiting) s).moments =
+    subst (λ (z : Scene). Fresh n before.asked z.moments) (sym (passing_append n os (unknown_lines n before.waiting) s)) e.fresh in
     record {
-      owed = owed_none n (passing n (os ++ unknown_lines n before.waiting) s).moments after.asked after.waiting none;
+      owed = owed_none n (passing n (os ++ unknown_lines n before.waiting) s).moments after.asked after.waiting none (subst (λ k. Fresh n k (passing n (os ++ unknown_lines n before.waiting) s).moments) (sym asked) fresh);
       last_so = asked;
       said = subst (λ (z : Scene). AnswersWait z.moments) (sym (passing_append n os (unknown_lines n before.waiting) s)) e.said;
       apart = λ k ne. both (IsApartOutput k) os (unknown_lines n before.waiting) (quiets_apart k os quiet) (e.apart k ne);

@@ -47,7 +47,7 @@ use Rattle.run_commands.specs.Guards.Hand.{Free}
 use Rattle.run_commands.specs.Answers.{AnswersWait}
 use Rattle.run_commands.proofs.Owed.{Owed, owed_stays}
 use Rattle.run_commands.proofs.Steps.{Stepped, down_step, up_step}
-use Rattle.run_commands.proofs.Waiting.{Leaves, WaitOn, packet_leaves, passing_waits, quiet_leaves}
+use Rattle.run_commands.proofs.Waiting.{Leaves, WaitOn, packet_leaves, part_waits, passing_waits, quiet_leaves, said_waits}
 use Rattle.run_commands.proofs.Walk.{NodeOwes}
 
 -- the commands of a node that wait are those in its queue, with no more numbers than lines
@@ -170,8 +170,8 @@ dropped_waits (Some drop) s h = moment_waits s.nodes (Told (entry.Packet (packet
 
 happening_waits : (c : Cluster) (s : Scene) (x : Happening) → MayHappen c s x → FewLines s.moments → WaitsIn s → WaitsIn (happened c s x)
 happening_waits c s (Speaks e) may few h =
-    armed_waits c e (adding (Said (line.Event e)) s) (moment_waits s.nodes (Said (line.Event e)) s.moments (record { wait = λ k q w. w; said = λ a. (tt, a) }) h)
-happening_waits c s (Begins e) may few h = moment_waits s.nodes (Part e) s.moments (record { wait = λ k q w. w; said = λ a. (tt, a) }) h
+    armed_waits c e (adding (Said (line.Event e)) s) (moment_waits s.nodes (Said (line.Event e)) s.moments (record { wait = λ k. said_waits k (line.Event e) s.moments; said = λ a. (tt, a) }) h)
+happening_waits c s (Begins e) may few h = moment_waits s.nodes (Part e) s.moments (record { wait = λ k. part_waits k e s.moments; said = λ a. (tt, a) }) h
 happening_waits c s (Notes e) may few h = moment_waits s.nodes (Told (entry.Schedule e)) s.moments (quiet_leaves (entry.Schedule e) s.moments tt) h
 happening_waits c s (Takes n now ends i) may few h = taking_waits c s n now ends i may.4 few h
 happening_waits c s (Arrives number x m now ends) may few h =

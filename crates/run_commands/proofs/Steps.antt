@@ -1,11 +1,11 @@
 -- A whole step of a node, whatever comes to it, answers commands that wait.
-use Rattle.std.specs.Prelude.{ℕ, ◌+◌, ◌-◌, ◌^◌, ◌≡◌, ◌≤◌, ◌<◌, ◌&&◌, not, Bool, true, false, List, [], ◌∷◌, length, Option, None, Some, slice_get, if◌then◌else◌}
+use Rattle.std.specs.Prelude.{ℕ, ◌+◌, ◌-◌, ◌^◌, ◌≡◌, ◌≢◌, ◌≤◌, ◌<◌, ◌==◌, ◌&&◌, not, Bool, true, false, List, [], ◌∷◌, length, Option, None, Some, IfSome, slice_get, if◌then◌else◌}
 use Rattle.std.proofs.Common.{refl, sym, arith}
 use Rattle.admin_words.specs.Commands.{command_of}
 use Rattle.cl_base.specs.declared.command.Ask.{Ask}
 use Rattle.cl_base.specs.declared.method.Outcome as method
 use Rattle.cmm_member.specs.Records.{NodeRecord}
-use Rattle.history.specs.Moment.{Said, lines_of}
+use Rattle.history.specs.Moment.{Moment, Said, Told, lines_of}
 use Rattle.node_model.specs.Clusters.{first_valid_of}
 use Rattle.node_model.specs.Configurations.{own_config}
 use Rattle.node_model.specs.Groups.{asked_by, monitor_asked, report_told, reported, result_of}
@@ -28,6 +28,9 @@ use Rattle.refinement.specs.Cuts.{course_at, down_doings}
 use Rattle.refinement.specs.Doings.{Doing, after_all, given_all, gone_line, of_node, site}
 use Rattle.refinement.specs.Doings.Act.{Minds}
 use Rattle.request_queue.specs.Queue.{is_full, next_number}
+use Rattle.request_queue.specs.declared.request.Request.{Request}
+use Rattle.restart_policy.specs.declared.policy.ProbeAction.{ProbeAction}
+use Rattle.restart_policy.specs.declared.policy.ProbeAction.TheVariants as action
 use Rattle.rgm_member.specs.Probes.{probed}
 use Rattle.update_words.specs.Words.{ask_words_of}
 use Rattle.rgm_member.specs.declared.probed.Probed.{Probed}
@@ -53,8 +56,8 @@ use Rattle.run_commands.specs.Answers.{AnswersWait}
 use Rattle.run_commands.proofs.Asides.{quiet_gives}
 use Rattle.run_commands.proofs.Courses.{IsNoCommand, asking_if_so, course_at_so, worded_so}
 use Rattle.run_commands.proofs.Doings.{Was}
-use Rattle.run_commands.proofs.Owed.{owed_added, owed_asked, owed_none, owed_stays}
-use Rattle.run_commands.proofs.Waiting.{Leaves, quiet_leaves}
+use Rattle.run_commands.proofs.Owed.{is_untold, owed_added, owed_asked, owed_none, owed_stays}
+use Rattle.run_commands.proofs.Waiting.{Leaves, boot_unanswered, monitors_of, probed_more, quiet_leaves, tally}
 use Rattle.run_commands.proofs.Walk.{Ends, then_ends, walk}
 
 -- what a step leaves: the numbers of the node are within the lines used
@@ -121,11 +124,12 @@ RisesBy c n x disk ds s = Rises n x.requests.asked (after_all c n (site (Up x) d
 nothing_asked : (c : Cluster) (n : ℕ) (replies : List Reply) (x : UpNode) (disk : NodeRecord) (s : Scene) → Was n Free x.requests s → RisesBy c n x disk (under replies Stops) s
 nothing_asked c n replies x disk s w = record { last = x.requests.asked; ends = walk c n false replies Stops Free x.requests.asked x disk s tt refl w; low = low_same x.requests.asked }
 
-asking_when : (c : Cluster) (n : ℕ) (replies : List Reply) (x : UpNode) (disk : NodeRecord) (ask : Ask) (s : Scene) (b : Bool) → x.requests.asked < 2 ^ 64 - 1 → Was n Free x.requests s
+asking_when : (c : Cluster) (n : ℕ) (replies : List Reply) (x : UpNode) (disk : NodeRecord) (ask : Ask) (s : Scene) (b : Bool) → x.requests.asked < 2 ^ 64 - 1
+    → 1 + tally is_untold x.requests.waiting ≤ monitors_of n s.moments → Was n Free x.requests s
     → (let k : Course = if b then Acts (Minds (monitor_asked x ask).requests x.presidency) (cuts.asking_if_course (is_idle x.requests.waiting) c n (monitor_asked x ask)) else Stops in
     RisesBy c n x disk (under replies k) s)
-asking_when c n replies x disk ask s false room w = nothing_asked c n replies x disk s w
-asking_when c n replies x disk ask s true room w =
+asking_when c n replies x disk ask s false room more w = nothing_asked c n replies x disk s w
+asking_when c n replies x disk ask s true room more w =
     let y : UpNode = monitor_asked x ask in
     let q : ℕ = next_number x.requests in
     let is : q ≡ x.requests.asked + 1 = next_is x.requests.asked x refl room in
@@ -133,14 +137,28 @@ asking_when c n replies x disk ask s true room w =
     record {
       last = q;
       ends = walk c n false replies rest Free q y disk s (asking_if_so c n (is_idle x.requests.waiting) y) refl
-          (record { owed = owed_added n s.moments x.requests.asked x.requests.waiting (record { number = q; text = ask_words_of ask; told = false; second = x.second }) is refl w.owed; said = w.said });
+          (record { owed = owed_added n s.moments x.requests.asked x.requests.waiting (record { number = q; text = ask_words_of ask; told = false; second = x.second }) is refl more w.owed; said = w.said });
       low = low_next x.requests.asked q is;
     }
 
-asking_this : (c : Cluster) (n : ℕ) (replies : List Reply) (x : UpNode) (disk : NodeRecord) (o : Option Ask) (s : Scene) → x.requests.asked < 2 ^ 64 - 1 → Was n Free x.requests s
+asking_this : (c : Cluster) (n : ℕ) (replies : List Reply) (x : UpNode) (disk : NodeRecord) (o : Option Ask) (s : Scene) → x.requests.asked < 2 ^ 64 - 1
+    → IfSome o (λ ask. 1 + tally is_untold x.requests.waiting ≤ monitors_of n s.moments) → Was n Free x.requests s
     → RisesBy c n x disk (under replies (cuts.asking_this_course c n x o)) s
-asking_this c n replies x disk None s room w = nothing_asked c n replies x disk s w
-asking_this c n replies x disk (Some ask) s room w = asking_when c n replies x disk ask s (is_member x.seat && not (is_full x.requests)) room w
+asking_this c n replies x disk None s room more w = nothing_asked c n replies x disk s w
+asking_this c n replies x disk (Some ask) s room more w = asking_when c n replies x disk ask s (is_member x.seat && not (is_full x.requests)) room more w
+
+same_is : (k : ℕ) → (k == k) ≡ true
+same_is k = grind arith
+
+one_more : (a b c : ℕ) → a ≤ b → c ≡ 1 + b → 1 + a ≤ c
+one_more a b c h is = grind arith
+
+-- the line of a monitor that asks makes room for its request
+asked_room : (n : ℕ) (r : List ℕ) (a : ProbeAction) (ms : List Moment) (waiting : List Request) → tally is_untold waiting ≤ monitors_of n ms
+    → IfSome (asked_by a r) (λ ask. 1 + tally is_untold waiting ≤ monitors_of n (Told (entry.Call (call.Probed n r (result_of a))) ∷ ms))
+asked_room n r action.Restart ms waiting h = one_more (tally is_untold waiting) (monitors_of n ms) _ h (probed_more n r result.Restart ms (same_is n))
+asked_room n r action.Move ms waiting h = one_more (tally is_untold waiting) (monitors_of n ms) _ h (probed_more n r result.Move ms (same_is n))
+asked_room n r action.Logged ms waiting h = tt
 
 report_step : (c : Cluster) (n : ℕ) (replies : List Reply) (x : UpNode) (disk : NodeRecord) (r : List ℕ) (p : Probed) (said_line : Line) (s : Scene) → slice_get s.moments 0 ≡ Some (Said said_line)
     → Was n Free x.requests s → Counted x.requests.asked s.moments → SteppedBy c n x disk (under replies (cuts.reporting_course c n x r p)) s
@@ -156,7 +174,7 @@ report_step c n replies x disk r (probe.Failed a) said_line s said w k =
     let ds : List Doing = under replies (cuts.asking_this_course c n y (asked_by a r)) in
     let l : Leaves s.moments t.moments = quiet_leaves told s.moments tt in
     let e : RisesBy c n y disk ds t =
-    asking_this c n replies y disk (asked_by a r) t (room_left x.requests.asked s.moments k)
+    asking_this c n replies y disk (asked_by a r) t (room_left x.requests.asked s.moments k) (asked_room n r a s.moments x.requests.waiting w.owed.monitors)
     (record { owed = owed_stays n s.moments t.moments Free x.requests.asked x.requests.waiting (l.wait n) w.owed; said = l.said w.said }) in
     record {
       last = e.last;
@@ -193,7 +211,7 @@ boot_ends n why s said = record {
 boots : (c : Cluster) (n : ℕ) (disk : NodeRecord) (s : Scene) → AnswersWait s.moments → Stepped n (Up (up_with n (first_valid_of c n) disk)) (of_node n note.Up ∷ []) s
 boots c n disk s said = record {
   last = 0;
-  ends = record { own = (refl, owed_none n _ 0 [] refl); said = (tt, said); apart = λ k ne. ((λ same. ne (sym same)), tt) };
+  ends = record { own = (refl, owed_none n _ 0 [] refl (λ k above. boot_unanswered n k s.moments)); said = (tt, said); apart = λ k ne. ((λ same. ne (sym same)), tt) };
   low = none_used (used_lines (passing n (of_node n note.Up ∷ []) s).moments);
 }
 

@@ -1,11 +1,15 @@
 -- How a moment changes whether a command waits.
-use Rattle.std.specs.Prelude.{ℕ, ◌≡◌, ◌≢◌, ◌==◌, ◌&&◌, ◌||◌, not, Bool, true, false, List, [], ◌∷◌, if◌then◌else◌}
+use Rattle.std.specs.Prelude.{ℕ, ◌+◌, ◌≡◌, ◌≢◌, ◌≤◌, ◌==◌, ◌&&◌, ◌||◌, not, Bool, true, false, List, [], ◌∷◌, if◌then◌else◌}
 use Rattle.std.specs.List.{AllByRecursion, list_any}
-use Rattle.std.proofs.Common.{refl, sym, arith}
+use Rattle.std.proofs.Common.{refl, sym, ap, subst, ◌∙◌, arith}
 use Rattle.cl_base.specs.declared.packet.DropCause.{DropCause}
 use Rattle.cmm_attempt.proofs.Basics.{if_either}
 use Rattle.interconnect.specs.Links as links
 use Rattle.interconnect.specs.Links.{sending}
+use Rattle.schedule_text.specs.declared.event.Event.{Event}
+use Rattle.schedule_text.specs.declared.line.Line.{Line}
+use Rattle.status_report.specs.declared.call_entry.CallEntry.TheVariants as call
+use Rattle.status_report.specs.declared.call_entry.ProbeResult.{ProbeResult}
 use Rattle.status_report.specs.declared.command_entry.Answer.{Answer}
 use Rattle.status_report.specs.declared.command_entry.CommandEntry.TheVariants as command
 use Rattle.status_report.specs.declared.entry.Entry.{Entry}
@@ -16,8 +20,8 @@ use Rattle.status_report.specs.declared.packet_entry.PacketEntry.TheVariants as 
 use Rattle.std.specs.Prelude.{Option, None, Some}
 use Rattle.wire.specs.Spelling.{spelling}
 use Rattle.wire.specs.declared.message.Message.{Message}
-use Rattle.history.specs.Commands.{is_answered_to, waits}
-use Rattle.history.specs.Moment.{Moment, Told}
+use Rattle.history.specs.Commands.{is_answered_to, is_monitors, waits}
+use Rattle.history.specs.Moment.{Moment, Part, Said, Told}
 use Rattle.history.specs.Order.{since}
 use Rattle.history.specs.Requests.{is_asking}
 use Rattle.history.specs.Seizing.{is_boot}
@@ -25,29 +29,78 @@ use Rattle.history.specs.Trace.{answered, asked, up}
 use Rattle.node_model.specs.declared.output.Output.{Output}
 use Rattle.node_model.specs.declared.output.Output.TheVariants.{Sends, Tells}
 use Rattle.world_model.specs.Sends.{is_sent, name_of}
+use Rattle.run_history.proofs.Idle.{if_false, if_true}
 use Rattle.run_history.specs.Scenes.{Scene, dropped_so, passing, posting, sent_as, telling, with_links}
 use Rattle.run_commands.specs.Guards.{AreQuiet, IsQuiet}
 use Rattle.run_commands.specs.Answers.{AnswerWaits, AnswersWait}
 
--- each command of node k that waits waits still
-abbrev pub WaitOn : ℕ → List Moment → List Moment → Type 0
-WaitOn k before after = (q : ℕ) → waits k q before ≡ true → waits k q after ≡ true
+-- ---- counts
+
+-- how many pass the test
+abbrev pub tally : {X : Type 0} → (X → Bool) → List X → ℕ
+tally p [] = 0
+tally p (x ∷ xs) = if p x then 1 + tally p xs else tally p xs
+
+le_more : (k : ℕ) → k ≤ 1 + k
+le_more k = omega arith
+
+le_same : (k : ℕ) → k ≤ k
+le_same k = omega arith
+
+pub le_then : (a b c : ℕ) → a ≤ b → b ≤ c → a ≤ c
+le_then a b c h k = omega (arith, h, k)
+
+pub tally_more : {X : Type 0} (p : X → Bool) (x : X) (xs : List X) → tally p xs ≤ tally p (x ∷ xs)
+tally_more {X} p x xs = by_test (p x)
+  where
+    by_test : (b : Bool) → tally p xs ≤ (if b then 1 + tally p xs else tally p xs)
+    by_test true = le_more (tally p xs)
+    by_test false = le_same (tally p xs)
+
+-- ---- what waits
+
+-- whether the command of this number is answered since the node went up
+abbrev pub answered_since : ℕ → ℕ → List Moment → Bool
+answered_since n q ms = list_any (is_answered_to n q) (since (is_boot n) ms)
+
+-- it waits, and is not answered since the node went up
+abbrev pub Open : ℕ → ℕ → List Moment → Type 0
+Open n q ms = (waits n q ms ≡ true) × (answered_since n q ms ≡ false)
+
+-- how often monitors asked since then
+abbrev pub monitors_of : ℕ → List Moment → ℕ
+monitors_of n ms = tally (is_monitors n) (since (is_boot n) ms)
+
+-- each command of node k that waits waits still, none is answered, and no monitor is forgotten
+pub record WaitOn (k : ℕ) (before after : List Moment) : Type 0 where
+  pub open_still : (q : ℕ) → Open k q before → Open k q after
+  pub unanswered : (q : ℕ) → answered_since k q before ≡ false → answered_since k q after ≡ false
+  pub monitors : monitors_of k before ≤ monitors_of k after
 
 pub wait_same : (k : ℕ) (ms : List Moment) → WaitOn k ms ms
-wait_same k ms q h = h
+wait_same k ms = record { open_still = λ q h. h; unanswered = λ q h. h; monitors = le_same (monitors_of k ms) }
 
 pub wait_then : (k : ℕ) (a b c : List Moment) → WaitOn k a b → WaitOn k b c → WaitOn k a c
-wait_then k a b c f g q h = g q (f q h)
+wait_then k a b c f g = record {
+  open_still = λ q h. g.open_still q (f.open_still q h);
+  unanswered = λ q h. g.unanswered q (f.unanswered q h);
+  monitors = le_then (monitors_of k a) (monitors_of k b) (monitors_of k c) f.monitors g.monitors;
+}
+
+-- a moment more, where the node does not go up
+more : (k : ℕ) (m : Moment) (ms : List Moment) → monitors_of k ms ≤ tally (is_monitors k) (m ∷ since (is_boot k) ms)
+more k m ms = tally_more (is_monitors k) m (since (is_boot k) ms)
 
 -- ---- a command is asked
 
--- behind its own line it waits; one of another number waits on
+-- one of another number waits on
 pub asked_waits : (k m q : ℕ) (ms : List Moment) → WaitOn k ms (asked m q ∷ ms)
-asked_waits k m q ms r h = by_test (is_asking k r (asked m q))
+asked_waits k m q ms = record { open_still = λ r h. (by_test r h.0 (is_asking k r (asked m q)), h.1); unanswered = λ r h. h; monitors = more k (asked m q) ms }
   where
-    by_test : (b : Bool) → ((b || list_any (is_asking k r) (since (is_boot k) ms)) && not (list_any (is_answered_to k r) (if b then [] else asked m q ∷ since (is_asking k r) ms))) ≡ true
-    by_test true = refl
-    by_test false = h
+    by_test : (r : ℕ) → waits k r ms ≡ true → (b : Bool)
+        → ((b || list_any (is_asking k r) (since (is_boot k) ms)) && not (list_any (is_answered_to k r) (if b then [] else asked m q ∷ since (is_asking k r) ms))) ≡ true
+    by_test r h true = refl
+    by_test r h false = h
 
 is_here : (k : ℕ) → (k == k) ≡ true
 is_here k = grind arith
@@ -57,8 +110,9 @@ and_here true true g h = refl
 and_here true false g h = cc
 and_here false b g h = cc
 
-pub asked_here : (k q : ℕ) (ms : List Moment) → waits k q (asked k q ∷ ms) ≡ true
-asked_here k q ms = by_test (is_asking k q (asked k q)) (and_here (k == k) (q == q) (is_here k) (is_here q))
+-- behind its own line it waits
+pub asked_here : (k q : ℕ) (ms : List Moment) → answered_since k q ms ≡ false → Open k q (asked k q ∷ ms)
+asked_here k q ms fresh = (by_test (is_asking k q (asked k q)) (and_here (k == k) (q == q) (is_here k) (is_here q)), fresh)
   where
     by_test : (b : Bool) → b ≡ true
         → ((b || list_any (is_asking k q) (since (is_boot k) ms)) && not (list_any (is_answered_to k q) (if b then [] else asked k q ∷ since (is_asking k q) ms))) ≡ true
@@ -78,41 +132,81 @@ and_second : (a b : Bool) → b ≡ false → (a && b) ≡ false
 and_second true b h = h
 and_second false b h = refl
 
-still : (k m q r : ℕ) (reply : Answer) (ms : List Moment) → ((m == k) && (q == r)) ≡ false → waits k r ms ≡ true → waits k r (answered m q reply ∷ ms) ≡ true
-still k m q r reply ms other h = by_test ((m == k) && (q == r)) other
+or_none : (a b : Bool) → a ≡ false → (a || b) ≡ b
+or_none true b h = cc
+or_none false b h = refl
+
+still : (k m q r : ℕ) (reply : Answer) (ms : List Moment) → ((m == k) && (q == r)) ≡ false → Open k r ms → Open k r (answered m q reply ∷ ms)
+still k m q r reply ms other h = (by_test ((m == k) && (q == r)) other, or_none ((m == k) && (q == r)) (answered_since k r ms) other ∙ h.1)
   where
     by_test : (b : Bool) → b ≡ false → (list_any (is_asking k r) (since (is_boot k) ms) && not (b || list_any (is_answered_to k r) (since (is_asking k r) ms))) ≡ true
     by_test true is = cc
-    by_test false is = h
+    by_test false is = h.0
 
 -- one of another number waits on
-pub other_waits : (k q r : ℕ) (reply : Answer) (ms : List Moment) → r ≢ q → waits k r ms ≡ true → waits k r (answered k q reply ∷ ms) ≡ true
+pub other_waits : (k q r : ℕ) (reply : Answer) (ms : List Moment) → r ≢ q → Open k r ms → Open k r (answered k q reply ∷ ms)
 other_waits k q r reply ms ne h = still k k q r reply ms (and_second (k == k) (q == r) (is_other q r (λ same. ne (sym same)))) h
 
-pub others_wait : (k m q : ℕ) (reply : Answer) (ms : List Moment) → m ≢ k → WaitOn k ms (answered m q reply ∷ ms)
-others_wait k m q reply ms ne r h = still k m q r reply ms (and_first (m == k) (q == r) (is_other m k ne)) h
+-- .. and is not answered by it
+pub other_unanswered : (k q r : ℕ) (reply : Answer) (ms : List Moment) → r ≢ q → answered_since k r ms ≡ false → answered_since k r (answered k q reply ∷ ms) ≡ false
+other_unanswered k q r reply ms ne h = or_none ((k == k) && (q == r)) (answered_since k r ms) (and_second (k == k) (q == r) (is_other q r (λ same. ne (sym same)))) ∙ h
 
--- ---- another node goes up
+pub answered_monitors : (k q : ℕ) (reply : Answer) (ms : List Moment) → monitors_of k ms ≤ monitors_of k (answered k q reply ∷ ms)
+answered_monitors k q reply ms = more k (answered k q reply) ms
+
+pub others_wait : (k m q : ℕ) (reply : Answer) (ms : List Moment) → m ≢ k → WaitOn k ms (answered m q reply ∷ ms)
+others_wait k m q reply ms ne = record {
+  open_still = λ r h. still k m q r reply ms (and_first (m == k) (q == r) (is_other m k ne)) h;
+  unanswered = λ r h. or_none ((m == k) && (q == r)) (answered_since k r ms) (and_first (m == k) (q == r) (is_other m k ne)) ∙ h;
+  monitors = more k (answered m q reply) ms;
+}
+
+-- ---- a node goes up
 
 pub others_boot : (k m : ℕ) (ms : List Moment) → m ≢ k → WaitOn k ms (up m ∷ ms)
-others_boot k m ms ne r h = by_test (m == k) (is_other m k ne)
-  where
-    by_test : (b : Bool) → b ≡ false → (list_any (is_asking k r) (if b then [] else up m ∷ since (is_boot k) ms) && not (list_any (is_answered_to k r) (since (is_asking k r) ms))) ≡ true
-    by_test true is = cc
-    by_test false is = h
+others_boot k m ms ne =
+    let same : (if m == k then [] else up m ∷ since (is_boot k) ms) ≡ up m ∷ since (is_boot k) ms = if_false (m == k) [] (up m ∷ since (is_boot k) ms) (is_other m k ne) in
+    record {
+      open_still = λ r h. (
+        subst (λ xs. (list_any (is_asking k r) xs && not (list_any (is_answered_to k r) (since (is_asking k r) ms))) ≡ true) (sym same) h.0,
+        subst (λ xs. list_any (is_answered_to k r) xs ≡ false) (sym same) h.1,
+      );
+      unanswered = λ r h. subst (λ xs. list_any (is_answered_to k r) xs ≡ false) (sym same) h;
+      monitors = subst (λ xs. monitors_of k ms ≤ tally (is_monitors k) xs) (sym same) (more k (up m) ms);
+    }
+
+-- nothing was answered since
+pub boot_unanswered : (k q : ℕ) (ms : List Moment) → answered_since k q (up k ∷ ms) ≡ false
+boot_unanswered k q ms = ap (λ xs. list_any (is_answered_to k q) xs) (if_true (k == k) [] (up k ∷ since (is_boot k) ms) (is_here k))
 
 -- ---- other lines
 
 pub quiet_waits : (k : ℕ) (e : Entry) (ms : List Moment) → IsQuiet e → WaitOn k ms (Told e ∷ ms)
-quiet_waits k (entry.Node m note.Up) ms quiet r h = absurd quiet
-quiet_waits k (entry.Node m note.Ticked) ms quiet r h = h
-quiet_waits k (entry.Node m note.Saved) ms quiet r h = h
-quiet_waits k (entry.Node m (note.Down why)) ms quiet r h = h
-quiet_waits k (entry.Node m (note.Member e)) ms quiet r h = h
-quiet_waits k (entry.Node m (note.Installed e)) ms quiet r h = h
-quiet_waits k (entry.Command e) ms quiet r h = absurd quiet
-quiet_waits k (entry.Packet e) ms quiet r h = absurd quiet
-quiet_waits k _ ms quiet r h = h
+quiet_waits k (entry.Node m note.Up) ms quiet = absurd quiet
+quiet_waits k (entry.Node m note.Ticked) ms quiet = record { open_still = λ r h. h; unanswered = λ r h. h; monitors = more k (Told (entry.Node m note.Ticked)) ms }
+quiet_waits k (entry.Node m note.Saved) ms quiet = record { open_still = λ r h. h; unanswered = λ r h. h; monitors = more k (Told (entry.Node m note.Saved)) ms }
+quiet_waits k (entry.Node m (note.Down why)) ms quiet = record { open_still = λ r h. h; unanswered = λ r h. h; monitors = more k (Told (entry.Node m (note.Down why))) ms }
+quiet_waits k (entry.Node m (note.Member e)) ms quiet = record { open_still = λ r h. h; unanswered = λ r h. h; monitors = more k (Told (entry.Node m (note.Member e))) ms }
+quiet_waits k (entry.Node m (note.Installed e)) ms quiet = record { open_still = λ r h. h; unanswered = λ r h. h; monitors = more k (Told (entry.Node m (note.Installed e))) ms }
+quiet_waits k (entry.Command e) ms quiet = absurd quiet
+quiet_waits k (entry.Packet e) ms quiet = absurd quiet
+quiet_waits k (entry.Call e) ms quiet = record { open_still = λ r h. h; unanswered = λ r h. h; monitors = more k (Told (entry.Call e)) ms }
+quiet_waits k _ ms quiet = record { open_still = λ r h. h; unanswered = λ r h. h; monitors = le_same (monitors_of k ms) }
+
+pub packet_waits : (k : ℕ) (e : PacketEntry) (ms : List Moment) → WaitOn k ms (Told (entry.Packet e) ∷ ms)
+packet_waits k e ms = record { open_still = λ r h. h; unanswered = λ r h. h; monitors = le_same (monitors_of k ms) }
+
+-- a line of the schedule, or a part of a round
+pub said_waits : (k : ℕ) (l : Line) (ms : List Moment) → WaitOn k ms (Said l ∷ ms)
+said_waits k l ms = record { open_still = λ r h. h; unanswered = λ r h. h; monitors = le_same (monitors_of k ms) }
+
+pub part_waits : (k : ℕ) (e : Event) (ms : List Moment) → WaitOn k ms (Part e ∷ ms)
+part_waits k e ms = record { open_still = λ r h. h; unanswered = λ r h. h; monitors = le_same (monitors_of k ms) }
+
+-- a monitor that asks is one more
+pub probed_more : (k : ℕ) (r : List ℕ) (found : ProbeResult) (ms : List Moment) → is_monitors k (Told (entry.Call (call.Probed k r found))) ≡ true
+    → monitors_of k (Told (entry.Call (call.Probed k r found)) ∷ ms) ≡ 1 + monitors_of k ms
+probed_more k r found ms is = ap (λ b. if b then 1 + monitors_of k ms else monitors_of k ms) is
 
 pub quiet_said : (e : Entry) (ms : List Moment) → IsQuiet e → AnswerWaits ms (Told e)
 quiet_said (entry.Node m e) ms quiet = tt
@@ -134,7 +228,7 @@ pub leaves_then : (a b c : List Moment) → Leaves a b → Leaves b c → Leaves
 leaves_then a b c f g = record { wait = λ k. wait_then k a b c (f.wait k) (g.wait k); said = λ h. g.said (f.said h) }
 
 pub packet_leaves : (e : PacketEntry) (ms : List Moment) → Leaves ms (Told (entry.Packet e) ∷ ms)
-packet_leaves e ms = record { wait = λ k q h. h; said = λ h. (tt, h) }
+packet_leaves e ms = record { wait = λ k. packet_waits k e ms; said = λ h. (tt, h) }
 
 pub quiet_leaves : (e : Entry) (ms : List Moment) → IsQuiet e → Leaves ms (Told e ∷ ms)
 quiet_leaves e ms quiet = record { wait = λ k. quiet_waits k e ms quiet; said = λ h. (quiet_said e ms quiet, h) }
@@ -177,15 +271,16 @@ AreApart k os = AllByRecursion (IsApartOutput k) os
 
 apart_waits : (k : ℕ) (e : Entry) (ms : List Moment) → IsApart k e → WaitOn k ms (Told e ∷ ms)
 apart_waits k (entry.Node m note.Up) ms ne = others_boot k m ms ne
-apart_waits k (entry.Node m note.Ticked) ms ne = λ r h. h
-apart_waits k (entry.Node m note.Saved) ms ne = λ r h. h
-apart_waits k (entry.Node m (note.Down why)) ms ne = λ r h. h
-apart_waits k (entry.Node m (note.Member e)) ms ne = λ r h. h
-apart_waits k (entry.Node m (note.Installed e)) ms ne = λ r h. h
+apart_waits k (entry.Node m note.Ticked) ms ne = quiet_waits k (entry.Node m note.Ticked) ms tt
+apart_waits k (entry.Node m note.Saved) ms ne = quiet_waits k (entry.Node m note.Saved) ms tt
+apart_waits k (entry.Node m (note.Down why)) ms ne = quiet_waits k (entry.Node m (note.Down why)) ms tt
+apart_waits k (entry.Node m (note.Member e)) ms ne = quiet_waits k (entry.Node m (note.Member e)) ms tt
+apart_waits k (entry.Node m (note.Installed e)) ms ne = quiet_waits k (entry.Node m (note.Installed e)) ms tt
 apart_waits k (entry.Command (command.Asked m q)) ms ne = asked_waits k m q ms
 apart_waits k (entry.Command (command.Answered m q reply)) ms ne = others_wait k m q reply ms ne
 apart_waits k (entry.Packet e) ms ne = absurd ne
-apart_waits k _ ms ne = λ r h. h
+apart_waits k (entry.Call e) ms ne = quiet_waits k (entry.Call e) ms tt
+apart_waits k _ ms ne = record { open_still = λ r h. h; unanswered = λ r h. h; monitors = le_same (monitors_of k ms) }
 
 pub passing_waits : (k n : ℕ) (os : List Output) (s : Scene) → AreApart k os → WaitOn k s.moments (passing n os s).moments
 passing_waits k n [] s apart = wait_same k s.moments

@@ -103,7 +103,7 @@ MayMove Stays h waiting after = IsUnspent h × (after ≡ h)
 MayMove Pops h waiting after = IsSpent h × (after ≡ Free)
 MayMove Drops h waiting after = (h ≡ Free) × (after ≡ Free)
 MayMove (Takes r) h waiting after = (h ≡ Free) × (oldest_in waiting ≡ Some r) × (r.told ≡ true) × (after ≡ Held r.number)
-MayMove (Joins r) h waiting after = (h ≡ Held r.number) × (after ≡ Free)
+MayMove (Joins r) h waiting after = (h ≡ Held r.number) × (r.told ≡ true) × (after ≡ Free)
 
 pub record QueueGoes (h : Hand) (before after : Queue) (g : Hand) : Type 0 where
   pub move : Move
