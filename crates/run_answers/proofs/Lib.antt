@@ -1,0 +1,11 @@
+pub mod Tally
+pub mod Askings
+pub mod Requests
+pub mod Hands
+pub mod Asides
+pub mod Courses
+pub mod Frames
+pub mod Waiting
+pub mod Saying
+pub mod Moves
+pub mod Acts
