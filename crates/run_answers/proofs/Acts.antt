@@ -258,30 +258,30 @@ queue_quiet c o x q goes h = subst (AllByRecursion (IsQuiet c)) (sym goes.waitin
 
 up_acts : (S : Setting) (c : Cluster) (n : ℕ) (told : Delivered) (i : Input) (v : Option ℕ) (o : Option Command) (h : Option ℕ) (promised : ℕ) (x : UpNode) (a : Act) (ms : List Moment) → NoMakes a → MayAct c n told x a
     → ActAsk n i o h x a → ActHand c i n v x a → (is_some x.presidency ≡ true → (b : Arrived) → CauseOf i n v x b → Cause S c (session_of x) ms b) → UpSo S c n ms promised x → UpSo S c n ms promised (acted c n x a)
-up_acts S c n told i v o h promised x (Minds q p) ms nm may ask hand cause up =
-    up_view S c n ms promised x (acted c n x (Minds q p)) refl refl ask.asked (queue_quiet c o x q ask up.quiet) (minds_hand S c ms (session_of x) (CauseOf i n v x) x.presidency p cause hand up.hand) up
-up_acts S c n told i v o h promised x (Notes from place p) ms nm may ask hand cause up =
-    up_view S c n ms promised x (acted c n x (Notes from place p)) refl refl refl up.quiet
-    (same_state S c ms (session_of x) p.proposals (prepared_by p.proposals from place) refl refl (less_same p.proposals.proposed from place) (subst (λ z. HandIn S c ms (session_of x) z) may.0 up.hand)) up
-up_acts S c n told i v o h promised x Ticks ms nm may ask hand cause up =
-    up_view S c n ms promised x (acted c n x Ticks) refl refl refl up.quiet (later_hand S c ms (session_of x) x.presidency up.hand) up
-up_acts S c n told i v o h promised x (Queues a d kind) ms nm may ask hand cause up =
+up_acts S c n told i v o h promised x (Minds q p) ms nm may ask hand cause held_so =
+    up_view S c n ms promised x (acted c n x (Minds q p)) refl refl ask.asked (queue_quiet c o x q ask held_so.quiet) (minds_hand S c ms (session_of x) (CauseOf i n v x) x.presidency p cause hand held_so.hand) held_so
+up_acts S c n told i v o h promised x (Notes from place p) ms nm may ask hand cause held_so =
+    up_view S c n ms promised x (acted c n x (Notes from place p)) refl refl refl held_so.quiet
+    (same_state S c ms (session_of x) p.proposals (prepared_by p.proposals from place) refl refl (less_same p.proposals.proposed from place) (subst (λ z. HandIn S c ms (session_of x) z) may.0 held_so.hand)) held_so
+up_acts S c n told i v o h promised x Ticks ms nm may ask hand cause held_so =
+    up_view S c n ms promised x (acted c n x Ticks) refl refl refl held_so.quiet (later_hand S c ms (session_of x) x.presidency held_so.hand) held_so
+up_acts S c n told i v o h promised x (Queues a d kind) ms nm may ask hand cause held_so =
     if_either (λ (z : UpNode). UpSo S c n ms promised z) (has a.plan.members n)
     (record x { tasks = after_seize x.tasks d (seizing.begun kind a.plan.epoch a.plan.members n c.id (has (record_of x).valid d)) }) x
-    (same_node S c n ms promised x (record x { tasks = after_seize x.tasks d (seizing.begun kind a.plan.epoch a.plan.members n c.id (has (record_of x).valid d)) }) refl refl refl up) up
-up_acts S c n told i v o h promised x (Makes change) ms nm may ask hand cause up = absurd nm
-up_acts S c n told i v o h promised x (Hears from b) ms nm may ask hand cause up = same_node S c n ms promised x (acted c n x (Hears from b)) refl refl refl up
-up_acts S c n told i v o h promised x Waits ms nm may ask hand cause up = same_node S c n ms promised x (acted c n x Waits) refl refl refl up
-up_acts S c n told i v o h promised x (Goes_on a j) ms nm may ask hand cause up = same_node S c n ms promised x (acted c n x (Goes_on a j)) refl refl refl up
-up_acts S c n told i v o h promised x (Ends a e) ms nm may ask hand cause up = same_node S c n ms promised x (acted c n x (Ends a e)) refl refl refl up
-up_acts S c n told i v o h promised x (Accepts kind e members d) ms nm may ask hand cause up = same_node S c n ms promised x (acted c n x (Accepts kind e members d)) refl refl refl up
-up_acts S c n told i v o h promised x (Takes at command a) ms nm may ask hand cause up = same_node S c n ms promised x (acted c n x (Takes at command a)) refl refl refl up
-up_acts S c n told i v o h promised x (Stores d value a) ms nm may ask hand cause up = up
-up_acts S c n told i v o h promised x (Writes to b) ms nm may ask hand cause up = up
-up_acts S c n told i v o h promised x (Gives os) ms nm may ask hand cause up = up
-up_acts S c n told i v o h promised x (Spreads receivers b) ms nm may ask hand cause up = up
-up_acts S c n told i v o h promised x (Dates now) ms nm may ask hand cause up = same_node S c n ms promised x (acted c n x (Dates now)) refl refl refl up
-up_acts S c n told i v o h promised x (Works w) ms nm may ask hand cause up = same_node S c n ms promised x (acted c n x (Works w)) refl refl refl up
+    (same_node S c n ms promised x (record x { tasks = after_seize x.tasks d (seizing.begun kind a.plan.epoch a.plan.members n c.id (has (record_of x).valid d)) }) refl refl refl held_so) held_so
+up_acts S c n told i v o h promised x (Makes change) ms nm may ask hand cause held_so = absurd nm
+up_acts S c n told i v o h promised x (Hears from b) ms nm may ask hand cause held_so = same_node S c n ms promised x (acted c n x (Hears from b)) refl refl refl held_so
+up_acts S c n told i v o h promised x Waits ms nm may ask hand cause held_so = same_node S c n ms promised x (acted c n x Waits) refl refl refl held_so
+up_acts S c n told i v o h promised x (Goes_on a j) ms nm may ask hand cause held_so = same_node S c n ms promised x (acted c n x (Goes_on a j)) refl refl refl held_so
+up_acts S c n told i v o h promised x (Ends a e) ms nm may ask hand cause held_so = same_node S c n ms promised x (acted c n x (Ends a e)) refl refl refl held_so
+up_acts S c n told i v o h promised x (Accepts kind e members d) ms nm may ask hand cause held_so = same_node S c n ms promised x (acted c n x (Accepts kind e members d)) refl refl refl held_so
+up_acts S c n told i v o h promised x (Takes at command a) ms nm may ask hand cause held_so = same_node S c n ms promised x (acted c n x (Takes at command a)) refl refl refl held_so
+up_acts S c n told i v o h promised x (Stores d value a) ms nm may ask hand cause held_so = held_so
+up_acts S c n told i v o h promised x (Writes to b) ms nm may ask hand cause held_so = held_so
+up_acts S c n told i v o h promised x (Gives os) ms nm may ask hand cause held_so = held_so
+up_acts S c n told i v o h promised x (Spreads receivers b) ms nm may ask hand cause held_so = held_so
+up_acts S c n told i v o h promised x (Dates now) ms nm may ask hand cause held_so = same_node S c n ms promised x (acted c n x (Dates now)) refl refl refl held_so
+up_acts S c n told i v o h promised x (Works w) ms nm may ask hand cause held_so = same_node S c n ms promised x (acted c n x (Works w)) refl refl refl held_so
 
 pub act_holds : (S : Setting) (c : Cluster) (n : ℕ) (told : Delivered) (i : Input) (v : Option ℕ) (o : Option Command) (h : Option ℕ) (promised : ℕ) (x : UpNode) (a : Act) (s : Scene) → ReadsUpdates c S → (1 ≤ n) × (n ≤ 32)
     → NoMakes a → MayAct c n told x a → IsSmallAct a → ActAsk n i o h x a → ActHand c i n v x a → AreGood n (said c n x a) → Before S n i o h x s → Holding S c n i v promised x s.moments

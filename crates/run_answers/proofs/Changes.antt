@@ -34,6 +34,7 @@ use Rattle.run_messages.proofs.Seats.{seat_with}
 use Rattle.run_requests.specs.Guards.{ChangeAsk, Command}
 use Rattle.run_requests.proofs.Causes.{PresidentAt}
 use Rattle.run_requests.proofs.Changes.{state_with}
+use Rattle.run_requests.proofs.Plain.{IsSilent}
 use Rattle.run_answers.specs.Askings.{asked_as, held, proposals}
 use Rattle.run_answers.specs.Guards.{CauseOf, ChangeHand, IsOfFirst}
 use Rattle.run_answers.specs.Steps.{Hand, HandIn, IsQuiet, Unused, UpSo, past_with}
@@ -45,11 +46,6 @@ pub record Bound (promised : ℕ) (x : UpNode) : Type 0 where
   pub promise : promised ≡ promised_of x
   pub session : session_of x ≤ promised_of x
   pub alone : membership_in x.seat ≡ None → x.presidency ≡ None
-
--- a change that proposes nothing
-abbrev pub IsSilent : Change → Type 0
-IsSilent (Proposes s p text) = ⊥
-IsSilent _ = Unit {0}
 
 below_next : (e p q : ℕ) → p < q → q < e → p < e
 below_next e p q h k = omega (arith, h, k)
@@ -157,37 +153,37 @@ first_hand S c n e ms own unused = record {
 pub up_changes : (S : Setting) (c : Cluster) (n : ℕ) (told : Delivered) (i : Input) (v : Option ℕ) (o : Option Command) (promised : ℕ) (x : UpNode) (change : Change) (ms : List Moment) → IsSilent change → MayChange c n told x change
     → ChangeAsk o x change → ChangeHand c i n v x change → ((a : Arrived) → is_some x.presidency ≡ true → CauseOf i n v x a → Cause S c (session_of x) ms a) → Bound promised x
     → (let y : UpNode = changed c n x change in (is_some y.presidency ≡ true → PresidentAt y n) → ((e : ℕ) → membership_in y.seat ≡ Some e → 0 < session_of y) → UpSo S c n ms promised x → UpSo S c n ms (promised_of y) y)
-up_changes S c n told i v o promised x (Promises p) ms silent may ask hand cause bound president some up = rested_up S c n ms promised p x x.attempt (subst (λ k. k < p) (sym bound.promise) may.1) up
-up_changes S c n told i v o promised x (Leads p members) ms silent may ask hand cause bound president some up =
-    promises S c n ms promised p x (changed c n x (Leads p members)) (subst (λ k. k < p) (sym bound.promise) may.0) refl refl refl refl refl up
-up_changes S c n told i v o promised x (Counts a k s j) ms silent may ask hand cause bound president some up =
-    steady S c n ms promised x (changed c n x (Counts a k s j)) bound.promise (sym (seat_forming x s may.1)) (sym (seat_state x (Forming s) may.1)) (sym (seat_promise x (Forming s) may.1)) refl up.quiet up.hand up
-up_changes S c n told i v o promised x (Installs s j) ms silent may ask hand cause bound president some up =
-    steady S c n ms promised x (changed c n x (Installs s j)) bound.promise (sym (seat_forming x s may.0)) (sym (seat_state x (Forming s) may.0)) (sym (seat_promise x (Forming s) may.0)) refl up.quiet up.hand up
-up_changes S c n told i v o promised x (Starts a k s) ms silent may ask hand cause bound president some up =
+up_changes S c n told i v o promised x (Promises p) ms silent may ask hand cause bound president some held_so = rested_up S c n ms promised p x x.attempt (subst (λ k. k < p) (sym bound.promise) may.1) held_so
+up_changes S c n told i v o promised x (Leads p members) ms silent may ask hand cause bound president some held_so =
+    promises S c n ms promised p x (changed c n x (Leads p members)) (subst (λ k. k < p) (sym bound.promise) may.0) refl refl refl refl refl held_so
+up_changes S c n told i v o promised x (Counts a k s j) ms silent may ask hand cause bound president some held_so =
+    steady S c n ms promised x (changed c n x (Counts a k s j)) bound.promise (sym (seat_forming x s may.1)) (sym (seat_state x (Forming s) may.1)) (sym (seat_promise x (Forming s) may.1)) refl held_so.quiet held_so.hand held_so
+up_changes S c n told i v o promised x (Installs s j) ms silent may ask hand cause bound president some held_so =
+    steady S c n ms promised x (changed c n x (Installs s j)) bound.promise (sym (seat_forming x s may.0)) (sym (seat_state x (Forming s) may.0)) (sym (seat_promise x (Forming s) may.0)) refl held_so.quiet held_so.hand held_so
+up_changes S c n told i v o promised x (Starts a k s) ms silent may ask hand cause bound president some held_so =
     let y : UpNode = changed c n x (Starts a k s) in
     let p : PresidentAt y n = president refl in
     enters S c n ms promised x y s bound.promise may.1 refl refl (sym (seat_promise x (Forming s) may.1)) refl (some s.session refl)
-    (λ unused. first_hand S c n s.session ms (ap coordinator p.session ∙ p.own) unused) up
-up_changes S c n told i v o promised x (Sits s e) ms silent may ask hand cause bound president some up =
+    (λ unused. first_hand S c n s.session ms (ap coordinator p.session ∙ p.own) unused) held_so
+up_changes S c n told i v o promised x (Sits s e) ms silent may ask hand cause bound president some held_so =
     enters S c n ms promised x (changed c n x (Sits s e)) s bound.promise may.0 refl refl (sym (seat_promise x (Forming s) may.0)) refl (some s.session refl)
-    (λ unused. subst (λ z. HandIn S c ms s.session z) (sym (bound.alone (seat_forming x s may.0))) tt) up
-up_changes S c n told i v o promised x (Distrusts d) ms silent may ask hand cause bound president some up =
+    (λ unused. subst (λ z. HandIn S c ms s.session z) (sym (bound.alone (seat_forming x s may.0))) tt) held_so
+up_changes S c n told i v o promised x (Distrusts d) ms silent may ask hand cause bound president some held_so =
     let t : NodeState = with_valid (state_of x.seat) (set_without (record_of x).valid d) in
-    steady S c n ms promised x (changed c n x (Distrusts d)) bound.promise (seat_with x.seat t refl) (ap (λ (z : NodeState). z.session) (state_with x.seat t)) (with_promise x t refl) refl up.quiet up.hand up
-up_changes S c n told i v o promised x (Admits at command a d) ms silent may ask hand cause bound president some up =
+    steady S c n ms promised x (changed c n x (Distrusts d)) bound.promise (seat_with x.seat t refl) (ap (λ (z : NodeState). z.session) (state_with x.seat t)) (with_promise x t refl) refl held_so.quiet held_so.hand held_so
+up_changes S c n told i v o promised x (Admits at command a d) ms silent may ask hand cause bound president some held_so =
     let t : NodeState = with_joined (state_of x.seat) d in
-    steady S c n ms promised x (changed c n x (Admits at command a d)) bound.promise (seat_with x.seat t refl) (ap (λ (z : NodeState). z.session) (state_with x.seat t)) (with_promise x t refl) refl up.quiet up.hand up
-up_changes S c n told i v o promised x (Proposes s p text) ms silent may ask hand cause bound president some up = absurd silent
-up_changes S c n told i v o promised x (Acks s p q left text) ms silent may ask hand cause bound president some up =
+    steady S c n ms promised x (changed c n x (Admits at command a d)) bound.promise (seat_with x.seat t refl) (ap (λ (z : NodeState). z.session) (state_with x.seat t)) (with_promise x t refl) refl held_so.quiet held_so.hand held_so
+up_changes S c n told i v o promised x (Proposes s p text) ms silent may ask hand cause bound president some held_so = absurd silent
+up_changes S c n told i v o promised x (Acks s p q left text) ms silent may ask hand cause bound president some held_so =
     let t : NodeState = with_entries (state_of x.seat) (all_committed (record_of x).entries) in
     steady S c n ms promised x (changed c n x (Acks s p q left text)) bound.promise (seat_with x.seat t refl) (ap (λ (z : NodeState). z.session) (state_with x.seat t)) (with_promise x t refl) ask.asked
-    (queue_quiet c o x q ask up.quiet)
-    (hand_goes S c (session_of x) ms (CauseOf i n v x) p.proposals left.proposals (λ a. cause a (ap is_some may.0)) hand (subst (λ z. HandIn S c ms (session_of x) z) may.0 up.hand)) up
-up_changes S c n told i v o promised x (Prepares s text) ms silent may ask hand cause bound president some up =
-    steady S c n ms promised x (changed c n x (Prepares s text)) bound.promise (sym (ap membership_in may.0)) (sym (seat_state x (Member s) may.0)) (sym (seat_promise x (Member s) may.0)) refl up.quiet up.hand up
-up_changes S c n told i v o promised x (Commits s) ms silent may ask hand cause bound president some up =
-    steady S c n ms promised x (changed c n x (Commits s)) bound.promise (sym (ap membership_in may.0)) (sym (seat_state x (Member s) may.0)) (sym (seat_promise x (Member s) may.0)) refl up.quiet up.hand up
+    (queue_quiet c o x q ask held_so.quiet)
+    (hand_goes S c (session_of x) ms (CauseOf i n v x) p.proposals left.proposals (λ a. cause a (ap is_some may.0)) hand (subst (λ z. HandIn S c ms (session_of x) z) may.0 held_so.hand)) held_so
+up_changes S c n told i v o promised x (Prepares s text) ms silent may ask hand cause bound president some held_so =
+    steady S c n ms promised x (changed c n x (Prepares s text)) bound.promise (sym (ap membership_in may.0)) (sym (seat_state x (Member s) may.0)) (sym (seat_promise x (Member s) may.0)) refl held_so.quiet held_so.hand held_so
+up_changes S c n told i v o promised x (Commits s) ms silent may ask hand cause bound president some held_so =
+    steady S c n ms promised x (changed c n x (Commits s)) bound.promise (sym (ap membership_in may.0)) (sym (seat_state x (Member s) may.0)) (sym (seat_promise x (Member s) may.0)) refl held_so.quiet held_so.hand held_so
 
 -- ---- an update is proposed
 
@@ -227,19 +223,19 @@ takes_first c n told i v x s p text may hand = record { request = hand.request; 
 pub up_proposes : (S : Setting) (c : Cluster) (n : ℕ) (told : Delivered) (i : Input) (v : Option ℕ) (promised : ℕ) (x : UpNode) (s : NodeState) (p : Presidency) (text : List ℕ) (ms : List Moment)
     → MayChange c n told x (Proposes s p text) → ChangeHand c i n v x (Proposes s p text) → Bound promised x → UpSo S c n ms promised x
     → (let y : UpNode = changed c n x (Proposes s p text) in UpSo S c n (begun ms (Proposes s p text)) (promised_of y) y)
-up_proposes S c n told i v promised x s p text ms may hand bound up =
+up_proposes S c n told i v promised x s p text ms may hand bound held_so =
     let change : Change = Proposes s p text in
     let y : UpNode = changed c n x change in
     let t : NodeState = with_entries (state_of x.seat) (with_next (record_of x).entries text) in
     let here : session_of x ≡ s.session = seat_state x (Member s) may.1 in
     let session : session_of y ≡ session_of x = ap (λ (z : NodeState). z.session) (state_with x.seat t) in
     let seat : membership_in y.seat ≡ membership_in x.seat = seat_with x.seat t refl in
-    let old : Hand S c ms s.session p.proposals = subst (λ e. Hand S c ms e p.proposals) here (subst (λ z. HandIn S c ms (session_of x) z) may.0 up.hand) in
+    let old : Hand S c ms s.session p.proposals = subst (λ e. Hand S c ms e p.proposals) here (subst (λ z. HandIn S c ms (session_of x) z) may.0 held_so.hand) in
     record {
-      within = λ e above. within_begun c n told promised x change ms may bound up.within e (subst (λ k. k < e) (with_promise x t refl ∙ sym bound.promise) above);
+      within = λ e above. within_begun c n told promised x change ms may bound held_so.within e (subst (λ k. k < e) (with_promise x t refl ∙ sym bound.promise) above);
       forming = λ none some. absurd (none_some s.session (sym none ∙ (seat ∙ ap membership_in may.1)));
-      member = λ e q is above. up.member e q (sym seat ∙ is) above;
-      quiet = up.quiet;
+      member = λ e q is above. held_so.member e q (sym seat ∙ is) above;
+      quiet = held_so.quiet;
       hand = subst (λ e. HandIn S c (begun ms change) e y.presidency) (sym (session ∙ here))
           (hand_proposes S c s.session (length (texts_of s.saved.entries) + 1) (next_place x) (others_of n x) text ms p.proposals (takes_first c n told i v x s p text may hand) old);
     }

@@ -103,6 +103,10 @@ told_frame S k e ms ne = record { asked = λ r f. refl; proposed = λ f w is. re
 pub packet_frame : (S : Setting) (k : ℕ) (e : PacketEntry) (ms : List Moment) → Frame S k ms (Told (entry.Packet e) ∷ ms)
 packet_frame S k e ms = record { asked = λ r f. refl; proposed = λ f w is. refl; grows = λ T f. requests_grow S T f (Told (entry.Packet e)) ms }
 
+-- a node comes up
+pub up_frame : (S : Setting) (k n : ℕ) (ms : List Moment) → Frame S k ms (Told (entry.Node n note.Up) ∷ ms)
+up_frame S k n ms = record { asked = λ r f. refl; proposed = λ f w is. refl; grows = λ T f. requests_grow S T f (Told (entry.Node n note.Up)) ms }
+
 pub said_frame : (S : Setting) (k : ℕ) (l : Line) (ms : List Moment) → Frame S k ms (Said l ∷ ms)
 said_frame S k l ms = record { asked = λ r f. refl; proposed = λ f w is. refl; grows = λ T f. requests_grow S T f (Said l) ms }
 
@@ -139,16 +143,21 @@ unused_stays S k e before after f h = record { asked = λ q. f.asked q e ∙ h.a
 pub backed_stays : (S : Setting) (c : Cluster) (k e : ℕ) (before after : List Moment) (n q : ℕ) (text : List ℕ) → Frame S k before after → Backed S c e before n q text → Backed S c e after n q text
 backed_stays S c k e before after n q text f h = λ u is. le_then 1 _ _ (h u is) (f.grows _ e)
 
-all_backed : (S : Setting) (c : Cluster) (k e : ℕ) (before after : List Moment) (xs : List Arrived) → Frame S k before after → AllByRecursion (λ a. Backed S c e before a.from a.number a.text) xs
-    → AllByRecursion (λ a. Backed S c e after a.from a.number a.text) xs
-all_backed S c k e before after [] f h = tt
-all_backed S c k e before after (a ∷ xs) f h = (λ u is. le_then 1 _ _ (h.0 u is) (f.grows _ e), all_backed S c k e before after xs f h.1)
+all_backed : (S : Setting) (c : Cluster) (e : ℕ) (before after : List Moment) (xs : List Arrived) → ((T : Test) → held T (requests_of S e before) ≤ held T (requests_of S e after))
+    → AllByRecursion (λ a. Backed S c e before a.from a.number a.text) xs → AllByRecursion (λ a. Backed S c e after a.from a.number a.text) xs
+all_backed S c e before after [] f h = tt
+all_backed S c e before after (a ∷ xs) f h = (λ u is. le_then 1 _ _ (h.0 u is) (f _), all_backed S c e before after xs f h.1)
+
+-- while nothing is proposed there, and no request is lost
+pub hand_more : (S : Setting) (c : Cluster) (e : ℕ) (before after : List Moment) (o : Option Presidency) → ((T : Test) → held T (requests_of S e before) ≤ held T (requests_of S e after))
+    → (is_some o ≡ true → (w : List ℕ) → proposals e w after ≡ proposals e w before) → HandIn S c before e o → HandIn S c after e o
+hand_more S c e before after None f same h = tt
+hand_more S c e before after (Some p) f same h = record {
+  sound = h.sound;
+  backed = all_backed S c e before after p.proposals.arrived f h.backed;
+  counts = λ w. subst (λ j. j ≤ held (past_with p.proposals w) (requests_of S e after)) (sym (same refl w))
+      (le_then (proposals e w before) (held (past_with p.proposals w) (requests_of S e before)) (held (past_with p.proposals w) (requests_of S e after)) (h.counts w) (f (past_with p.proposals w)));
+}
 
 pub hand_stays : (S : Setting) (c : Cluster) (k e : ℕ) (before after : List Moment) (o : Option Presidency) → Frame S k before after → (is_some o ≡ true → coordinator e ≡ k) → HandIn S c before e o → HandIn S c after e o
-hand_stays S c k e before after None f own h = tt
-hand_stays S c k e before after (Some p) f own h = record {
-  sound = h.sound;
-  backed = all_backed S c k e before after p.proposals.arrived f h.backed;
-  counts = λ w. subst (λ j. j ≤ held (past_with p.proposals w) (requests_of S e after)) (sym (f.proposed e w (own refl)))
-      (le_then (proposals e w before) (held (past_with p.proposals w) (requests_of S e before)) (held (past_with p.proposals w) (requests_of S e after)) (h.counts w) (f.grows (past_with p.proposals w) e));
-}
+hand_stays S c k e before after o f own h = hand_more S c e before after o (λ T. f.grows T e) (λ so w. f.proposed e w (own so)) h

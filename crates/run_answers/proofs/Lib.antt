@@ -9,3 +9,7 @@ pub mod Waiting
 pub mod Saying
 pub mod Moves
 pub mod Acts
+pub mod Changes
+pub mod Walk
+pub mod Numbered
+pub mod Steps
