@@ -53,7 +53,8 @@ use Rattle.run_requests.specs.Guards.{ActAsk, BodyAsk, Command, MayMove, Move, O
 use Rattle.run_requests.specs.Guards.Move.{Answers, Joins, Same}
 use Rattle.run_requests.proofs.Acts.{Before, NoMakes}
 use Rattle.run_requests.proofs.Causes.{PresidentAt}
-use Rattle.run_requests.proofs.Plain.{ArePlain, ended_plain, given_plain, plains_apart, spread_plain, ticked_plain, write_plain}
+use Rattle.run_requests.proofs.Doings.{plain_act}
+use Rattle.run_requests.proofs.Plain.{ArePlain, plains_apart}
 use Rattle.run_requests.proofs.Queues.{Queued}
 use Rattle.run_answers.specs.Guards.{ActHand, BodyHand, CauseOf, IsOwn, IsRequested, OutputHand, PresidencyGoes}
 use Rattle.run_answers.specs.Steps.{Backed, Frame, Hand, HandIn, IsQuiet, ToldSo, Unused, UpSo}
@@ -179,25 +180,6 @@ act_say S c n i v o h x (Notes from place p) ms reads nm ask hand queued quiet =
 act_say S c n i v o h x (Dates now) ms reads nm ask hand queued quiet = tt
 act_say S c n i v o h x (Works w) ms reads nm ask hand queued quiet = tt
 
-pub act_plain : (c : Cluster) (n : ℕ) (i : Input) (o : Option Command) (h : Option ℕ) (x : UpNode) (a : Act) → NoMakes a → IsSmallAct a → ActAsk n i o h x a → ArePlain (said c n x a)
-act_plain c n i o h x (Hears from b) nm small ask = tt
-act_plain c n i o h x Ticks nm small ask = (tt, ticked_plain c x)
-act_plain c n i o h x Waits nm small ask = tt
-act_plain c n i o h x (Goes_on a j) nm small ask = tt
-act_plain c n i o h x (Ends a e) nm small ask = (ended_plain a.plan.epoch e, tt)
-act_plain c n i o h x (Queues a d kind) nm small ask = tt
-act_plain c n i o h x (Accepts kind e members d) nm small ask = tt
-act_plain c n i o h x (Takes at command a) nm small ask = (tt, tt)
-act_plain c n i o h x (Stores d value a) nm small ask = (tt, write_plain n x d value a)
-act_plain c n i o h x (Writes to b) nm small ask = (tt, tt)
-act_plain c n i o h x (Makes change) nm small ask = absurd nm
-act_plain c n i o h x (Gives os) nm small ask = given_plain n i o h x os small ask
-act_plain c n i o h x (Spreads receivers b) nm small ask = spread_plain receivers b
-act_plain c n i o h x (Minds q p) nm small ask = tt
-act_plain c n i o h x (Notes from place p) nm small ask = tt
-act_plain c n i o h x (Dates now) nm small ask = tt
-act_plain c n i o h x (Works w) nm small ask = tt
-
 -- ---- the hand
 
 -- each cause is backed, at a president
@@ -289,7 +271,7 @@ pub act_holds : (S : Setting) (c : Cluster) (n : ℕ) (told : Delivered) (i : In
 act_holds S c n told i v o h promised x a s reads range nm may small ask hand good b k =
     let os : List Output = said c n x a in
     let ms : List Moment = (passing n os s).moments in
-    let plain : ArePlain os = act_plain c n i o h x a nm small ask in
+    let plain : ArePlain os = plain_act c n i o h x a nm small ask in
     let f : Frame S n s.moments ms = passing_frame S n n os s (plains_apart n os plain) in
     record {
       up = up_acts S c n told i v o h promised x a ms nm may ask hand

@@ -11,5 +11,7 @@ pub mod Moves
 pub mod Acts
 pub mod Changes
 pub mod Walk
-pub mod Numbered
 pub mod Steps
+pub mod Kept
+pub mod Runs
+pub mod Laws

@@ -66,7 +66,7 @@ use Rattle.run_requests.proofs.Acts.{NoMakes}
 use Rattle.run_requests.proofs.Boots.{at_first}
 use Rattle.run_requests.proofs.Causes.{CameSo, PresidentAt, ReadsAnswers, president_at}
 use Rattle.run_requests.proofs.Changes.{Changed}
-use Rattle.run_requests.proofs.Commands.{ReadsRequests, command_at, next_is}
+use Rattle.run_requests.proofs.Commands.{ReadsRequests, command_at, next_is, numbered_so, read_text}
 use Rattle.run_requests.proofs.Counts.{room_left}
 use Rattle.run_requests.proofs.Courses as asks
 use Rattle.run_requests.proofs.Leaving as leaving
@@ -79,7 +79,6 @@ use Rattle.run_answers.proofs.Acts.{Holding, act_holds, came_frame}
 use Rattle.run_answers.proofs.Changes.{Bound}
 use Rattle.run_answers.proofs.Courses as hands
 use Rattle.run_answers.proofs.Frames.{frame_then, hand_more, passing_frame, up_frame, unused_stays}
-use Rattle.run_answers.proofs.Numbered.{numbered_so, read_text}
 use Rattle.run_answers.proofs.Requests.{requests_grow}
 use Rattle.run_answers.proofs.Saying.{passing_told}
 use Rattle.run_answers.proofs.Waiting.{ReadsUpdates}

@@ -1,5 +1,6 @@
 -- what a reader must believe
 pub mod Asking
+pub mod Laws
 -- what only the proofs need
 pub mod Askings
 pub mod Hands
