@@ -23,6 +23,7 @@ use Rattle.run_history.proofs.DeedRuns.{no_base_is_due, start_lines_of_each_run}
 use Rattle.run_history.proofs.WholeEachRun.{repositories_are_kept}
 use Rattle.run_history.proofs.DiskEachRun.{disk_rule_of_each_run}
 use Rattle.run_history.proofs.Runs.{installed_of_each_run, once_of_each_run, prepared_of_each_run, ready_of_each_run, told_of_each_run}
+use Rattle.run_answers.proofs.Laws.{asked_of_each_run}
 use Rattle.run_commands.proofs.Laws.{answers_once_in_each_run}
 use Rattle.run_downs.proofs.Runs as downs
 use Rattle.run_messages.proofs.Runs.{heartbeats_of_each_run}
@@ -105,6 +106,7 @@ told_trace h events text p header disks is told =
       known_held = known_held_of_each_run h 65536 told.happenings header.devices header.cluster_high told.may;
       heartbeats = heartbeats_of_each_run h 65536 told.happenings header.devices header.cluster_high told.may;
       updates = updates_of_each_run h 65536 told.happenings header.devices header.cluster_high told.may;
+      asked = asked_of_each_run h 65536 told.happenings header.devices header.cluster_high told.may;
       answers_once = answers_once_in_each_run h 65536 told.happenings header.devices header.cluster_high told.may;
       boots = downs.boots_of_each_run h 65536 told.happenings header.devices header.cluster_high told.may;
       crashes = downs.crashes_of_each_run h 65536 told.happenings header.devices header.cluster_high told.may;

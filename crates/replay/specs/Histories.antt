@@ -23,6 +23,7 @@ use Rattle.history.specs.History.{Repository}
 use Rattle.history.specs.Links.{Links, drop_due}
 use Rattle.history.specs.Moment.{Moment, lines_of}
 use Rattle.history.specs.Order.{Always}
+use Rattle.history.specs.Requests.{Asked}
 use Rattle.history.specs.Starts.{StartLines, base_due}
 use Rattle.history_setting.specs.Settings.{setting_of}
 use Rattle.world_model.specs.First.{first_world}
@@ -41,8 +42,8 @@ use Rattle.replay.specs.Replays.{OfCluster, OfDevice, Schedule, entries, schedul
 -- the record of their sender, the newest in hand is installed and is the base, and a Heartbeat says who is a member. A node
 -- comes up, crashes and saves in the event that makes it do so, panics for a fence where a write of its own was refused, and
 -- stops exactly where an armed stop falls. While there are fewer than 2^63 lines, which number the commands, a Prepare has the
--- words that were proposed, a Request those of its command, a member answers what the president's Answer says, and each command
--- is answered once at most.
+-- words that were proposed, a Request those of its command, a member answers what the president's Answer says, each update was
+-- asked for by a request of its own, and each command is answered once at most.
 pub record IsTrace (h : Header) (events : List Event) (text : List ℕ) : Type 0 where
   pub moments : List Moment
   pub said : lines_of moments ≡ lines_upon [] events
@@ -69,6 +70,7 @@ pub record IsTrace (h : Header) (events : List Event) (text : List ℕ) : Type 0
   pub known_held : KnownHeld h moments
   pub heartbeats : Heartbeats moments
   pub updates : length (lines_of moments) < 2 ^ 63 → CarriedUpdates (setting_of h) moments
+  pub asked : length (lines_of moments) < 2 ^ 63 → Asked (setting_of h) moments
   pub answers_once : length (lines_of moments) < 2 ^ 63 → AnswersOnce moments
   pub boots : Always BootIsSaid moments
   pub crashes : Always CrashIsSaid moments

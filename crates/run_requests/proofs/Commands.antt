@@ -126,7 +126,7 @@ here_is : (n q : ℕ) → ((n == n) && (q == q)) ≡ true
 here_is n q = and_both (n == n) (q == q) (is_same n) (is_same q)
 
 -- the canonical words, where it is a request
-abbrev read_text : Result AdminCommand WordError → Option (List ℕ)
+abbrev pub read_text : Result AdminCommand WordError → Option (List ℕ)
 read_text (Ok a) = text_of a
 read_text (Err e) = None
 
@@ -137,7 +137,7 @@ read_so c S words text (Err e) reads is at = absurd (none_some text at)
 abbrev pub command_at : Cluster → UpNode → List ℕ → Command
 command_at c x words = record { number = next_number x.requests; text = read_text (read_command (version_of c) words); session = membership_in x.seat }
 
-numbered_so : (S : Setting) (c : Cluster) (n : ℕ) (x : UpNode) (words : List ℕ) (ms : List Moment) → ReadsRequests c S → x.requests.asked < 2 ^ 64 - 1 → slice_get ms 0 ≡ Some (gives_line n words)
+pub numbered_so : (S : Setting) (c : Cluster) (n : ℕ) (x : UpNode) (words : List ℕ) (ms : List Moment) → ReadsRequests c S → x.requests.asked < 2 ^ 64 - 1 → slice_get ms 0 ≡ Some (gives_line n words)
     → member_of n ms ≡ membership_in x.seat → Queued S n ms (membership_in x.seat) x.requests → PendingSo ms x
     → Changed S n (Some (command_at c x words)) None (next_number x.requests) (numbered x) (asked_line n (next_number x.requests) ∷ ms)
 numbered_so S c n x words ms reads room first seated queued pend =

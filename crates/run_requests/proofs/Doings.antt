@@ -58,7 +58,7 @@ pub record ActLeaves (S : Setting) (n : ℕ) (o : Option Command) (h : Option �
   pub apart : (k : ℕ) → k ≢ n → AreApart k os
   pub answers : AllByRecursion (OwnOutput n) os
 
-plain_act : (c : Cluster) (n : ℕ) (i : Input) (o : Option Command) (h : Option ℕ) (x : UpNode) (a : Act) → NoMakes a → IsSmallAct a → ActAsk n i o h x a → ArePlain (said c n x a)
+pub plain_act : (c : Cluster) (n : ℕ) (i : Input) (o : Option Command) (h : Option ℕ) (x : UpNode) (a : Act) → NoMakes a → IsSmallAct a → ActAsk n i o h x a → ArePlain (said c n x a)
 plain_act c n i o h x (Hears from b) nm small ask = tt
 plain_act c n i o h x Ticks nm small ask = (tt, ticked_plain c x)
 plain_act c n i o h x Waits nm small ask = tt

@@ -113,7 +113,7 @@ step_by S c n now ends i replies (Up x) disk M s reads low fits holds known stan
     })
     h.0 carried came (record { low = h.1; few = few })
 
-step_leaves : (S : Setting) (c : Cluster) (v : Nodes) (n now : ℕ) (ends : method.Outcome) (i : Input) (s : Scene) → Reads c S → n ≤ 32 → All IsDevice c.attached → (k : Knows c v) → Known k.machine (delivered_by i)
+pub step_leaves : (S : Setting) (c : Cluster) (v : Nodes) (n now : ℕ) (ends : method.Outcome) (i : Input) (s : Scene) → Reads c S → n ≤ 32 → All IsDevice c.attached → (k : Knows c v) → Known k.machine (delivered_by i)
     → in_collect n s.moments ≡ collecting (delivered_by i) → AreGood n (given_by c n now ends i v) → IsSeated s.moments n (v.node n) → IsSaid s.moments n i → CameSo i n s.moments
     → length (lines_of s.moments) < 2 ^ 63 → NodeFits S n s.moments (v.node n) → CarriedUpdates S s.moments
     → (let o : Outcome DiskState = stepped disk_rules c n now ends (v.node n) (v.disk n) i in Stepped S n o.after o.given s)

@@ -24,7 +24,7 @@ request_words (Rows name) text is = absurd (none_some text is)
 requests_read : (h : Header) → ReadsRequests (first_cluster h) (setting_of h)
 requests_read h words text a is so = ap canonical_in is ∙ request_words a text so
 
-reads : (h : Header) → Reads (first_cluster h) (setting_of h)
+pub reads : (h : Header) → Reads (first_cluster h) (setting_of h)
 reads h = record { answers = answers_read h; requests = requests_read h }
 
 pub updates_of_each_run : UpdatesOfEachRun

@@ -53,25 +53,25 @@ use Rattle.run_requests.proofs.Lines.{SameAsk}
 use Rattle.run_requests.proofs.Steps.{Reads}
 
 -- what is known of all nodes
-abbrev knows : (c : Cluster) (s : Scene) → Stage c s → Knows c s.nodes
+abbrev pub knows : (c : Cluster) (s : Scene) → Stage c s → Knows c s.nodes
 knows c s b = record { machine = b.machine; holds = b.holds; stands = b.stands }
 
 -- ---- what comes to a node is true
 
-told_among : (M : Memberships) (from : ℕ) (b : Body) (ls : List Letter) → IsAmong from b ls → AllByRecursion (λ (l : Letter). MessageTold M l.from l.body) ls → MessageTold M from b
+pub told_among : (M : Memberships) (from : ℕ) (b : Body) (ls : List Letter) → IsAmong from b ls → AllByRecursion (λ (l : Letter). MessageTold M l.from l.body) ls → MessageTold M from b
 told_among M from b [] h all = absurd h
 told_among M from b (l ∷ ls) (inl e) all = subst (λ z. MessageTold M z b) e.0 (subst (λ z. MessageTold M l.from z) e.1 all.0)
 told_among M from b (l ∷ ls) (inr h) all = told_among M from b ls h all.1
 
-plain_known : (M : Memberships) (i : Input) → IsPlain i → Known M (delivered_by i)
+pub plain_known : (M : Memberships) (i : Input) → IsPlain i → Known M (delivered_by i)
 plain_known M (input.Packet from m) plain = absurd plain
 plain_known M _ plain = tt
 
-plain_came : (n : ℕ) (ms : List Moment) (i : Input) → IsPlain i → CameSo i n ms
+pub plain_came : (n : ℕ) (ms : List Moment) (i : Input) → IsPlain i → CameSo i n ms
 plain_came n ms (input.Packet from m) plain = absurd plain
 plain_came n ms _ plain = tt
 
-plain_collects : (n : ℕ) (ms : List Moment) (i : Input) → IsPlain i → arrived ms ≡ None → in_collect n ms ≡ collecting (delivered_by i)
+pub plain_collects : (n : ℕ) (ms : List Moment) (i : Input) → IsPlain i → arrived ms ≡ None → in_collect n ms ≡ collecting (delivered_by i)
 plain_collects n ms (input.Packet from m) plain h = absurd plain
 plain_collects n ms _ plain h = nothing_collects n ms h
 
@@ -86,13 +86,13 @@ commanded_moments : (s : Scene) (n d : ℕ) (o : Option Device) (k : PrCommand) 
 commanded_moments s n d None k = refl
 commanded_moments s n d (Some x) k = refl
 
-abbrev FewLines : List Moment → Type 0
+abbrev pub FewLines : List Moment → Type 0
 FewLines ms = length (lines_of ms) < 2 ^ 63
 
 few_taking : (c : Cluster) (n now : ℕ) (ends : method.Outcome) (i : Input) (s : Scene) → FewLines (taking c n now ends i s).moments → FewLines s.moments
 few_taking c n now ends i s h = subst (λ ls. length ls < 2 ^ 63) (passing_used n (given_by c n now ends i s.nodes) _).lines h
 
-few_before : (c : Cluster) (s : Scene) (x : Happening) → FewLines (happened c s x).moments → FewLines s.moments
+pub few_before : (c : Cluster) (s : Scene) (x : Happening) → FewLines (happened c s x).moments → FewLines s.moments
 few_before c s (Speaks e) h = few_longer (line.Event e) (lines_of s.moments) (subst FewLines (armed_moments c e (adding (Said (line.Event e)) s)) h)
 few_before c s (Begins e) h = h
 few_before c s (Notes e) h = h
@@ -126,7 +126,7 @@ quiet_noted S k e ms = record { asks = record { asking = λ q. refl; asked = λ 
 quiet_device : (S : Setting) (k : ℕ) (e : DeviceEntry) (ms : List Moment) → SameAsk S k ms (Told (entry.Device e) ∷ ms)
 quiet_device S k e ms = record { asks = record { asking = λ q. refl; asked = λ q. refl; command = λ q. refl }; proposed = λ f v is. refl }
 
-quiet_packet : (S : Setting) (k : ℕ) (e : PacketEntry) (ms : List Moment) → SameAsk S k ms (Told (entry.Packet e) ∷ ms)
+pub quiet_packet : (S : Setting) (k : ℕ) (e : PacketEntry) (ms : List Moment) → SameAsk S k ms (Told (entry.Packet e) ∷ ms)
 quiet_packet S k e ms = record { asks = record { asking = λ q. refl; asked = λ q. refl; command = λ q. refl }; proposed = λ f v is. refl }
 
 dropped_carries : (S : Setting) (c : Cluster) (o : Option (ℕ × DropCause)) (s : Scene) → Knows c s.nodes → CarriesIn S s → CarriesIn S (dropped_so o s)
@@ -144,15 +144,15 @@ commanded_carries : (S : Setting) (s : Scene) (n d : ℕ) (o : Option Device) (k
 commanded_carries S s n d None k h = h
 commanded_carries S s n d (Some x) k h = record { nodes = h.nodes; carried = h.carried; flying = h.flying }
 
-commanded_knows : (c : Cluster) (s : Scene) (n d : ℕ) (o : Option Device) (k : PrCommand) → Knows c s.nodes → Knows c (commanded_at s n d o k).scene.nodes
+pub commanded_knows : (c : Cluster) (s : Scene) (n d : ℕ) (o : Option Device) (k : PrCommand) → Knows c s.nodes → Knows c (commanded_at s n d o k).scene.nodes
 commanded_knows c s n d None k h = h
 commanded_knows c s n d (Some x) k h = h
 
-commanded_collects : (s : Scene) (n d j : ℕ) (o : Option Device) (k : PrCommand) → arrived s.moments ≡ None → in_collect j (commanded_at s n d o k).scene.moments ≡ collecting None
+pub commanded_collects : (s : Scene) (n d j : ℕ) (o : Option Device) (k : PrCommand) → arrived s.moments ≡ None → in_collect j (commanded_at s n d o k).scene.moments ≡ collecting None
 commanded_collects s n d j None k h = nothing_collects j s.moments h
 commanded_collects s n d j (Some x) k h = nothing_collects j s.moments h
 
-commanded_seats : (s : Scene) (n d j : ℕ) (o : Option Device) (k : PrCommand) → IsSeated s.moments j (s.nodes.node j) → IsSeated (commanded_at s n d o k).scene.moments j ((commanded_at s n d o k).scene.nodes.node j)
+pub commanded_seats : (s : Scene) (n d j : ℕ) (o : Option Device) (k : PrCommand) → IsSeated s.moments j (s.nodes.node j) → IsSeated (commanded_at s n d o k).scene.moments j ((commanded_at s n d o k).scene.nodes.node j)
 commanded_seats s n d j None k h = h
 commanded_seats s n d j (Some x) k h = h
 
@@ -218,21 +218,25 @@ happening_carries S c s (Refuses n d value cause) reads fits may before b seated
 
 -- ---- a run
 
-abbrev Keeps : Setting → Scene → Type 0
+abbrev pub Keeps : Setting → Scene → Type 0
 Keeps S s = FewLines s.moments → CarriesIn S s
 
-first_carries : (S : Setting) (h : Header) (cells : ℕ) → CarriesIn S (first_scene h cells)
+pub first_carries : (S : Setting) (h : Header) (cells : ℕ) → CarriesIn S (first_scene h cells)
 unfolding first_scene
 first_carries S h cells = record { nodes = λ k. tt; carried = tt; flying = tt }
 
-seats_of : (h : Header) (cells : ℕ) (s : Scene) → IsSmall h → IsReached h cells s → AreSeated s
+pub seats_of : (h : Header) (cells : ℕ) (s : Scene) → IsSmall h → IsReached h cells s → AreSeated s
 seats_of h cells s size r = subst AreSeated r.is (memberships_of_each_run h cells r.happenings size.few size.small r.may)
 
-carries_kept : (S : Setting) (h : Header) (cells : ℕ) → Reads (first_cluster h) S → IsSmall h → (s : Scene) (x : Happening) → MayHappen (first_cluster h) s x → IsReached h cells s
+pub carries_kept : (S : Setting) (h : Header) (cells : ℕ) → Reads (first_cluster h) S → IsSmall h → (s : Scene) (x : Happening) → MayHappen (first_cluster h) s x → IsReached h cells s
     → IsReached h cells (happened (first_cluster h) s x) → Keeps S s → Keeps S (happened (first_cluster h) s x)
 carries_kept S h cells reads size s x may at more keeps few =
     let before : FewLines s.moments = few_before (first_cluster h) s x few in
     happening_carries S (first_cluster h) s x reads (first_fit h size.few) may (stage_of h cells s size at) (stage_of h cells (happened (first_cluster h) s x) size more) (seats_of h cells s size at) before (keeps before)
+
+-- .. and so it is in each scene that a run comes to
+pub carries_of : (S : Setting) (h : Header) (cells : ℕ) (s : Scene) → Reads (first_cluster h) S → IsSmall h → IsReached h cells s → Keeps S s
+carries_of S h cells s reads size r = subst (Keeps S) r.is (holds_of_each h cells (Keeps S) (carries_kept S h cells reads size) (λ first. first_carries S h cells) r.happenings r.may)
 
 pub carried_in_each : (S : Setting) (h : Header) (cells : ℕ) (hs : List Happening) → Reads (first_cluster h) S → IsSmall h → MayAllHappen (first_cluster h) (first_scene h cells) hs
     → FewLines (all_happened (first_cluster h) (first_scene h cells) hs).moments → CarriedUpdates S (all_happened (first_cluster h) (first_scene h cells) hs).moments

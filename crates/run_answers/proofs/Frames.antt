@@ -1,0 +1,163 @@
+-- What lines leave of a node's memberships.
+use Rattle.std.specs.Prelude.{ℕ, ◌+◌, ◌≡◌, ◌≢◌, ◌≤◌, ◌==◌, ◌&&◌, ◌||◌, Bool, true, false, cond, List, [], ◌∷◌, Option, None, Some, is_some}
+use Rattle.std.specs.List.{AllByRecursion, count_by}
+use Rattle.std.proofs.Common.{refl, sym, ap, subst, ◌∙◌, arith}
+use Rattle.cl_base.specs.declared.packet.DropCause.{DropCause}
+use Rattle.cmm_attempt.proofs.Basics.{if_either}
+use Rattle.interconnect.specs.Links as links
+use Rattle.interconnect.specs.Links.{sending}
+use Rattle.schedule_text.specs.declared.event.Event.{Event}
+use Rattle.schedule_text.specs.declared.line.Line.{Line}
+use Rattle.status_report.specs.declared.command_entry.CommandEntry.TheVariants as command
+use Rattle.status_report.specs.declared.entry.Entry.{Entry}
+use Rattle.status_report.specs.declared.entry.Entry.TheVariants as entry
+use Rattle.status_report.specs.declared.node_entry.NodeEntry.TheVariants as note
+use Rattle.status_report.specs.declared.packet_entry.PacketEntry.{PacketEntry}
+use Rattle.status_report.specs.declared.packet_entry.PacketEntry.TheVariants as packet
+use Rattle.status_report.specs.declared.update_entry.UpdateEntry.TheVariants as update
+use Rattle.wire.specs.Spelling.{spelling}
+use Rattle.wire.specs.declared.message.Message.{Message}
+use Rattle.history.specs.Member.{member_of}
+use Rattle.history.specs.Moment.{Moment, Part, Said, Told}
+use Rattle.history.specs.Requests.{requests_of, same_words}
+use Rattle.history.specs.Seizing.{is_number}
+use Rattle.history.specs.Setting.{Setting, coordinator}
+use Rattle.node_model.specs.declared.cluster.Cluster.{Cluster}
+use Rattle.node_model.specs.declared.node.UpNode.{UpNode}
+use Rattle.node_model.specs.declared.output.Output.{Output}
+use Rattle.node_model.specs.declared.output.Output.TheVariants.{Sends, Tells}
+use Rattle.node_model.specs.declared.presidency.Presidency.{Presidency}
+use Rattle.node_model.specs.Seats.{session_of}
+use Rattle.proposals.specs.declared.arrived.Arrived.{Arrived}
+use Rattle.world_model.specs.Sends.{is_sent, name_of}
+use Rattle.run_history.specs.Scenes.{Scene, dropped_so, passing, posting, sent_as, telling, with_links}
+use Rattle.run_requests.proofs.Lines.{AreApart, IsApart}
+use Rattle.history.specs.Requests.{is_proposal_with}
+use Rattle.run_answers.specs.Askings.{Test, asked_as, held, proposals, tally}
+use Rattle.run_answers.specs.Steps.{Backed, Frame, Hand, HandIn, Unused, UpSo, past_with}
+use Rattle.run_answers.proofs.Requests.{requests_grow}
+use Rattle.run_answers.proofs.Tally.{le_same, le_then, tally_counts}
+
+-- ---- proposals are counted
+
+zero_plus : (k : ℕ) → 0 + k ≡ k
+zero_plus k = omega arith
+
+tally_proposals : (e : ℕ) (words : List ℕ) (ms : List Moment) → tally (is_proposal_with e words) ms ≡ proposals e words ms
+tally_proposals e words [] = refl
+tally_proposals e words (Told (entry.Update (update.Proposed f v found)) ∷ ms) = ap (λ k. cond ((f == e) && same_words found words) 1 0 + k) (tally_proposals e words ms)
+tally_proposals e words (_ ∷ ms) = zero_plus (tally (is_proposal_with e words) ms) ∙ tally_proposals e words ms
+
+pub count_proposals : (e : ℕ) (words : List ℕ) (ms : List Moment) → count_by (is_proposal_with e words) ms ≡ proposals e words ms
+count_proposals e words ms = tally_counts (is_proposal_with e words) ms ∙ tally_proposals e words ms
+
+-- ---- one line
+
+is_other : (a b : ℕ) → a ≢ b → (a == b) ≡ false
+is_other a b ne = grind arith
+
+no_and : (a b : Bool) → a ≡ false → (a && b) ≡ false
+no_and true b h = cc
+no_and false b h = refl
+
+no_or : (a b : Bool) → a ≡ false → (a || b) ≡ b
+no_or true b h = cc
+no_or false b h = refl
+
+no_more : (b : Bool) (k : ℕ) → b ≡ false → cond b 1 0 + k ≡ k
+no_more true k h = cc
+no_more false k h = zero_plus k
+
+pub frame_same : (S : Setting) (k : ℕ) (ms : List Moment) → Frame S k ms ms
+frame_same S k ms = record { asked = λ q e. refl; proposed = λ e w is. refl; grows = λ T e. le_same (held T (requests_of S e ms)) }
+
+pub frame_then : (S : Setting) (k : ℕ) (a b c : List Moment) → Frame S k a b → Frame S k b c → Frame S k a c
+frame_then S k a b c f g = record {
+  asked = λ q e. g.asked q e ∙ f.asked q e;
+  proposed = λ e w is. g.proposed e w is ∙ f.proposed e w is;
+  grows = λ T e. le_then (held T (requests_of S e a)) (held T (requests_of S e b)) (held T (requests_of S e c)) (f.grows T e) (g.grows T e);
+}
+
+other_epoch : (f e k : ℕ) → coordinator e ≡ k → coordinator f ≢ k → f ≢ e
+other_epoch f e k is ne same = ne (ap coordinator same ∙ is)
+
+pub told_frame : (S : Setting) (k : ℕ) (e : Entry) (ms : List Moment) → IsApart k e → Frame S k ms (Told e ∷ ms)
+told_frame S k (entry.Command (command.Asked m q)) ms ne = record {
+  asked = λ r e. no_or (((m == k) && (q == r)) && is_number e (member_of k ms)) (asked_as k r e ms)
+      (no_and ((m == k) && (q == r)) (is_number e (member_of k ms)) (no_and (m == k) (q == r) (is_other m k ne)));
+  proposed = λ e w is. refl;
+  grows = λ T e. requests_grow S T e (Told (entry.Command (command.Asked m q))) ms;
+}
+told_frame S k (entry.Command (command.Answered m q reply)) ms ne =
+    record { asked = λ r e. refl; proposed = λ e w is. refl; grows = λ T e. requests_grow S T e (Told (entry.Command (command.Answered m q reply))) ms }
+told_frame S k (entry.Update (update.Proposed f v found)) ms ne = record {
+  asked = λ r e. refl;
+  proposed = λ e w is. no_more ((f == e) && same_words found w) (proposals e w ms) (no_and (f == e) (same_words found w) (is_other f e (other_epoch f e k is ne)));
+  grows = λ T e. requests_grow S T e (Told (entry.Update (update.Proposed f v found))) ms;
+}
+told_frame S k (entry.Update (update.Acknowledged f v found)) ms ne =
+    record { asked = λ r e. refl; proposed = λ e w is. refl; grows = λ T e. requests_grow S T e (Told (entry.Update (update.Acknowledged f v found))) ms }
+told_frame S k (entry.Packet e) ms ne = absurd ne
+told_frame S k e ms ne = record { asked = λ r f. refl; proposed = λ f w is. refl; grows = λ T f. requests_grow S T f (Told e) ms }
+
+pub packet_frame : (S : Setting) (k : ℕ) (e : PacketEntry) (ms : List Moment) → Frame S k ms (Told (entry.Packet e) ∷ ms)
+packet_frame S k e ms = record { asked = λ r f. refl; proposed = λ f w is. refl; grows = λ T f. requests_grow S T f (Told (entry.Packet e)) ms }
+
+-- a node comes up
+pub up_frame : (S : Setting) (k n : ℕ) (ms : List Moment) → Frame S k ms (Told (entry.Node n note.Up) ∷ ms)
+up_frame S k n ms = record { asked = λ r f. refl; proposed = λ f w is. refl; grows = λ T f. requests_grow S T f (Told (entry.Node n note.Up)) ms }
+
+pub said_frame : (S : Setting) (k : ℕ) (l : Line) (ms : List Moment) → Frame S k ms (Said l ∷ ms)
+said_frame S k l ms = record { asked = λ r f. refl; proposed = λ f w is. refl; grows = λ T f. requests_grow S T f (Said l) ms }
+
+pub part_frame : (S : Setting) (k : ℕ) (e : Event) (ms : List Moment) → Frame S k ms (Part e ∷ ms)
+part_frame S k e ms = record { asked = λ r f. refl; proposed = λ f w is. refl; grows = λ T f. requests_grow S T f (Part e) ms }
+
+-- ---- what a node gives
+
+pub dropped_frame : (S : Setting) (k : ℕ) (o : Option (ℕ × DropCause)) (s : Scene) → Frame S k s.moments (dropped_so o s).moments
+dropped_frame S k None s = frame_same S k s.moments
+dropped_frame S k (Some drop) s = packet_frame S k (packet.Dropped drop.0 drop.1) s.moments
+
+posting_frame : (S : Setting) (k from to : ℕ) (m : Message) (s : Scene) → Frame S k s.moments (posting from to m s).moments
+posting_frame S k from to m s =
+    let o : links.Outcome = sending s.links from to (spelling m) in
+    let t : Scene = telling (entry.Packet (packet.Sent s.links.next from to (name_of m.body) (spelling m))) (with_links s o.after) in
+    if_either (λ (z : Scene). Frame S k s.moments z.moments) (is_sent s.links m) (sent_as from to m o s) s
+    (frame_then S k s.moments t.moments (dropped_so o.sent.dropped t).moments (packet_frame S k (packet.Sent s.links.next from to (name_of m.body) (spelling m)) s.moments) (dropped_frame S k o.sent.dropped t))
+    (frame_same S k s.moments)
+
+pub passing_frame : (S : Setting) (k n : ℕ) (os : List Output) (s : Scene) → AreApart k os → Frame S k s.moments (passing n os s).moments
+passing_frame S k n [] s h = frame_same S k s.moments
+passing_frame S k n (Tells e ∷ os) s h =
+    frame_then S k s.moments (telling e s).moments (passing n os (telling e s)).moments (told_frame S k e s.moments h.0) (passing_frame S k n os (telling e s) h.1)
+passing_frame S k n (Sends to b ∷ os) s h =
+    let t : Scene = posting n to (record { sender = n; body = b }) s in
+    frame_then S k s.moments t.moments (passing n os t).moments (posting_frame S k n to (record { sender = n; body = b }) s) (passing_frame S k n os t h.1)
+
+-- ---- what stays
+
+pub unused_stays : (S : Setting) (k e : ℕ) (before after : List Moment) → Frame S k before after → Unused k e before → Unused k e after
+unused_stays S k e before after f h = record { asked = λ q. f.asked q e ∙ h.asked q; proposed = λ is w. f.proposed e w is ∙ h.proposed is w }
+
+pub backed_stays : (S : Setting) (c : Cluster) (k e : ℕ) (before after : List Moment) (n q : ℕ) (text : List ℕ) → Frame S k before after → Backed S c e before n q text → Backed S c e after n q text
+backed_stays S c k e before after n q text f h = λ u is. le_then 1 _ _ (h u is) (f.grows _ e)
+
+all_backed : (S : Setting) (c : Cluster) (e : ℕ) (before after : List Moment) (xs : List Arrived) → ((T : Test) → held T (requests_of S e before) ≤ held T (requests_of S e after))
+    → AllByRecursion (λ a. Backed S c e before a.from a.number a.text) xs → AllByRecursion (λ a. Backed S c e after a.from a.number a.text) xs
+all_backed S c e before after [] f h = tt
+all_backed S c e before after (a ∷ xs) f h = (λ u is. le_then 1 _ _ (h.0 u is) (f _), all_backed S c e before after xs f h.1)
+
+-- while nothing is proposed there, and no request is lost
+pub hand_more : (S : Setting) (c : Cluster) (e : ℕ) (before after : List Moment) (o : Option Presidency) → ((T : Test) → held T (requests_of S e before) ≤ held T (requests_of S e after))
+    → (is_some o ≡ true → (w : List ℕ) → proposals e w after ≡ proposals e w before) → HandIn S c before e o → HandIn S c after e o
+hand_more S c e before after None f same h = tt
+hand_more S c e before after (Some p) f same h = record {
+  sound = h.sound;
+  backed = all_backed S c e before after p.proposals.arrived f h.backed;
+  counts = λ w. subst (λ j. j ≤ held (past_with p.proposals w) (requests_of S e after)) (sym (same refl w))
+      (le_then (proposals e w before) (held (past_with p.proposals w) (requests_of S e before)) (held (past_with p.proposals w) (requests_of S e after)) (h.counts w) (f (past_with p.proposals w)));
+}
+
+pub hand_stays : (S : Setting) (c : Cluster) (k e : ℕ) (before after : List Moment) (o : Option Presidency) → Frame S k before after → (is_some o ≡ true → coordinator e ≡ k) → HandIn S c before e o → HandIn S c after e o
+hand_stays S c k e before after o f own h = hand_more S c e before after o (λ T. f.grows T e) (λ so w. f.proposed e w (own so)) h

@@ -1,0 +1,17 @@
+pub mod Tally
+pub mod Askings
+pub mod Requests
+pub mod Hands
+pub mod Asides
+pub mod Courses
+pub mod Frames
+pub mod Waiting
+pub mod Saying
+pub mod Moves
+pub mod Acts
+pub mod Changes
+pub mod Walk
+pub mod Steps
+pub mod Kept
+pub mod Runs
+pub mod Laws

@@ -1,0 +1,122 @@
+-- What a node gives keeps it that its Requests were asked for.
+use Rattle.std.specs.Prelude.{ℕ, ◌≡◌, ◌≤◌, nat_le, Bool, true, false, if◌then◌else◌, List, [], ◌∷◌, length, Option, None, Some, Ok, option_map}
+use Rattle.std.specs.List.{AllByRecursion}
+use Rattle.std.proofs.Common.{refl, sym, ap, subst, ◌∙◌, arith}
+use Rattle.admin_words.specs.Commands.{request_of}
+use Rattle.admin_words.specs.declared.request.Request.TheVariants as wish
+use Rattle.attempt_laws.proofs.Walk.{if_with}
+use Rattle.ccr_tables.specs.declared.update.Update.{Update}
+use Rattle.cl_base.specs.declared.packet.DropCause.{DropCause}
+use Rattle.cmm_attempt.proofs.Basics.{and_cases, same_some}
+use Rattle.interconnect.specs.Links as links
+use Rattle.interconnect.specs.Links.{sending}
+use Rattle.status_report.specs.declared.command_entry.CommandEntry.TheVariants as command
+use Rattle.status_report.specs.declared.entry.Entry.{Entry}
+use Rattle.status_report.specs.declared.entry.Entry.TheVariants as entry
+use Rattle.status_report.specs.declared.node_entry.NodeEntry.TheVariants as note
+use Rattle.status_report.specs.declared.packet_entry.PacketEntry.TheVariants as packet
+use Rattle.status_report.specs.declared.update_entry.UpdateEntry.TheVariants as update
+use Rattle.update_words.specs.Words.{words_of}
+use Rattle.wire.proofs.Messages.{whole_again}
+use Rattle.wire.specs.Spelling.{Fits, spelling}
+use Rattle.wire.specs.declared.message.Body.{Body}
+use Rattle.wire.specs.declared.message.Body.TheVariants as body
+use Rattle.wire.specs.declared.message.Message.{Message}
+use Rattle.history.specs.Letters.{Letter, says}
+use Rattle.history.specs.Member.{member_of}
+use Rattle.history.specs.Moment.{Moment, Told}
+use Rattle.history.specs.Names.{named}
+use Rattle.history.specs.Requests.{asked_in, before_asking, command_of}
+use Rattle.history.specs.Seizing.{is_number}
+use Rattle.history.specs.Setting.{Setting}
+use Rattle.node_model.specs.declared.cluster.Cluster.{Cluster}
+use Rattle.node_model.specs.declared.output.Output.{Output}
+use Rattle.node_model.specs.declared.output.Output.TheVariants.{Sends, Tells}
+use Rattle.node_model.specs.Seats.{version_of}
+use Rattle.node_widths.proofs.Lengths.{sent_messages_fit}
+use Rattle.refinement.specs.Widths.{LetterFits}
+use Rattle.world_model.specs.Sends.{is_sent, name_of}
+use Rattle.run_history.specs.Scenes.{Scene, dropped_so, passing, posting, sent_as, telling, with_links}
+use Rattle.run_messages.specs.Outputs.{AreGood}
+use Rattle.run_requests.proofs.Lines.{SameAsked, passing_ask}
+use Rattle.run_requests.proofs.Plain.{ArePlain, IsPlain, plains_apart}
+use Rattle.run_answers.specs.Steps.{LetterSo, ToldSo}
+
+-- a Request of an update is of a command of its node
+abbrev pub SaysRequest : Setting → Cluster → ℕ → List Moment → Body → Type 0
+SaysRequest S c n ms (body.Request e q text) = (u : Update) → request_of (version_of c) text ≡ Ok (wish.Change u) → asked_in S e n q ms ≡ Some (words_of u)
+SaysRequest S c n ms _ = Unit {0}
+
+abbrev pub OutSays : Setting → Cluster → ℕ → List Moment → Output → Type 0
+OutSays S c n ms (Tells e) = Unit {0}
+OutSays S c n ms (Sends to b) = SaysRequest S c n ms b
+
+abbrev pub AllSay : Setting → Cluster → ℕ → List Moment → List Output → Type 0
+AllSay S c n ms os = AllByRecursion (OutSays S c n ms) os
+
+-- while what the node asked is the same
+asked_same : (S : Setting) (n e q : ℕ) (before after : List Moment) → SameAsked S n before after → asked_in S e n q after ≡ asked_in S e n q before
+asked_same S n e q before after f =
+    ap (λ ms. if is_number e (member_of n ms) then command_of S n q after else None) (f.asking q)
+    ∙ ap (λ o. if is_number e (member_of n (before_asking n q before)) then o else None) (f.command q)
+
+says_stays : (S : Setting) (c : Cluster) (n : ℕ) (before after : List Moment) (b : Body) → SameAsked S n before after → SaysRequest S c n before b → SaysRequest S c n after b
+says_stays S c n before after (body.Request e q text) f h = λ u is. asked_same S n e q before after f ∙ h u is
+says_stays S c n before after _ f h = tt
+
+out_stays : (S : Setting) (c : Cluster) (n : ℕ) (before after : List Moment) (o : Output) → SameAsked S n before after → OutSays S c n before o → OutSays S c n after o
+out_stays S c n before after (Tells e) f h = tt
+out_stays S c n before after (Sends to b) f h = says_stays S c n before after b f h
+
+all_stay : (S : Setting) (c : Cluster) (n : ℕ) (before after : List Moment) (os : List Output) → SameAsked S n before after → AllSay S c n before os → AllSay S c n after os
+all_stay S c n before after [] f h = tt
+all_stay S c n before after (o ∷ os) f h = (out_stays S c n before after o f h.0, all_stay S c n before after os f h.1)
+
+-- ---- one message, one line
+
+letter_so : (S : Setting) (c : Cluster) (n to : ℕ) (b : Body) (ms : List Moment) → Fits (record { sender = n; body = b }) → SaysRequest S c n ms b
+    → LetterSo S c (record { from = n; to = to; name = named (name_of b); bytes = spelling (record { sender = n; body = b }); before = ms })
+letter_so S c n to b ms fits so e q text u is read =
+    by b so (same_some b (body.Request e q text) (sym (ap (λ (o : Option Message). option_map (λ (m : Message). m.body) o) (whole_again (record { sender = n; body = b }) fits)) ∙ is))
+  where
+    by : (z : Body) → SaysRequest S c n ms z → z ≡ body.Request e q text → asked_in S e n q ms ≡ Some (words_of u)
+    by z h same = (subst (λ y. SaysRequest S c n ms y) same h) u read
+
+size : (k : ℕ) → nat_le k 131072 ≡ true → k ≤ 131072
+size k e = grind arith
+
+dropped_told : (S : Setting) (c : Cluster) (o : Option (ℕ × DropCause)) (s : Scene) → ToldSo S c s.moments → ToldSo S c (dropped_so o s).moments
+dropped_told S c None s h = h
+dropped_told S c (Some drop) s h = record { once = (tt, h.once); letters = (tt, h.letters); asked = (tt, h.asked) }
+
+posting_told : (S : Setting) (c : Cluster) (n to : ℕ) (b : Body) (s : Scene) → LetterFits (record { from = n; body = b }) → SaysRequest S c n s.moments b → ToldSo S c s.moments
+    → ToldSo S c (posting n to (record { sender = n; body = b }) s).moments
+posting_told S c n to b s fits so h =
+    let m : Message = record { sender = n; body = b } in
+    let o : links.Outcome = sending s.links n to (spelling m) in
+    if_with (λ (t : Scene). ToldSo S c t.moments) (is_sent s.links m) (is_sent s.links m) (sent_as n to m o s) s refl
+    (λ e. dropped_told S c o.sent.dropped (telling (entry.Packet (packet.Sent s.links.next n to (name_of m.body) (spelling m))) (with_links s o.after)) (record {
+      once = (tt, h.once);
+      letters = (letter_so S c n to b s.moments (sent_messages_fit m fits.0 fits.1 (size (length (spelling m)) (and_cases _ _ e).0)) so, h.letters);
+      asked = (tt, h.asked);
+    }))
+    (λ e. h)
+
+pub told_plain : (S : Setting) (c : Cluster) (e : Entry) (ms : List Moment) → IsPlain e → ToldSo S c ms → ToldSo S c (Told e ∷ ms)
+told_plain S c (entry.Node m note.Up) ms h k = absurd h
+told_plain S c (entry.Command (command.Asked m q)) ms h k = absurd h
+told_plain S c (entry.Command (command.Answered m q reply)) ms h k = record { once = (tt, k.once); letters = (tt, k.letters); asked = (tt, k.asked) }
+told_plain S c (entry.Update (update.Proposed e v words)) ms h k = absurd h
+told_plain S c (entry.Update (update.Acknowledged e v words)) ms h k = record { once = (tt, k.once); letters = (tt, k.letters); asked = (tt, k.asked) }
+told_plain S c (entry.Packet e) ms h k = absurd h
+told_plain S c _ ms h k = record { once = (tt, k.once); letters = (tt, k.letters); asked = (tt, k.asked) }
+
+-- all that a node gives, where it asks nothing and proposes nothing
+pub passing_told : (S : Setting) (c : Cluster) (n : ℕ) (os : List Output) (s : Scene) → AreGood n os → ArePlain os → AllSay S c n s.moments os → ToldSo S c s.moments → ToldSo S c (passing n os s).moments
+passing_told S c n [] s good plain say h = h
+passing_told S c n (Tells e ∷ os) s good plain say h =
+    passing_told S c n os (telling e s) good.1 plain.1
+    (all_stay S c n s.moments (telling e s).moments os (passing_ask S n n (Tells e ∷ []) s (plains_apart n (Tells e ∷ []) (plain.0, tt))).asks say.1) (told_plain S c e s.moments plain.0 h)
+passing_told S c n (Sends to b ∷ os) s good plain say h =
+    passing_told S c n os (posting n to (record { sender = n; body = b }) s) good.1 plain.1
+    (all_stay S c n s.moments (posting n to (record { sender = n; body = b }) s).moments os (passing_ask S n n (Sends to b ∷ []) s (tt, tt)).asks say.1) (posting_told S c n to b s good.0 say.0 h)

@@ -1,0 +1,7 @@
+-- what a reader must believe
+pub mod Laws
+-- what only the proofs need
+pub mod Askings
+pub mod Hands
+pub mod Guards
+pub mod Steps
