@@ -12,6 +12,10 @@ pub mod Offices
 pub mod Hearing
 pub mod Readings
 pub mod Explained
+pub mod Counting
+pub mod Presiding
+pub mod PresidingRuns
+pub mod Fitting
 pub mod ReadWalk
 pub mod ReadSteps
 pub mod ReadRuns

@@ -51,15 +51,15 @@ use Rattle.run_commands.proofs.Waiting.{Leaves, WaitOn, packet_leaves, part_wait
 use Rattle.run_commands.proofs.Walk.{NodeOwes}
 
 -- the commands of a node that wait are those in its queue, with no more numbers than lines
-abbrev NodeFits : ℕ → List Moment → Node → Type 0
+abbrev pub NodeFits : ℕ → List Moment → Node → Type 0
 NodeFits k ms Down = Unit {0}
 NodeFits k ms (Up x) = Owed k ms Free x.requests.asked x.requests.waiting × (x.requests.asked ≤ used_lines ms)
 
-record Waits (v : Nodes) (ms : List Moment) : Type 0 where
-  nodes : (k : ℕ) → NodeFits k ms (v.node k)
-  said : AnswersWait ms
+pub record Waits (v : Nodes) (ms : List Moment) : Type 0 where
+  pub nodes : (k : ℕ) → NodeFits k ms (v.node k)
+  pub said : AnswersWait ms
 
-abbrev WaitsIn : Scene → Type 0
+abbrev pub WaitsIn : Scene → Type 0
 WaitsIn s = Waits s.nodes s.moments
 
 -- ---- a node that does nothing
@@ -75,7 +75,7 @@ moment_waits v m ms l h = record { nodes = λ k. node_stays k (v.node k) ms (m �
 
 -- ---- a node that takes something
 
-abbrev FewLines : List Moment → Type 0
+abbrev pub FewLines : List Moment → Type 0
 FewLines ms = length (lines_of ms) < 2 ^ 63
 
 step_by : (c : Cluster) (n now : ℕ) (ends : method.Outcome) (i : Input) (replies : List Reply) (node : Node) (disk : NodeRecord) (s : Scene) → IsSaid s.moments n i → FewLines s.moments
@@ -133,7 +133,7 @@ commanded_moments s n d (Some x) k = refl
 few_taking : (c : Cluster) (n now : ℕ) (ends : method.Outcome) (i : Input) (s : Scene) → FewLines (taking c n now ends i s).moments → FewLines s.moments
 few_taking c n now ends i s h = subst (λ ls. length ls < 2 ^ 63) (passing_used n (given_by c n now ends i s.nodes) _).lines h
 
-few_before : (c : Cluster) (s : Scene) (x : Happening) → FewLines (happened c s x).moments → FewLines s.moments
+pub few_before : (c : Cluster) (s : Scene) (x : Happening) → FewLines (happened c s x).moments → FewLines s.moments
 few_before c s (Speaks e) h = few_longer (line.Event e) (lines_of s.moments) (subst FewLines (armed_moments c e (adding (Said (line.Event e)) s)) h)
 few_before c s (Begins e) h = h
 few_before c s (Notes e) h = h
@@ -204,7 +204,7 @@ unfolding first_scene
 first_waits h cells = record { nodes = λ k. tt; said = tt }
 
 pub waits_in_each : (h : Header) (cells : ℕ) (hs : List Happening) → MayAllHappen (first_cluster h) (first_scene h cells) hs
-    → FewLines (all_happened (first_cluster h) (first_scene h cells) hs).moments → AnswersWait (all_happened (first_cluster h) (first_scene h cells) hs).moments
+    → FewLines (all_happened (first_cluster h) (first_scene h cells) hs).moments → WaitsIn (all_happened (first_cluster h) (first_scene h cells) hs)
 waits_in_each h cells hs may few =
-    (kept_holds (first_cluster h) Keeps (λ s x now keeps more. happening_waits (first_cluster h) s x now (few_before (first_cluster h) s x more) (keeps (few_before (first_cluster h) s x more)))
-    (first_scene h cells) hs may (λ first. first_waits h cells) few).said
+    kept_holds (first_cluster h) Keeps (λ s x now keeps more. happening_waits (first_cluster h) s x now (few_before (first_cluster h) s x more) (keeps (few_before (first_cluster h) s x more)))
+    (first_scene h cells) hs may (λ first. first_waits h cells) few

@@ -1,4 +1,5 @@
 -- what a reader must believe
+pub mod Own
 pub mod Laws
 -- what only the proofs need
 pub mod Answers
