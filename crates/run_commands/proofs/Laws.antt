@@ -10,7 +10,8 @@ use Rattle.history.specs.Setting.{Setting}
 use Rattle.history_setting.specs.Settings.{setting_of}
 use Rattle.run_commands.specs.Answers.{AnswerWaits, AnswersWait, AreReasoned, IsExplained}
 use Rattle.run_commands.specs.Own.{OwnAnswersFit}
-use Rattle.run_commands.specs.Laws.{AnswersOnceInEachRun, OwnAnswersFitInEachRun}
+use Rattle.run_commands.specs.Laws.{AnswersOnceInEachRun, CommandsAreNumberedInEachRun, OwnAnswersFitInEachRun}
+use Rattle.run_commands.specs.Numbered.{CommandsAreNumbered, IsNumberedSo}
 use Rattle.run_commands.proofs.ReadRuns.{reasons_in_each}
 use Rattle.run_commands.proofs.Runs.{waits_in_each}
 
@@ -43,3 +44,17 @@ fit S (x ∷ before) k = (k.0.1, fit S before k.1)
 
 pub own_answers_fit_in_each_run : OwnAnswersFitInEachRun
 own_answers_fit_in_each_run h cells hs few small may lines = fit (setting_of h) _ (reasons_in_each h cells hs (record { few = few; small = small }) may lines)
+
+line_numbered : (before : List Moment) (e : Entry) → AnswerWaits before (Told e) → IsNumberedSo before (Told e)
+line_numbered before (entry.Command (command.Asked n q)) h = h
+line_numbered before (entry.Command (command.Answered n q reply)) h = tt
+line_numbered before _ h = tt
+
+numbered : (moments : List Moment) → AnswersWait moments → CommandsAreNumbered moments
+numbered [] h = tt
+numbered (Said l ∷ before) h = (tt, numbered before h.1)
+numbered (Part e ∷ before) h = (tt, numbered before h.1)
+numbered (Told e ∷ before) h = (line_numbered before e h.0, numbered before h.1)
+
+pub commands_are_numbered_in_each_run : CommandsAreNumberedInEachRun
+commands_are_numbered_in_each_run h cells hs few small may lines = numbered _ (waits_in_each h cells hs may lines).said

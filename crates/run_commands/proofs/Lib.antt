@@ -1,4 +1,5 @@
 pub mod Waiting
+pub mod Numbers
 pub mod Owed
 pub mod Asides
 pub mod Courses

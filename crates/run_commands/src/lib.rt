@@ -4,7 +4,7 @@
 //! all agents.
 #![tactic(auto)]
 
-ghost use Rattle.run_commands.specs.Laws.{AnswersOnceInEachRun, OwnAnswersFitInEachRun};
+ghost use Rattle.run_commands.specs.Laws.{AnswersOnceInEachRun, CommandsAreNumberedInEachRun, OwnAnswersFitInEachRun};
 
 /// At each `answered` line of a node the command waits: the node asked it since it went up, and has not answered it since. `unknown` is
 /// answered only where the membership in which it was asked has ended, and what a node answers by itself stands in the event of the command.
@@ -17,4 +17,9 @@ pub fn answers_once_in_each_run()
 /// is no member, or that another node, the president, is to be asked, or that too many requests wait.
 pub fn own_answers_fit_in_each_run()
     ensures { OwnAnswersFitInEachRun }
+{}
+
+/// A command has the number after that of the last command of its node since it went up, or a greater one where a monitor asked in between.
+pub fn commands_are_numbered_in_each_run()
+    ensures { CommandsAreNumberedInEachRun }
 {}
