@@ -1,7 +1,7 @@
 -- No more commands have a request in the queue of a node than wait, so a queue that is full is full of commands and of monitors' requests.
 use Rattle.std.specs.Prelude.{ℕ, ◌+◌, ◌≡◌, ◌≢◌, ◌≤◌, ◌==◌, ◌&&◌, ◌||◌, nat_le, not, Bool, true, false, List, [], ◌∷◌, length, if◌then◌else◌}
 use Rattle.std.specs.List.{AllByRecursion, count_by, list_any}
-use Rattle.std.proofs.Common.{refl, sym, ap, subst, ◌∙◌, arith}
+use Rattle.std.proofs.Common.{refl, sym, ap, subst, arith}
 use Rattle.std.proofs.lemmas.List.Recursion.{is_count_by}
 use Rattle.cmm_attempt.proofs.Basics.{and_cases, false_true, same_number}
 use Rattle.request_queue.specs.declared.request.Request.{Request}
@@ -18,7 +18,7 @@ use Rattle.history.specs.Setting.{Setting}
 use Rattle.run_commands.specs.Guards.Hand.{Free}
 use Rattle.run_commands.specs.Own.{FitsCase}
 use Rattle.run_commands.proofs.Owed.{AreDue, AreOnce, Others, Owed, is_untold}
-use Rattle.run_commands.proofs.Waiting.{answered_since, le_then, monitors_of, tally}
+use Rattle.run_commands.proofs.Waiting.{le_then, tally}
 
 -- ---- the line of a command
 

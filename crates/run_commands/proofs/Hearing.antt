@@ -6,8 +6,6 @@ use Rattle.std.proofs.Common.{refl, sym, ap, subst, ◌∙◌, inl, arith}
 use Rattle.std.proofs.lemmas.Nat.{mod-mul-add}
 use Rattle.std.proofs.lemmas.Slice.Eq.{bytes_eq-Decides}
 use Rattle.admin_words.specs.Commands.{request_of}
-use Rattle.admin_words.specs.declared.error.WordError.{WordError}
-use Rattle.admin_words.specs.declared.error.WordError.TheVariants as error
 use Rattle.ccr_commit.specs.Entries.{texts_of}
 use Rattle.cl_base.specs.Names.{IsName}
 use Rattle.cl_base.specs.declared.header.Version.{Version}
@@ -22,7 +20,7 @@ use Rattle.node_model.specs.Configurations.{own_config}
 use Rattle.node_model.specs.Deciding.{order_sent, orders_sent}
 use Rattle.node_model.specs.Groups.{asked_by, call_told, order_again, order_again_to, order_at, order_told, orders_again_by, orders_again_of}
 use Rattle.node_model.specs.Members.{is_foreign, is_ok}
-use Rattle.node_model.specs.Presidents.{answer_given, own_line, told_lines, word_answer}
+use Rattle.node_model.specs.Presidents.{answer_given, own_line, told_lines}
 use Rattle.node_model.specs.Seats.{session_of, state_of, version_of}
 use Rattle.node_model.specs.declared.cluster.Cluster.{Cluster}
 use Rattle.node_model.specs.declared.input.Input.{Input}

@@ -1,9 +1,8 @@
 -- A member that coordinates its membership is its president.
-use Rattle.std.specs.Prelude.{ℕ, ◌≡◌, ◌≢◌, ◌<◌, ◌⊎◌, All, Bool, true, false, List, [], ◌∷◌, Option, None, Some, is_some}
-use Rattle.std.specs.List.{AllByRecursion}
-use Rattle.std.proofs.Common.{refl, sym, ap, subst, ◌∙◌, inl, inr}
+use Rattle.std.specs.Prelude.{ℕ, ◌≡◌, ◌<◌, All, true, false, List, [], ◌∷◌, Option, None, Some, is_some}
+use Rattle.std.proofs.Common.{refl, sym, ap, subst, ◌∙◌}
 use Rattle.cl_base.specs.Sets.{has, set_without}
-use Rattle.cmm_attempt.proofs.Basics.{false_true, if_either}
+use Rattle.cmm_attempt.proofs.Basics.{if_either}
 use Rattle.cmm_attempt.specs.Attempts.{AttemptState}
 use Rattle.cmm_attempt.specs.Calls.{IsDevice}
 use Rattle.cmm_member.specs.Machine.{Shows}
@@ -15,7 +14,7 @@ use Rattle.membership_machine.specs.Invariant.{EpochOk, Holds}
 use Rattle.membership_machine.specs.State.{Memberships}
 use Rattle.seize.specs.Seizing as seizing
 use Rattle.wire.specs.declared.message.Body.TheVariants as body
-use Rattle.node_model.specs.Members.{promised_so, rested_by}
+use Rattle.node_model.specs.Members.{rested_by}
 use Rattle.node_model.specs.Seats.{promising, record_of, state_of, with_state}
 use Rattle.node_model.specs.Updates.{later_presidency}
 use Rattle.node_model.specs.declared.cluster.Cluster.{Cluster}

@@ -1,7 +1,7 @@
 -- In each run a member that coordinates its membership is its president.
 use Rattle.std.specs.Prelude.{ℕ, ◌-◌, ◌≡◌, ◌≢◌, ◌≤◌, ◌⊎◌, All, List, [], ◌∷◌, Option, None, Some, slice_get}
 use Rattle.std.specs.List.{AllByRecursion}
-use Rattle.std.proofs.Common.{refl, sym, subst, inl, inr}
+use Rattle.std.proofs.Common.{sym, subst, inl, inr}
 use Rattle.cl_base.specs.declared.header.Header.{Header}
 use Rattle.cl_base.specs.declared.method.Outcome as method
 use Rattle.cl_base.specs.declared.packet.DropCause.{DropCause}
@@ -25,7 +25,7 @@ use Rattle.refinement.proofs.Facts.{step_may}
 use Rattle.refinement.proofs.Handlers.{delivered_by}
 use Rattle.refinement.proofs.Replies.{steps_are_cut}
 use Rattle.refinement.specs.Cuts.{doings}
-use Rattle.refinement.specs.Doings.{Doing, Site, after_all, site}
+use Rattle.refinement.specs.Doings.{Doing, Site, site}
 use Rattle.refinement.specs.Runs.{IsAmong, Letter, Nodes, moved}
 use Rattle.refinement.specs.Runs.Move.{Takes as Takes_in}
 use Rattle.refinement.specs.Steps.{IsCut, disk_rules}
@@ -43,7 +43,7 @@ use Rattle.run_history.proofs.MemberRuns.{first_fit}
 use Rattle.run_history.specs.Happenings.{Arrives, Begins, Commands, Happening, IsPlain, Loses, MayAllHappen, MayHappen, Misses, Notes, Refuses, Repeats, Speaks, Strays, Takes, Writes, all_happened, armed_by, commanded, commanded_at, given_by, happened, removed, taking}
 use Rattle.run_history.specs.Scenes.{Scene, adding, dropped_so, first_scene, telling, with_links}
 use Rattle.run_history.specs.Stages.{Stage}
-use Rattle.run_messages.proofs.Reaching.{IsReached, IsSmall, holds_of_each, stage_of}
+use Rattle.run_messages.proofs.Reaching.{IsSmall, holds_of_each, stage_of}
 use Rattle.run_messages.proofs.Runs.{Knows}
 use Rattle.run_commands.proofs.Presiding.{NodePresides, all_preside}
 

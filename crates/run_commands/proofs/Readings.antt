@@ -99,7 +99,7 @@ use Rattle.node_model.specs.Attempts.{promise_of, resting}
 use Rattle.node_model.specs.Presidents.{orders_for}
 use Rattle.node_model.specs.Seats.{promising}
 use Rattle.std.specs.Prelude.{ℕ, zero, suc, ◌≡◌, ◌≤◌, ◌==◌, ◌&&◌, nat_le, nat_lt, not, Bool, true, false, List, [], ◌∷◌, length, Option, None, Some, IfSome, Result, Ok, Err, is_some, if◌then◌else◌}
-use Rattle.std.proofs.Common.{refl, sym, ap, subst, inl, inr}
+use Rattle.std.proofs.Common.{refl, ap, subst, inl, inr}
 use Rattle.admin_words.specs.Commands.{command_of}
 use Rattle.history.specs.Setting.{coordinator}
 use Rattle.node_model.specs.Configurations.{own_config}
