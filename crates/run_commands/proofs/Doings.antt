@@ -29,6 +29,7 @@ use Rattle.run_history.specs.Scenes.{Scene, passing, telling}
 use Rattle.run_commands.specs.Guards.{ActSo, AnswersOne, AreQuiet, ChangeSo, Hand, IsQuietOutput}
 use Rattle.run_commands.specs.Guards.Hand.{Free}
 use Rattle.run_commands.specs.Answers.{AnswersWait}
+use Rattle.run_commands.proofs.Numbers.{AreSteady, IsSteadyOutput, quiets_steady}
 use Rattle.run_commands.proofs.Owed.{Answered, AreDue, AreLow, AreOnce, Owed, due_others, due_stays, fresh_still, owed_answered, owed_moved, owed_none, owed_stays}
 use Rattle.run_commands.proofs.Quiet.{GoesOn, ended_quiet, first_quiet, last_quiet, spread_quiet, superseded_quiet, ticked_quiet, write_quiet}
 use Rattle.run_commands.proofs.Waiting.{AreApart, IsApartOutput, Leaves, answered_since, passing_quiet, quiets_apart}
@@ -39,6 +40,7 @@ pub record Left (n : ℕ) (g : Hand) (before : Queue) (after : Queue) (os : List
   pub last_so : after.asked ≡ before.asked
   pub said : AnswersWait (passing n os s).moments
   pub apart : (k : ℕ) → k ≢ n → AreApart k os
+  pub steady : AreSteady os
 
 -- what is known before
 pub record Was (n : ℕ) (h : Hand) (q : Queue) (s : Scene) : Type 0 where
@@ -56,6 +58,7 @@ moved_left n h g before after os s quiet asked goes w =
       last_so = asked;
       said = l.said w.said;
       apart = λ k ne. quiets_apart k os quiet;
+      steady = quiets_steady os quiet;
     }
 
 -- the queue has the same requests and numbers
@@ -75,6 +78,7 @@ Fresh n top ms = (k : ℕ) → top < k → answered_since n k ms ≡ false
 record Ended (n top : ℕ) (os : List Output) (s : Scene) : Type 0 where
   said : AnswersWait (passing n os s).moments
   apart : (k : ℕ) → k ≢ n → AreApart k os
+  steady : AreSteady os
   fresh : Fresh n top (passing n os s).moments
 
 ended_more : (n top : ℕ) (r : Request) (rs : List Request) (s : Scene) → AreOnce (r ∷ rs) → AreLow top (r ∷ rs) → AreDue n s.moments (r ∷ rs) → Fresh n top s.moments → AnswersWait s.moments
@@ -84,12 +88,12 @@ ended_more n top r rs s once low due fresh said next true is =
     let t : Scene = telling (answered_line n r.number Unknown) s in
     let e : Ended n top (unknown_lines n rs) t =
     next t (due_others n r.number Unknown s.moments rs once.0 due.1) (fresh_still n r.number Unknown s.moments top low.0 fresh) ((due.0 is).0, said) in
-    record { said = e.said; apart = λ k ne. ((λ same. ne (sym same)), e.apart k ne); fresh = e.fresh }
+    record { said = e.said; apart = λ k ne. ((λ same. ne (sym same)), e.apart k ne); steady = (tt, e.steady); fresh = e.fresh }
 ended_more n top r rs s once low due fresh said next false is = next s due.1 fresh said
 
 unknown_said : (n top : ℕ) (rs : List Request) (s : Scene) → AreOnce rs → AreLow top rs → AreDue n s.moments rs → Fresh n top s.moments → AnswersWait s.moments
     → Ended n top (unknown_lines n rs) s
-unknown_said n top [] s once low due fresh said = record { said = said; apart = λ k ne. tt; fresh = fresh }
+unknown_said n top [] s once low due fresh said = record { said = said; apart = λ k ne. tt; steady = tt; fresh = fresh }
 unknown_said n top (r ∷ rs) s once low due fresh said = ended_more n top r rs s once low due fresh said (λ t d f a. unknown_said n top rs t once.1 low.1 d f a) r.told refl
 
 -- behind quiet lines
@@ -107,6 +111,7 @@ ended_left n before after os s quiet none asked w =
       last_so = asked;
       said = subst (λ (z : Scene). AnswersWait z.moments) (sym (passing_append n os (unknown_lines n before.waiting) s)) e.said;
       apart = λ k ne. both (IsApartOutput k) os (unknown_lines n before.waiting) (quiets_apart k os quiet) (e.apart k ne);
+      steady = both IsSteadyOutput os (unknown_lines n before.waiting) (quiets_steady os quiet) e.steady;
     }
 
 -- ---- changes
@@ -190,7 +195,7 @@ change_left c n x (Commits t) middle h g s so saving w = steady_left c n x (Comm
 answer_left : (n : ℕ) (h g : Hand) (q : Queue) (os : List Output) (s : Scene) → AnswersOne n h q.waiting os g → Was n h q s → Left n g q q os s
 answer_left n h g q os s a w =
     let k : Answered n s.moments a.number a.reply g q.asked q.waiting = owed_answered n s.moments h a.number a.reply g q.asked q.waiting a.may w.owed in
-    subst (λ z. Left n g q q z s) (sym a.is) (record { owed = k.owed; last_so = refl; said = (k.waits_so, w.said); apart = λ j ne. ((λ same. ne (sym same)), tt) })
+    subst (λ z. Left n g q q z s) (sym a.is) (record { owed = k.owed; last_so = refl; said = (k.waits_so, w.said); apart = λ j ne. ((λ same. ne (sym same)), tt); steady = (tt, tt) })
 
 given_left : (n : ℕ) (h g : Hand) (q : Queue) (os : List Output) (s : Scene) → (AreQuiet os × (g ≡ h)) ⊎ AnswersOne n h q.waiting os g → Was n h q s → Left n g q q os s
 given_left n h g q os s (inl so) w = same_left n h g q q os s so.0 refl refl so.1 w

@@ -6,8 +6,6 @@ use Rattle.std.proofs.Common.{refl, sym, ap, subst, ◌∙◌, inl, arith}
 use Rattle.std.proofs.lemmas.Nat.{mod-mul-add}
 use Rattle.std.proofs.lemmas.Slice.Eq.{bytes_eq-Decides}
 use Rattle.admin_words.specs.Commands.{request_of}
-use Rattle.admin_words.specs.declared.error.WordError.{WordError}
-use Rattle.admin_words.specs.declared.error.WordError.TheVariants as error
 use Rattle.ccr_commit.specs.Entries.{texts_of}
 use Rattle.cl_base.specs.Names.{IsName}
 use Rattle.cl_base.specs.declared.header.Version.{Version}
@@ -22,7 +20,7 @@ use Rattle.node_model.specs.Configurations.{own_config}
 use Rattle.node_model.specs.Deciding.{order_sent, orders_sent}
 use Rattle.node_model.specs.Groups.{asked_by, call_told, order_again, order_again_to, order_at, order_told, orders_again_by, orders_again_of}
 use Rattle.node_model.specs.Members.{is_foreign, is_ok}
-use Rattle.node_model.specs.Presidents.{answer_given, own_line, told_lines, word_answer}
+use Rattle.node_model.specs.Presidents.{answer_given, own_line, told_lines}
 use Rattle.node_model.specs.Seats.{session_of, state_of, version_of}
 use Rattle.node_model.specs.declared.cluster.Cluster.{Cluster}
 use Rattle.node_model.specs.declared.input.Input.{Input}
@@ -61,7 +59,7 @@ use Rattle.wire.specs.declared.message.Body.{Body}
 use Rattle.wire.specs.declared.message.Body.TheVariants as body
 use Rattle.wire.specs.declared.message.Message.{Message}
 use Rattle.wire.specs.declared.message.Order.{Order}
-use Rattle.run_commands.specs.Reads.{AllSo, BodySo, CameSo, ChangeReads, IsPresidents, IsRead, IsStarting, OutputSo, collects, is_unknown}
+use Rattle.run_commands.specs.Reads.{AllSo, BodySo, CameSo, ChangeReads, IsPresidents, IsRead, IsStarting, OwnReplies, OutputSo, collects}
 use Rattle.run_commands.proofs.Texts.{IsMonitors, answer_loud}
 
 -- ---- lines and messages of other things
@@ -71,57 +69,51 @@ other_so (body.Request e q text) is = absurd is
 other_so (body.Answer e q text) is = absurd is
 other_so _ is = tt
 
-pub lines_so : (me : ℕ) (o : Option ℕ) (lines : List StatusEntry) → AllSo me o (told_lines lines)
+pub lines_so : (me : ℕ) (o : OwnReplies) (lines : List StatusEntry) → AllSo me o (told_lines lines)
 lines_so me o lines = mapped (OutputSo me o) (λ l. Tells (entry.Status l)) lines (λ l. tt)
 
-pub orders_so : (me : ℕ) (o : Option ℕ) (orders : List (ℕ × Order)) → AllSo me o (orders_sent me orders)
+pub orders_so : (me : ℕ) (o : OwnReplies) (orders : List (ℕ × Order)) → AllSo me o (orders_sent me orders)
 unfolding orders_sent
 orders_so me o orders = of_each (OutputSo me o) (order_sent me) orders (λ e. if_either (AllSo me o) (e.0 == me) [] _ tt (tt, tt))
 
-call_so : (me : ℕ) (o : Option ℕ) (order : Order) (outcome : Outcome) (m : Option Method) → AllSo me o (call_told me order outcome m)
+call_so : (me : ℕ) (o : OwnReplies) (order : Order) (outcome : Outcome) (m : Option Method) → AllSo me o (call_told me order outcome m)
 call_so me o order outcome None = tt
 call_so me o order outcome (Some m) = (tt, (tt, tt))
 
-pub order_so_told : (me : ℕ) (o : Option ℕ) (order : Order) (how : Carried) → AllSo me o (order_told me order how)
+pub order_so_told : (me : ℕ) (o : OwnReplies) (order : Order) (how : Carried) → AllSo me o (order_told me order how)
 order_so_told me o order (carried.Called outcome) = call_so me o order outcome order.method
 order_so_told me o order carried.Cleared = tt
 order_so_told me o order (carried.Kept outcome) = tt
 order_so_told me o order carried.Old = tt
 
-again_to : (me : ℕ) (o : Option ℕ) (n : ℕ) (order : Option Order) → AllSo me o (order_again_to n order)
+again_to : (me : ℕ) (o : OwnReplies) (n : ℕ) (order : Option Order) → AllSo me o (order_again_to n order)
 again_to me o n None = tt
 again_to me o n (Some order) = (tt, tt)
 
-pub again_so : (me : ℕ) (o : Option ℕ) (before after : Option Presidency) → AllSo me o (orders_again_by before after)
+pub again_so : (me : ℕ) (o : OwnReplies) (before after : Option Presidency) → AllSo me o (orders_again_by before after)
 unfolding orders_again_of
 again_so me o None after = tt
 again_so me o (Some before) None = tt
 again_so me o (Some before) (Some after) =
     of_each (OutputSo me o) (order_again _ after.groups) _ (λ n. if_either (AllSo me o) _ (order_again_to n (order_at n after.groups)) [] (again_to me o n (order_at n after.groups)) tt)
 
-forgot_so : (me : ℕ) (o : Option ℕ) (name : List ℕ) (k : Option ServedClient) → AllSo me o (forgot_lines name k)
+forgot_so : (me : ℕ) (o : OwnReplies) (name : List ℕ) (k : Option ServedClient) → AllSo me o (forgot_lines name k)
 forgot_so me o name None = tt
 forgot_so me o name (Some k) = (tt, tt)
 
-pub served_so : (me : ℕ) (o : Option ℕ) (name : List ℕ) (client port : ℕ) (k : serving.Outcome) → AllSo me o (served_lines name client port k)
+pub served_so : (me : ℕ) (o : OwnReplies) (name : List ℕ) (client port : ℕ) (k : serving.Outcome) → AllSo me o (served_lines name client port k)
 served_so me o name client port k = both (OutputSo me o) (forgot_lines name k.forgot) _ (forgot_so me o name k.forgot) (tt, tt)
 
 -- ---- the president's answers
 
-pub own_line_so : (me : ℕ) (o : Option ℕ) (told : Answer) (r : Option Request) → is_silent told ≡ false → AllSo me o (own_line me told r)
+pub own_line_so : (me : ℕ) (o : OwnReplies) (told : Answer) (r : Option Request) → is_silent told ≡ false → AllSo me o (own_line me told r)
 own_line_so me o told None loud = tt
 own_line_so me o told (Some r) loud = if_either (AllSo me o) r.told _ [] ((refl, inl loud), tt) tt
 
-pub given_so : (me : ℕ) (o : Option ℕ) (x : UpNode) (a : Arrived) (told : Answer) → is_silent told ≡ false → AllSo me o (answer_given me x a told)
+pub given_so : (me : ℕ) (o : OwnReplies) (x : UpNode) (a : Arrived) (told : Answer) → is_silent told ≡ false → AllSo me o (answer_given me x a told)
 given_so me o x a told loud =
     if_either (AllSo me o) (a.from == me) (own_line me told (found x.requests.waiting a.number)) (Sends a.from (body.Answer (session_of x) a.number (reply_text told)) ∷ [])
     (own_line_so me o told (found x.requests.waiting a.number) loud) (answer_loud told loud, tt)
-
-pub word_known : (e : WordError) → is_unknown (word_answer e) ≡ false
-word_known error.UnknownCommand = refl
-word_known error.MissingOperand = refl
-word_known error.BadValue = refl
-word_known error.NoMemory = refl
 
 -- ---- changes
 

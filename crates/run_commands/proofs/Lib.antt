@@ -1,4 +1,5 @@
 pub mod Waiting
+pub mod Numbers
 pub mod Owed
 pub mod Asides
 pub mod Courses
@@ -12,6 +13,10 @@ pub mod Offices
 pub mod Hearing
 pub mod Readings
 pub mod Explained
+pub mod Counting
+pub mod Presiding
+pub mod PresidingRuns
+pub mod Fitting
 pub mod ReadWalk
 pub mod ReadSteps
 pub mod ReadRuns

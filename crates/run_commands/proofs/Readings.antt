@@ -99,7 +99,7 @@ use Rattle.node_model.specs.Attempts.{promise_of, resting}
 use Rattle.node_model.specs.Presidents.{orders_for}
 use Rattle.node_model.specs.Seats.{promising}
 use Rattle.std.specs.Prelude.{ℕ, zero, suc, ◌≡◌, ◌≤◌, ◌==◌, ◌&&◌, nat_le, nat_lt, not, Bool, true, false, List, [], ◌∷◌, length, Option, None, Some, IfSome, Result, Ok, Err, is_some, if◌then◌else◌}
-use Rattle.std.proofs.Common.{refl, subst, inr}
+use Rattle.std.proofs.Common.{refl, ap, subst, inl, inr}
 use Rattle.admin_words.specs.Commands.{command_of}
 use Rattle.history.specs.Setting.{coordinator}
 use Rattle.node_model.specs.Configurations.{own_config}
@@ -111,14 +111,15 @@ use Rattle.rgm_member.specs.Probes.{probed}
 use Rattle.rgm_member.specs.declared.probed.Probed.{Probed}
 use Rattle.rgm_member.specs.declared.probed.Probed.TheVariants as probe
 use Rattle.run_history.proofs.Lists.{all_and}
+use Rattle.history_setting.specs.Settings.{is_asked}
 use Rattle.run_requests.specs.Guards.{is_silent}
 use Rattle.run_requests.proofs.Asides.{IsOther, choosing_is, first_other, text_of, turn_other}
-use Rattle.run_commands.specs.Reads.{CameSo, GoesRead, IsPresidents, IsRead, IsStarting, ReadsIn, RequestRead, collects, is_unknown}
-use Rattle.run_commands.proofs.Hearing.{IsNoCommand, MonitorsName, NotForeign, again_so, asked_named, collects_so, given_so, lines_so, not_foreign, order_so_told, orders_so, other_so, own_next, own_line_so, probed_named, reply_fine, served_so, starting_reads, word_known}
+use Rattle.run_commands.specs.Reads.{CameSo, GoesRead, IsPresidents, IsRead, IsStarting, OwnReplies, OwnCause, ReadsIn, ReplySo, RequestRead, collects}
+use Rattle.run_commands.proofs.Hearing.{IsNoCommand, MonitorsName, NotForeign, again_so, asked_named, collects_so, given_so, lines_so, not_foreign, order_so_told, orders_so, other_so, own_next, own_line_so, probed_named, reply_fine, served_so, starting_reads}
 use Rattle.run_commands.proofs.Offices.{StateReads, answered_read, answered_reads, arrived_reads, first_arrived, first_read, kept_loud, office_at, same_reads, taken_up_reads}
 use Rattle.run_commands.proofs.Texts.{IsMonitors, command_read, monitor_read}
 
-module _ (c : Cluster) (me : ℕ) (low : me ≤ 32) (came : Input) (fine : CameSo came) (word : Option ℕ) where
+module _ (c : Cluster) (me : ℕ) (low : me ≤ 32) (came : Input) (fine : CameSo came) (word : OwnReplies) where
   abbrev G : UpNode → Course → Type 0
   G x k = GoesRead c me came word x k
 
@@ -398,50 +399,73 @@ module _ (c : Cluster) (me : ℕ) (low : me ≤ 32) (came : Input) (fine : CameS
 
   -- A command that came: what the node answers by itself, and the request that waits.
 
-  replying_so : (x : UpNode) (number : ℕ) (told : Answer) → word ≡ Some number → is_unknown told ≡ false → G x (cuts.replying_course me number told)
-  replying_so x number told is known = ((λ r. ((refl, inr (is, known)), tt)), tt)
+  replying_so : (x : UpNode) (number : ℕ) (told : Answer) → ReplySo word number told → G x (cuts.replying_course me number told)
+  replying_so x number told so = ((λ r. ((refl, so), tt)), tt)
 
-  waiting_so : (x : UpNode) (number : ℕ) (text : List ℕ) → word ≡ Some number → IsRead (version_of c) text → G x (cuts.waiting_course c me x number text)
-  waiting_so x number text is read =
-      either_so x (is_full x.requests) _ _ (replying_so x number answer.QueueFull is refl) (
+  waiting_so : (x : UpNode) (number : ℕ) (text : List ℕ) → (is_full x.requests ≡ true → word number answer.QueueFull) → IsRead (version_of c) text → G x (cuts.waiting_course c me x number text)
+  waiting_so x number text full read =
+      if_with (λ z. G x z) (is_full x.requests) (is_full x.requests) _ _ refl (λ is. replying_so x number answer.QueueFull (inr (full is))) (λ is. (
         (λ r. record {
           waiting_read = all_and (RequestRead (version_of c)) x.requests.waiting (record { number = number; text = text; told = true; second = x.second }) r.waiting_read read;
           office_read = r.office_read;
         }),
         asking_if_so (is_idle x.requests.waiting) (waiting_with x number text),
-      )
+      ))
 
-  elsewhere_so : (x : UpNode) (number : ℕ) (o : Option ℕ) → word ≡ Some number → G x (cuts.elsewhere_course me number o)
-  elsewhere_so x number None is = tt
-  elsewhere_so x number (Some president) is = replying_so x number (answer.Ask president) is refl
+  elsewhere_so : (x : UpNode) (number : ℕ) (o : Option ℕ) → ((president : ℕ) → o ≡ Some president → word number (answer.Ask president)) → G x (cuts.elsewhere_course me number o)
+  elsewhere_so x number None other = tt
+  elsewhere_so x number (Some president) other = replying_so x number (answer.Ask president) (inr (other president refl))
 
-  telling_so : (x : UpNode) (number : ℕ) (lines : List StatusEntry) → word ≡ Some number → G x (cuts.telling_course me number lines)
-  telling_so x number lines is = ((λ r. lines_so me word lines), replying_so x number answer.Ok is refl)
+  telling_so : (x : UpNode) (number : ℕ) (lines : List StatusEntry) → G x (cuts.telling_course me number lines)
+  telling_so x number lines = ((λ r. lines_so me word lines), replying_so x number answer.Ok (inl refl))
 
-  query_so : (x : UpNode) (p : Presidency) (number : ℕ) (s : ConfigState) (r : Result Accepted CheckError) → word ≡ Some number → G x (cuts.query_course me x p number s r)
-  query_so x p number s (Ok (accepted.Query q)) is = telling_so x number (query_lines x p s q) is
-  query_so x p number s (Ok (accepted.Change u)) is = tt
-  query_so x p number s (Ok (accepted.Act ask)) is = tt
-  query_so x p number s (Err (because.Refused r)) is = replying_so x number (answer.Refused r) is refl
-  query_so x p number s (Err because.NoMemory) is = tt
+  query_so : (x : UpNode) (p : Presidency) (number : ℕ) (s : ConfigState) (r : Result Accepted CheckError) → G x (cuts.query_course me x p number s r)
+  query_so x p number s (Ok (accepted.Query q)) = telling_so x number (query_lines x p s q)
+  query_so x p number s (Ok (accepted.Change u)) = tt
+  query_so x p number s (Ok (accepted.Act ask)) = tt
+  query_so x p number s (Err (because.Refused r)) = replying_so x number (answer.Refused r) (inl refl)
+  query_so x p number s (Err because.NoMemory) = tt
 
-  queried_so : (x : UpNode) (number : ℕ) (question : AdminCommand) (o : Option Presidency) → word ≡ Some number → G x (cuts.queried_course c me x number question o)
-  queried_so x number question None is = elsewhere_so x number (coordinator_of x) is
-  queried_so x number question (Some p) is =
-      either_so x (is_full x.requests) _ _ (replying_so x number answer.QueueFull is refl) (query_so x p number (in_force c x) (checked c x p question) is)
+  -- what the node answers by itself to this command has a cause
+  abbrev Causes : UpNode → ℕ → List ℕ → Type 0
+  Causes x number words = (reply : Answer) → OwnCause (version_of c) x.seat x.presidency x.requests.waiting words reply → word number reply
 
-  commanded_so : (x : UpNode) (number : ℕ) (o : AdminCommand) → word ≡ Some number → ((text : List ℕ) → text_of o ≡ Some text → IsRead (version_of c) text)
-      → G x (cuts.commanded_course c me x number o)
-  commanded_so x number (wish.Change u) is reads = waiting_so x number (words_of u) is (reads (words_of u) refl)
-  commanded_so x number (wish.Act a) is reads = waiting_so x number (ask_words_of a) is (reads (ask_words_of a) refl)
-  commanded_so x number (wish.Status q) is reads = queried_so x number (wish.Status q) x.presidency is
-  commanded_so x number (wish.Rows table) is reads = queried_so x number (wish.Rows table) x.presidency is
+  queried_so : (x : UpNode) (number : ℕ) (words : List ℕ) (question : AdminCommand) (o : Option Presidency) → x.presidency ≡ o → command_of (version_of c) words ≡ Ok question
+      → is_asked question ≡ true → is_member x.seat ≡ true → Causes x number words → G x (cuts.queried_course c me x number question o)
+  queried_so x number words question None is read asks here own =
+      elsewhere_so x number (coordinator_of x) (λ president at. own (answer.Ask president) (inr (inr (inl (record {
+        command = question;
+        read = read;
+        seated = here;
+        query = asks;
+        none = is;
+        president = president;
+        at = at;
+        is = refl;
+      })))))
+  queried_so x number words question (Some p) is read asks here own =
+      if_with (λ z. G x z) (is_full x.requests) (is_full x.requests) _ _ refl
+      (λ full. replying_so x number answer.QueueFull (inr (own answer.QueueFull (inr (inr (inr (record { command = question; read = read; seated = here; query = λ q. ap is_some is; full = full; is = refl })))))))
+      (λ full. query_so x p number (in_force c x) (checked c x p question))
 
-  pub worded_so : (x : UpNode) (number : ℕ) (words : List ℕ) (r : Result AdminCommand WordError) → word ≡ Some number → command_of (version_of c) words ≡ r
+  commanded_so : (x : UpNode) (number : ℕ) (words : List ℕ) (o : AdminCommand) → command_of (version_of c) words ≡ Ok o → is_member x.seat ≡ true → Causes x number words
+      → ((text : List ℕ) → text_of o ≡ Some text → IsRead (version_of c) text) → G x (cuts.commanded_course c me x number o)
+  commanded_so x number words (wish.Change u) read here own reads =
+      waiting_so x number (words_of u) (λ full. own answer.QueueFull (inr (inr (inr (record { command = wish.Change u; read = read; seated = here; query = λ q. absurd (false_true q); full = full; is = refl })))))
+      (reads (words_of u) refl)
+  commanded_so x number words (wish.Act a) read here own reads =
+      waiting_so x number (ask_words_of a) (λ full. own answer.QueueFull (inr (inr (inr (record { command = wish.Act a; read = read; seated = here; query = λ q. absurd (false_true q); full = full; is = refl })))))
+      (reads (ask_words_of a) refl)
+  commanded_so x number words (wish.Status q) read here own reads = queried_so x number words (wish.Status q) x.presidency refl read refl here own
+  commanded_so x number words (wish.Rows table) read here own reads = queried_so x number words (wish.Rows table) x.presidency refl read refl here own
+
+  pub worded_so : (x : UpNode) (number : ℕ) (words : List ℕ) (r : Result AdminCommand WordError) → command_of (version_of c) words ≡ r → Causes x number words
       → G x (cuts.worded_course c me x number r)
-  worded_so x number words (Err e) is read = replying_so x number (word_answer e) is (word_known e)
-  worded_so x number words (Ok command) is read =
-      either_so x (is_member x.seat) _ _ (commanded_so x number command is (λ text asks. command_read (version_of c) words command text read asks)) (replying_so x number answer.NotMember is refl)
+  worded_so x number words (Err e) read own = replying_so x number (word_answer e) (inr (own (word_answer e) (inl (record { error = e; read = read; is = refl }))))
+  worded_so x number words (Ok command) read own =
+      if_with (λ z. G x z) (is_member x.seat) (is_member x.seat) _ _ refl
+      (λ here. commanded_so x number words command read here own (λ text asks. command_read (version_of c) words command text read asks))
+      (λ away. replying_so x number answer.NotMember (inr (own answer.NotMember (inr (inl (record { command = command; read = read; seated = away; is = refl }))))))
 
   -- The president's answer.
 

@@ -45,44 +45,45 @@ use Rattle.run_requests.specs.Steps.{used_lines}
 use Rattle.run_requests.proofs.Counts.{dropped_used, few_longer, more_used, passing_used, then_le}
 use Rattle.run_commands.specs.Guards.Hand.{Free}
 use Rattle.run_commands.specs.Answers.{AnswersWait}
+use Rattle.run_commands.proofs.Numbers.{Numbers, NumbersOn, apart_numbers, packet_numbers, part_numbers, passing_numbers, said_numbers}
 use Rattle.run_commands.proofs.Owed.{Owed, owed_stays}
-use Rattle.run_commands.proofs.Steps.{Stepped, down_step, up_step}
+use Rattle.run_commands.proofs.Steps.{NodeNumbers, Stepped, down_step, up_step}
 use Rattle.run_commands.proofs.Waiting.{Leaves, WaitOn, packet_leaves, part_waits, passing_waits, quiet_leaves, said_waits}
 use Rattle.run_commands.proofs.Walk.{NodeOwes}
 
 -- the commands of a node that wait are those in its queue, with no more numbers than lines
-abbrev NodeFits : ℕ → List Moment → Node → Type 0
+abbrev pub NodeFits : ℕ → List Moment → Node → Type 0
 NodeFits k ms Down = Unit {0}
-NodeFits k ms (Up x) = Owed k ms Free x.requests.asked x.requests.waiting × (x.requests.asked ≤ used_lines ms)
+NodeFits k ms (Up x) = Owed k ms Free x.requests.asked x.requests.waiting × (x.requests.asked ≤ used_lines ms) × Numbers k ms x.requests.asked
 
-record Waits (v : Nodes) (ms : List Moment) : Type 0 where
-  nodes : (k : ℕ) → NodeFits k ms (v.node k)
-  said : AnswersWait ms
+pub record Waits (v : Nodes) (ms : List Moment) : Type 0 where
+  pub nodes : (k : ℕ) → NodeFits k ms (v.node k)
+  pub said : AnswersWait ms
 
-abbrev WaitsIn : Scene → Type 0
+abbrev pub WaitsIn : Scene → Type 0
 WaitsIn s = Waits s.nodes s.moments
 
 -- ---- a node that does nothing
 
-node_stays : (k : ℕ) (node : Node) (before after : List Moment) → WaitOn k before after → used_lines before ≤ used_lines after → NodeFits k before node → NodeFits k after node
-node_stays k Down before after f used h = tt
-node_stays k (Up x) before after f used h =
-    (owed_stays k before after Free x.requests.asked x.requests.waiting f h.0, then_le x.requests.asked (used_lines before) (used_lines after) h.1 used)
+node_stays : (k : ℕ) (node : Node) (before after : List Moment) → WaitOn k before after → NumbersOn k before after → used_lines before ≤ used_lines after → NodeFits k before node → NodeFits k after node
+node_stays k Down before after f num used h = tt
+node_stays k (Up x) before after f num used h =
+    (owed_stays k before after Free x.requests.asked x.requests.waiting f h.0, then_le x.requests.asked (used_lines before) (used_lines after) h.1 used, num x.requests.asked h.2)
 
 -- a moment in which no node does anything
-moment_waits : (v : Nodes) (m : Moment) (ms : List Moment) → Leaves ms (m ∷ ms) → Waits v ms → Waits v (m ∷ ms)
-moment_waits v m ms l h = record { nodes = λ k. node_stays k (v.node k) ms (m ∷ ms) (l.wait k) (more_used ms) (h.nodes k); said = l.said h.said }
+moment_waits : (v : Nodes) (m : Moment) (ms : List Moment) → Leaves ms (m ∷ ms) → ((k : ℕ) → NumbersOn k ms (m ∷ ms)) → Waits v ms → Waits v (m ∷ ms)
+moment_waits v m ms l num h = record { nodes = λ k. node_stays k (v.node k) ms (m ∷ ms) (l.wait k) (num k) (more_used ms) (h.nodes k); said = l.said h.said }
 
 -- ---- a node that takes something
 
-abbrev FewLines : List Moment → Type 0
+abbrev pub FewLines : List Moment → Type 0
 FewLines ms = length (lines_of ms) < 2 ^ 63
 
 step_by : (c : Cluster) (n now : ℕ) (ends : method.Outcome) (i : Input) (replies : List Reply) (node : Node) (disk : NodeRecord) (s : Scene) → IsSaid s.moments n i → FewLines s.moments
     → NodeFits n s.moments node → AnswersWait s.moments
     → Stepped n (after_all c n (site node disk) (doings c n now ends replies i node)).node (given_all c n (site node disk) (doings c n now ends replies i node)) s
 step_by c n now ends i replies Down disk s said few h waits = down_step c n i replies disk s waits
-step_by c n now ends i replies (Up x) disk s said few h waits = up_step c n now ends i replies x disk s said (record { owed = h.0; said = waits }) (record { low = h.1; few = few })
+step_by c n now ends i replies (Up x) disk s said few h waits = up_step c n now ends i replies x disk s said (record { owed = h.0; said = waits }) (record { low = h.1; few = few }) h.2
 
 step_leaves : (c : Cluster) (v : Nodes) (n now : ℕ) (ends : method.Outcome) (i : Input) (s : Scene) → IsSaid s.moments n i → FewLines s.moments → NodeFits n s.moments (v.node n) → AnswersWait s.moments
     → (let o : Outcome DiskState = stepped disk_rules c n now ends (v.node n) (v.disk n) i in Stepped n o.after o.given s)
@@ -94,9 +95,9 @@ step_leaves c v n now ends i s said few h waits =
     let g : Stepped n (after_all c n x ds).node (given_all c n x ds) s = step_by c n now ends i cut.replies (v.node n) (v.disk n).kept s said few h waits in
     subst (λ (z : Site). Stepped n z.node o.given s) cut.comes.left (subst (λ os. Stepped n (after_all c n x ds).node os s) cut.comes.given g)
 
-so_fits : (n last : ℕ) (node : Node) (ms : List Moment) → NodeOwes n last node ms → last ≤ used_lines ms → NodeFits n ms node
-so_fits n last Down ms so low = tt
-so_fits n last (Up x) ms so low = (so.1, subst (λ k. k ≤ used_lines ms) (sym so.0) low)
+so_fits : (n last : ℕ) (node : Node) (ms : List Moment) → NodeOwes n last node ms → last ≤ used_lines ms → NodeNumbers n last node ms → NodeFits n ms node
+so_fits n last Down ms so low num = tt
+so_fits n last (Up x) ms so low num = (so.1, subst (λ k. k ≤ used_lines ms) (sym so.0) low, subst (λ k. Numbers n ms k) (sym so.0) num)
 
 put_all : (P : ℕ → Node → Type 0) (f : ℕ → Node) (n : ℕ) (x : Node) → P n x → ((k : ℕ) → k ≢ n → P k (f k)) → (k : ℕ) → P k (put f n x k)
 put_all P f n x here others k = go (same_or_not k n)
@@ -114,9 +115,9 @@ taking_waits c s n now ends i said few h =
     let end : Scene = passing n os t in
     let g : Stepped n after os t = step_leaves c s.nodes n now ends i t said few (h.nodes n) h.said in
     subst (λ w. Waits w end.moments) (sym (passing_nodes n os t)) (record {
-      nodes = put_all (λ j node. NodeFits j end.moments node) s.nodes.node n after (so_fits n g.last after end.moments g.ends.own g.low)
-          (λ j ne. node_stays j (s.nodes.node j) s.moments end.moments (passing_waits j n os t (g.ends.apart j ne)) (passing_used n os t).used (h.nodes j));
-      said = g.ends.said;
+      nodes = put_all (λ j node. NodeFits j end.moments node) s.nodes.node n after (so_fits n g.last after end.moments g.own g.low g.numbers)
+          (λ j ne. node_stays j (s.nodes.node j) s.moments end.moments (passing_waits j n os t (g.apart j ne)) (passing_numbers j n os t (g.apart j ne)) (passing_used n os t).used (h.nodes j));
+      said = g.said;
     })
 
 -- ---- few lines were said before
@@ -133,7 +134,7 @@ commanded_moments s n d (Some x) k = refl
 few_taking : (c : Cluster) (n now : ℕ) (ends : method.Outcome) (i : Input) (s : Scene) → FewLines (taking c n now ends i s).moments → FewLines s.moments
 few_taking c n now ends i s h = subst (λ ls. length ls < 2 ^ 63) (passing_used n (given_by c n now ends i s.nodes) _).lines h
 
-few_before : (c : Cluster) (s : Scene) (x : Happening) → FewLines (happened c s x).moments → FewLines s.moments
+pub few_before : (c : Cluster) (s : Scene) (x : Happening) → FewLines (happened c s x).moments → FewLines s.moments
 few_before c s (Speaks e) h = few_longer (line.Event e) (lines_of s.moments) (subst FewLines (armed_moments c e (adding (Said (line.Event e)) s)) h)
 few_before c s (Begins e) h = h
 few_before c s (Notes e) h = h
@@ -166,25 +167,25 @@ commanded_waits s n d (Some x) k h = record { nodes = h.nodes; said = h.said }
 
 dropped_waits : (o : Option (ℕ × DropCause)) (s : Scene) → WaitsIn s → WaitsIn (dropped_so o s)
 dropped_waits None s h = h
-dropped_waits (Some drop) s h = moment_waits s.nodes (Told (entry.Packet (packet.Dropped drop.0 drop.1))) s.moments (packet_leaves (packet.Dropped drop.0 drop.1) s.moments) h
+dropped_waits (Some drop) s h = moment_waits s.nodes (Told (entry.Packet (packet.Dropped drop.0 drop.1))) s.moments (packet_leaves (packet.Dropped drop.0 drop.1) s.moments) (λ k. packet_numbers k (packet.Dropped drop.0 drop.1) s.moments) h
 
 happening_waits : (c : Cluster) (s : Scene) (x : Happening) → MayHappen c s x → FewLines s.moments → WaitsIn s → WaitsIn (happened c s x)
 happening_waits c s (Speaks e) may few h =
-    armed_waits c e (adding (Said (line.Event e)) s) (moment_waits s.nodes (Said (line.Event e)) s.moments (record { wait = λ k. said_waits k (line.Event e) s.moments; said = λ a. (tt, a) }) h)
-happening_waits c s (Begins e) may few h = moment_waits s.nodes (Part e) s.moments (record { wait = λ k. part_waits k e s.moments; said = λ a. (tt, a) }) h
-happening_waits c s (Notes e) may few h = moment_waits s.nodes (Told (entry.Schedule e)) s.moments (quiet_leaves (entry.Schedule e) s.moments tt) h
+    armed_waits c e (adding (Said (line.Event e)) s) (moment_waits s.nodes (Said (line.Event e)) s.moments (record { wait = λ k. said_waits k (line.Event e) s.moments; said = λ a. (tt, a) }) (λ k. said_numbers k (line.Event e) s.moments) h)
+happening_waits c s (Begins e) may few h = moment_waits s.nodes (Part e) s.moments (record { wait = λ k. part_waits k e s.moments; said = λ a. (tt, a) }) (λ k. part_numbers k e s.moments) h
+happening_waits c s (Notes e) may few h = moment_waits s.nodes (Told (entry.Schedule e)) s.moments (quiet_leaves (entry.Schedule e) s.moments tt) (λ k. apart_numbers k (entry.Schedule e) s.moments tt) h
 happening_waits c s (Takes n now ends i) may few h = taking_waits c s n now ends i may.4 few h
 happening_waits c s (Arrives number x m now ends) may few h =
     taking_waits c (telling (entry.Packet (packet.Delivered number x.from x.to)) (removed s number)) x.to now ends (input.Packet x.from m) tt few
-    (moment_waits s.nodes (Told (entry.Packet (packet.Delivered number x.from x.to))) s.moments (packet_leaves (packet.Delivered number x.from x.to) s.moments) h)
+    (moment_waits s.nodes (Told (entry.Packet (packet.Delivered number x.from x.to))) s.moments (packet_leaves (packet.Delivered number x.from x.to) s.moments) (λ k. packet_numbers k (packet.Delivered number x.from x.to) s.moments) h)
 happening_waits c s (Strays number x) may few h =
-    moment_waits s.nodes (Told (entry.Packet (packet.Delivered number x.from x.to))) s.moments (packet_leaves (packet.Delivered number x.from x.to) s.moments) h
-happening_waits c s (Misses number x) may few h = moment_waits s.nodes (Told (entry.Packet (packet.Dropped number drop.Down))) s.moments (packet_leaves (packet.Dropped number drop.Down) s.moments) h
-happening_waits c s (Loses number x) may few h = moment_waits s.nodes (Told (entry.Packet (packet.Lost number))) s.moments (packet_leaves (packet.Lost number) s.moments) h
+    moment_waits s.nodes (Told (entry.Packet (packet.Delivered number x.from x.to))) s.moments (packet_leaves (packet.Delivered number x.from x.to) s.moments) (λ k. packet_numbers k (packet.Delivered number x.from x.to) s.moments) h
+happening_waits c s (Misses number x) may few h = moment_waits s.nodes (Told (entry.Packet (packet.Dropped number drop.Down))) s.moments (packet_leaves (packet.Dropped number drop.Down) s.moments) (λ k. packet_numbers k (packet.Dropped number drop.Down) s.moments) h
+happening_waits c s (Loses number x) may few h = moment_waits s.nodes (Told (entry.Packet (packet.Lost number))) s.moments (packet_leaves (packet.Lost number) s.moments) (λ k. packet_numbers k (packet.Lost number) s.moments) h
 happening_waits c s (Repeats number x) may few h =
     let o : links.Outcome = sending s.links x.from x.to x.bytes in
     dropped_waits o.sent.dropped (telling (entry.Packet (packet.Repeated number s.links.next)) (with_links s o.after))
-    (moment_waits s.nodes (Told (entry.Packet (packet.Repeated number s.links.next))) s.moments (packet_leaves (packet.Repeated number s.links.next) s.moments) h)
+    (moment_waits s.nodes (Told (entry.Packet (packet.Repeated number s.links.next))) s.moments (packet_leaves (packet.Repeated number s.links.next) s.moments) (λ k. packet_numbers k (packet.Repeated number s.links.next) s.moments) h)
 happening_waits c s (Commands n d k now ends) may few h =
     let o : Option Device = slice_get s.devices (d - 1) in
     taking_waits c (commanded s n d k).scene n now ends (input.Answered (commanded s n d k).answer) tt (subst FewLines (sym (commanded_moments s n d o k)) few) (commanded_waits s n d o k h)
@@ -192,7 +193,7 @@ happening_waits c s (Writes n d value now ends) may few h =
     let o : Option Device = slice_get s.devices (d - 1) in
     let k : PrCommand = command.Write value in
     taking_waits c (commanded s n d k).scene n now ends (input.Wrote d value (commanded s n d k).answer) tt (subst FewLines (sym (commanded_moments s n d o k)) few) (commanded_waits s n d o k h)
-happening_waits c s (Refuses n d value cause) may few h = moment_waits s.nodes (Told (entry.Device (device.Refused n d value cause))) s.moments (quiet_leaves (entry.Device (device.Refused n d value cause)) s.moments tt) h
+happening_waits c s (Refuses n d value cause) may few h = moment_waits s.nodes (Told (entry.Device (device.Refused n d value cause))) s.moments (quiet_leaves (entry.Device (device.Refused n d value cause)) s.moments tt) (λ k. apart_numbers k (entry.Device (device.Refused n d value cause)) s.moments tt) h
 
 -- ---- a run
 
@@ -204,7 +205,7 @@ unfolding first_scene
 first_waits h cells = record { nodes = λ k. tt; said = tt }
 
 pub waits_in_each : (h : Header) (cells : ℕ) (hs : List Happening) → MayAllHappen (first_cluster h) (first_scene h cells) hs
-    → FewLines (all_happened (first_cluster h) (first_scene h cells) hs).moments → AnswersWait (all_happened (first_cluster h) (first_scene h cells) hs).moments
+    → FewLines (all_happened (first_cluster h) (first_scene h cells) hs).moments → WaitsIn (all_happened (first_cluster h) (first_scene h cells) hs)
 waits_in_each h cells hs may few =
-    (kept_holds (first_cluster h) Keeps (λ s x now keeps more. happening_waits (first_cluster h) s x now (few_before (first_cluster h) s x more) (keeps (few_before (first_cluster h) s x more)))
-    (first_scene h cells) hs may (λ first. first_waits h cells) few).said
+    kept_holds (first_cluster h) Keeps (λ s x now keeps more. happening_waits (first_cluster h) s x now (few_before (first_cluster h) s x more) (keeps (few_before (first_cluster h) s x more)))
+    (first_scene h cells) hs may (λ first. first_waits h cells) few

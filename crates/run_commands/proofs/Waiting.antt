@@ -255,9 +255,10 @@ passing_quiet n (Sends to b ∷ os) s quiet =
 
 -- ---- what another node gives
 
--- the line is of no boot and of no answer of node k
+-- the line is of no boot and of no command of node k
 abbrev pub IsApart : ℕ → Entry → Type 0
 IsApart k (entry.Node m note.Up) = m ≢ k
+IsApart k (entry.Command (command.Asked m q)) = m ≢ k
 IsApart k (entry.Command (command.Answered m q reply)) = m ≢ k
 IsApart k (entry.Packet e) = ⊥
 IsApart k _ = Unit {0}

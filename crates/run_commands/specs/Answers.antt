@@ -1,17 +1,20 @@
--- What is so at each answer, in two parts: the command waits; and it is answered so for a reason.
+-- What is so at each answer: the command waits; and it is answered so for a reason.
 use Rattle.std.specs.Prelude.{◌≡◌, ◌⊎◌, List, true, false}
 use Rattle.std.specs.List.{list_any}
 use Rattle.status_report.specs.declared.command_entry.Answer.TheVariants as answer
-use Rattle.history.specs.Commands.{differs, is_own_answer, waits}
+use Rattle.history.specs.Commands.{IsNumbered, differs, is_own_answer, waits}
 use Rattle.history.specs.Member.{member_of}
 use Rattle.history.specs.Moment.{Moment}
 use Rattle.history.specs.Order.{Always, so_far}
 use Rattle.history.specs.Requests.{before_asking, is_asking}
-use Rattle.history.specs.Trace.{answered}
+use Rattle.history.specs.Setting.{Setting}
+use Rattle.history.specs.Trace.{answered, asked}
+use Rattle.run_commands.specs.Own.{IsOwnAnswer}
 
--- the command that is answered waits
+-- the command that is answered waits, and one that is asked is numbered
 abbrev pub AnswerWaits : List Moment → Moment → Type 0
 AnswerWaits before (answered n q reply) = waits n q before ≡ true
+AnswerWaits before (asked n q) = IsNumbered n q before
 AnswerWaits before _ = Unit {0}
 
 abbrev pub AnswersWait : List Moment → Type 0
@@ -23,5 +26,9 @@ IsExplained before (answered n q answer.Unknown) = differs (member_of n (before_
 IsExplained before (answered n q reply) = (is_own_answer reply ≡ false) ⊎ (list_any (is_asking n q) (so_far before) ≡ true)
 IsExplained before _ = Unit {0}
 
-abbrev pub AreExplained : List Moment → Type 0
-AreExplained moments = Always IsExplained moments
+-- .. and fits its command
+abbrev pub IsReasoned : Setting → List Moment → Moment → Type 0
+IsReasoned S before m = IsExplained before m × IsOwnAnswer S before m
+
+abbrev pub AreReasoned : Setting → List Moment → Type 0
+AreReasoned S moments = Always (IsReasoned S) moments

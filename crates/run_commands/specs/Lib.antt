@@ -1,4 +1,6 @@
 -- what a reader must believe
+pub mod Own
+pub mod Numbered
 pub mod Laws
 -- what only the proofs need
 pub mod Answers

@@ -1,9 +1,11 @@
 -- What a node reads and answers in a step: the requests that it keeps are read, the president answers no more than `ok` and refusals over the
 -- configuration, and what a node answers by itself it answers to the command that came.
-use Rattle.std.specs.Prelude.{ℕ, ◌≡◌, ◌⊎◌, All, Bool, true, false, List, Option, None, Some, IfSome}
+use Rattle.std.specs.Prelude.{ℕ, ◌≡◌, ◌⊎◌, ◌%◌, nat_le, All, Bool, true, false, List, length, Option, None, Some, IfSome, Ok, Err, is_some}
 use Rattle.std.specs.List.{AllByRecursion}
-use Rattle.admin_words.specs.Commands.{request_of}
+use Rattle.admin_words.specs.Commands.{command_of, request_of}
+use Rattle.admin_words.specs.declared.error.WordError.{WordError}
 use Rattle.answer_words.specs.Answers.{answer_in}
+use Rattle.ccr_tables.specs.declared.command.AdminCommand.{AdminCommand}
 use Rattle.cl_base.specs.declared.header.Version.{Version}
 use Rattle.proposals.specs.declared.arrived.Arrived.{Arrived}
 use Rattle.proposals.specs.declared.arrived.Kept.{Kept}
@@ -24,7 +26,11 @@ use Rattle.node_model.specs.declared.output.Output.{Output}
 use Rattle.node_model.specs.declared.output.Output.TheVariants.{Tells, Sends}
 use Rattle.node_model.specs.declared.presidency.Presidency.{Presidency}
 use Rattle.node_model.specs.Members.{is_ok}
-use Rattle.node_model.specs.Seats.{version_of}
+use Rattle.node_model.specs.Presidents.{word_answer}
+use Rattle.node_model.specs.Seats.{is_member, node_numbered, state_of, version_of}
+use Rattle.node_model.specs.declared.seat.Seat.{Seat}
+use Rattle.history_setting.specs.Settings.{is_asked}
+use Rattle.request_queue.specs.Queue.{most_requests}
 use Rattle.refinement.specs.Courses.{Course}
 use Rattle.refinement.specs.Courses.Course.{Acts, Falls as Course_falls, Keeps, Stops}
 use Rattle.refinement.specs.Doings.{Act, Change, acted, changed}
@@ -75,24 +81,62 @@ abbrev pub CameSo : Input → Type 0
 CameSo (Packet from m) = BodySo m.body
 CameSo _ = Unit {0}
 
-abbrev pub is_unknown : Answer → Bool
-is_unknown answer.Unknown = true
-is_unknown _ = false
+-- Why a node with this seat, these requests and this in hand answers a command by itself.
 
--- the president's answer, or one of the node itself to the command that came
-abbrev pub ReplySo : Option ℕ → ℕ → Answer → Type 0
-ReplySo o q reply = (is_silent reply ≡ false) ⊎ ((o ≡ Some q) × (is_unknown reply ≡ false))
+pub record IsBad (v : Version) (words : List ℕ) (reply : Answer) : Type 0 where
+  pub error : WordError
+  pub read : command_of v words ≡ Err error
+  pub is : reply ≡ word_answer error
 
-abbrev pub LineSo : ℕ → Option ℕ → Entry → Type 0
+pub record IsStrange (v : Version) (seat : Seat) (words : List ℕ) (reply : Answer) : Type 0 where
+  pub command : AdminCommand
+  pub read : command_of v words ≡ Ok command
+  pub seated : is_member seat ≡ false
+  pub is : reply ≡ answer.NotMember
+
+-- it is a query, and the node is not the president
+pub record IsForOther (v : Version) (seat : Seat) (office : Option Presidency) (words : List ℕ) (reply : Answer) : Type 0 where
+  pub command : AdminCommand
+  pub read : command_of v words ≡ Ok command
+  pub seated : is_member seat ≡ true
+  pub query : is_asked command ≡ true
+  pub none : office ≡ None
+  pub president : ℕ
+  pub at : node_numbered ((state_of seat).session % 64) ≡ Some president
+  pub is : reply ≡ answer.Ask president
+
+-- as many requests wait as may
+pub record IsTooMuch (v : Version) (seat : Seat) (office : Option Presidency) (waiting : List Request) (words : List ℕ) (reply : Answer) : Type 0 where
+  pub command : AdminCommand
+  pub read : command_of v words ≡ Ok command
+  pub seated : is_member seat ≡ true
+  pub query : is_asked command ≡ true → is_some office ≡ true
+  pub full : nat_le most_requests (length waiting) ≡ true
+  pub is : reply ≡ answer.QueueFull
+
+abbrev pub OwnCause : Version → Seat → Option Presidency → List Request → List ℕ → Answer → Type 0
+OwnCause v seat office waiting words reply =
+    IsBad v words reply ⊎ IsStrange v seat words reply ⊎ IsForOther v seat office words reply ⊎ IsTooMuch v seat office waiting words reply
+
+-- which answers a node may give by itself, to which commands
+abbrev pub OwnReplies : Type 1
+OwnReplies = ℕ → Answer → Type 0
+
+-- the president's answer, or one of the node itself
+abbrev pub ReplySo : OwnReplies → ℕ → Answer → Type 0
+ReplySo o q reply = (is_silent reply ≡ false) ⊎ o q reply
+
+abbrev pub LineSo : ℕ → OwnReplies → Entry → Type 0
+LineSo own o (entry.Command (command.Asked n q)) = ⊥
 LineSo own o (entry.Command (command.Answered n q reply)) = (n ≡ own) × ReplySo o q reply
 LineSo own o (entry.Packet e) = ⊥
 LineSo own o _ = Unit {0}
 
-abbrev pub OutputSo : ℕ → Option ℕ → Output → Type 0
+abbrev pub OutputSo : ℕ → OwnReplies → Output → Type 0
 OutputSo own o (Tells e) = LineSo own o e
 OutputSo own o (Sends to b) = BodySo b
 
-abbrev pub AllSo : ℕ → Option ℕ → List Output → Type 0
+abbrev pub AllSo : ℕ → OwnReplies → List Output → Type 0
 AllSo own o os = AllByRecursion (OutputSo own o) os
 
 -- ---- how a course goes
@@ -115,7 +159,7 @@ IsStarting (Starts a k s) = Unit {0}
 IsStarting (Sits s e) = Unit {0}
 IsStarting _ = ⊥
 
-abbrev pub ActReads : Cluster → ℕ → Option ℕ → UpNode → Act → Type 0
+abbrev pub ActReads : Cluster → ℕ → OwnReplies → UpNode → Act → Type 0
 ActReads c own o x (Writes to b) = BodySo b
 ActReads c own o x (Spreads receivers b) = BodySo b
 ActReads c own o x (Gives os) = AllSo own o os
@@ -125,7 +169,7 @@ ActReads c own o x (Notes from place p) = ReadsIn (version_of c) (acted c own x 
 ActReads c own o x _ = Unit {0}
 
 -- each small step, where what the node keeps is read before it
-abbrev pub GoesRead : Cluster → ℕ → Input → Option ℕ → UpNode → Course → Type 0
+abbrev pub GoesRead : Cluster → ℕ → Input → OwnReplies → UpNode → Course → Type 0
 GoesRead c own i o x Stops = Unit {0}
 GoesRead c own i o x (Acts a rest) = (ReadsIn (version_of c) x → ActReads c own o x a) × GoesRead c own i o (acted c own x a) rest
 GoesRead c own i o x (Keeps change rest) = (ReadsIn (version_of c) x → ChangeReads c own i x change) × GoesRead c own i o (changed c own x change) rest
