@@ -6,8 +6,13 @@ use Rattle.schedule_text.specs.declared.event.Event.{Event}
 use Rattle.schedule_text.specs.declared.event.Event.TheVariants as event
 use Rattle.status_report.specs.declared.node_entry.DownCause.TheVariants as cause
 use Rattle.history.specs.Downs.{StopsWhereDue, is_fenced_write, stop_due, stops_here, stops_next}
+use Rattle.history.specs.Letters.{Letter, arrived, passes}
 use Rattle.history.specs.Moment.{Moment}
+use Rattle.history.specs.Names as name
+use Rattle.history.specs.Names.{Name}
 use Rattle.history.specs.Order.{Always, so_far, under_way}
+use Rattle.history.specs.Saves.{may_save}
+use Rattle.history.specs.Setting.{Setting}
 use Rattle.history.specs.Trace.{delivered, down, saved, stopped, up}
 use Rattle.run_history.specs.ContactRuns.{OfEachRun}
 
@@ -57,6 +62,25 @@ SavesInEvent before (stopped n) = IsInOwnEvent n before
 SavesInEvent before (saved n) = IsInOwnEvent n before
 SavesInEvent before _ = Unit {0}
 
+-- a message by which a member learns of an update, or that its membership has started
+abbrev pub tells_update : Name → Bool
+tells_update name.Start = true
+tells_update (name.Prepare v) = true
+tells_update (name.Commit v) = true
+tells_update _ = false
+
+-- the event is a boot, or delivers such a message
+abbrev pub is_boot_or_update : Option Event → Option Letter → Bool
+is_boot_or_update (Some (event.Boot n)) came = true
+is_boot_or_update (Some (event.Deliver p)) came = passes (λ (l : Letter). tells_update l.name) came
+is_boot_or_update (Some (event.Next from to)) came = passes (λ (l : Letter). tells_update l.name) came
+is_boot_or_update _ came = false
+
+-- .. and where it stops in such an event the rules let it save there
+abbrev pub StopsByRule : Setting → List Moment → Moment → Type 0
+StopsByRule S before (stopped n) = is_boot_or_update (under_way before) (arrived before) ≡ true → may_save S n before ≡ true
+StopsByRule S before _ = Unit {0}
+
 -- a stop that is due comes next
 abbrev pub StopComes : List Moment → Moment → Type 0
 StopComes before x = StopsWhereDue (stop_due before) x
@@ -75,6 +99,9 @@ StopsOfEachRun = OfEachRun (Always StopsAtStop)
 
 abbrev pub SavesOfEachRun : Type 0
 SavesOfEachRun = OfEachRun (Always SavesInEvent)
+
+abbrev pub UpdateStopsOfEachRun : Type 0
+UpdateStopsOfEachRun = OfEachRun (λ moments. (S : Setting) → Always (StopsByRule S) moments)
 
 abbrev pub StopsComeInEachRun : Type 0
 StopsComeInEachRun = OfEachRun (Always StopComes)

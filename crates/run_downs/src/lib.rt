@@ -4,7 +4,7 @@
 //! all agents.
 #![tactic(auto)]
 
-ghost use Rattle.run_downs.specs.Laws.{BootsOfEachRun, CrashesOfEachRun, FencesOfEachRun, NoStopIsDue, SavesOfEachRun, StopsComeInEachRun, StopsOfEachRun};
+ghost use Rattle.run_downs.specs.Laws.{BootsOfEachRun, CrashesOfEachRun, FencesOfEachRun, NoStopIsDue, SavesOfEachRun, StopsComeInEachRun, StopsOfEachRun, UpdateStopsOfEachRun};
 
 /// A node comes up in the event of its boot.
 pub fn boots_of_each_run()
@@ -30,6 +30,12 @@ pub fn stops_of_each_run()
 /// the delivery of a packet to it.
 pub fn saves_of_each_run()
     ensures { SavesOfEachRun }
+{}
+
+/// A node stops in a boot, or in the event of a Start, a Prepare or a Commit, only where the rules let it save there: at a Prepare and a Commit it is a
+/// member, at a Start it is none yet, and at a Start and a Commit an update may be pending.
+pub fn update_stops_of_each_run()
+    ensures { UpdateStopsOfEachRun }
 {}
 
 /// Where the stop falls in a mounting the node stops at once: that is the next line after `up`.

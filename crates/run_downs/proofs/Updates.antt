@@ -1,0 +1,163 @@
+-- At a Start, a Prepare or a Commit a node stops only where the rules let it save.
+use Rattle.std.specs.Prelude.{ℕ, ◌+◌, ◌==◌, ◌≡◌, ◌&&◌, not, Bool, true, false, List, [], length, Option, None, Some, IfSome, is_some}
+use Rattle.std.proofs.Common.{refl, sym, ap, subst, ◌∙◌, arith}
+use Rattle.ccr_commit.specs.Entries.{answer_for, texts_of}
+use Rattle.ccr_commit.specs.declared.entries.Prepared.{Prepared}
+use Rattle.ccr_commit.specs.declared.entries.Prepared.TheVariants.{Already, Gap, Taken}
+use Rattle.cl_base.specs.declared.method.Outcome as method
+use Rattle.cmm_member.specs.Nodes.{NodeState}
+use Rattle.cmm_member.specs.Records.{NodeRecord}
+use Rattle.history.specs.Letters.{Letter, arrived}
+use Rattle.history.specs.Member.{member_of}
+use Rattle.history.specs.Moment.{Moment}
+use Rattle.history.specs.Names.{Name, named}
+use Rattle.history.specs.Order.{under_way}
+use Rattle.history.specs.Records as history
+use Rattle.history.specs.Saves.{has_pending, may_be_pending, may_save, saves_at, saves_at_letter, saves_in}
+use Rattle.history.specs.Setting.{Setting}
+use Rattle.node_model.specs.Attempts.{starts_now}
+use Rattle.node_model.specs.declared.cluster.Cluster.{Cluster}
+use Rattle.node_model.specs.declared.node.UpNode.{UpNode}
+use Rattle.node_model.specs.declared.seat.Seat.{Seat}
+use Rattle.node_model.specs.declared.seat.Seat.TheVariants.{Forming, Member}
+use Rattle.node_model.specs.Members.{hearing, is_foreign}
+use Rattle.node_model.specs.Seats.{is_in}
+use Rattle.node_model.specs.Steps.{at_second}
+use Rattle.node_model.specs.Updates.{commits_now}
+use Rattle.node_model.specs.declared.input.Input.TheVariants as input
+use Rattle.refinement.specs.Courses.{Course}
+use Rattle.refinement.specs.Courses.Course.{Acts, Keeps, Stops}
+use Rattle.refinement.specs.Cuts as cuts
+use Rattle.refinement.specs.Cuts.{course_at}
+use Rattle.refinement.specs.Doings.Act.{Hears, Makes}
+use Rattle.refinement.specs.Doings.Change.{Commits, Prepares, Sits}
+use Rattle.schedule_text.specs.declared.event.Event.{Event}
+use Rattle.schedule_text.specs.declared.event.Event.TheVariants as event
+use Rattle.wire.specs.declared.message.Body.{Body}
+use Rattle.wire.specs.declared.message.Body.TheVariants as body
+use Rattle.wire.specs.declared.message.Message.{Message}
+use Rattle.world_model.specs.Sends.{name_of}
+use Rattle.run_messages.specs.Laws.{membership_in}
+use Rattle.run_records.specs.Shown.{shown}
+use Rattle.run_downs.proofs.Courses.{by_test}
+use Rattle.run_downs.proofs.Rules.{CourseStops, keep_stops, none_stops}
+use Rattle.run_downs.specs.Laws.{tells_update}
+
+not_so : false ≡ true → ⊥
+not_so h = cc
+
+first_so : (a b : Bool) → (a && b) ≡ true → a ≡ true
+first_so true b h = refl
+first_so false b h = cc
+
+second_so : (a b : Bool) → (a && b) ≡ true → b ≡ true
+second_so true b h = h
+second_so false b h = cc
+
+-- ---- the courses
+
+abbrev pub IsPending : NodeState → Type 0
+IsPending s = is_some s.saved.entries.pending ≡ true
+
+-- in this seat a node may save at such a message
+abbrev pub SavesAt : Body → Seat → Type 0
+SavesAt (body.Start e) (Forming s) = IsPending s
+SavesAt (body.Start e) (Member s) = ⊥
+SavesAt (body.Prepare e place text) (Forming s) = ⊥
+SavesAt (body.Prepare e place text) (Member s) = Unit {0}
+SavesAt (body.Commit e place) (Forming s) = ⊥
+SavesAt (body.Commit e place) (Member s) = IsPending s
+SavesAt _ seat = Unit {0}
+
+start_stops : (c : Cluster) (n : ℕ) (x : UpNode) (e : ℕ) (seat : Seat) → CourseStops (SavesAt (body.Start e) seat) c n x (cuts.start_course e seat)
+start_stops c n x e (Member s) = none_stops ⊥ c n x Stops tt
+start_stops c n x e (Forming s) =
+    by_test (CourseStops (IsPending s) c n x) (starts_now s e) (cuts.kept_if (is_some s.saved.entries.pending) (Sits s e) Stops) Stops
+    (λ now. by_test (CourseStops (IsPending s) c n x) (is_some s.saved.entries.pending) (Keeps (Sits s e) Stops) (Acts (Makes (Sits s e)) Stops)
+    (λ some. keep_stops (IsPending s) c n x (Sits s e) Stops refl tt some) (λ none. none_stops (IsPending s) c n x (Acts (Makes (Sits s e)) Stops) (tt, tt)))
+    (λ later. none_stops (IsPending s) c n x Stops tt)
+
+preparing_stops : (c : Cluster) (n : ℕ) (x : UpNode) (from e place : ℕ) (s : NodeState) (text : List ℕ) (r : Prepared) → CourseStops (Unit {0}) c n x (cuts.preparing_course from e place s text r)
+preparing_stops c n x from e place s text Taken = keep_stops (Unit {0}) c n x (Prepares s text) (cuts.writing from (body.Prepared e place)) refl (tt, tt) tt
+preparing_stops c n x from e place s text Already = none_stops (Unit {0}) c n x (cuts.writing from (body.Prepared e place)) (tt, tt)
+preparing_stops c n x from e place s text (Gap k) = none_stops (Unit {0}) c n x Stops tt
+
+prepare_stops : (c : Cluster) (n : ℕ) (x : UpNode) (from e place : ℕ) (text : List ℕ) (seat : Seat)
+    → CourseStops (SavesAt (body.Prepare e place text) seat) c n x (cuts.prepare_course x from e place text seat)
+prepare_stops c n x from e place text (Forming s) = none_stops ⊥ c n x Stops tt
+prepare_stops c n x from e place text (Member s) =
+    let r : Prepared = answer_for (length (texts_of s.saved.entries)) place in
+    by_test (CourseStops (Unit {0}) c n x) (is_in x e) (cuts.preparing_course from e place s text r) Stops (λ here. preparing_stops c n x from e place s text r)
+    (λ there. none_stops (Unit {0}) c n x Stops tt)
+
+commit_stops : (c : Cluster) (n : ℕ) (x : UpNode) (e place : ℕ) (seat : Seat) → CourseStops (SavesAt (body.Commit e place) seat) c n x (cuts.commit_course x e place seat)
+commit_stops c n x e place (Forming s) = none_stops ⊥ c n x Stops tt
+commit_stops c n x e place (Member s) =
+    by_test (CourseStops (IsPending s) c n x) (is_in x e && commits_now s place) (Keeps (Commits s) Stops) Stops
+    (λ now. keep_stops (IsPending s) c n x (Commits s) Stops refl tt
+    (first_so (is_some s.saved.entries.pending) (place == length s.saved.entries.committed + 1) (second_so (is_in x e) (commits_now s place) now)))
+    (λ later. none_stops (IsPending s) c n x Stops tt)
+
+update_stops : (c : Cluster) (n : ℕ) (ends : method.Outcome) (x : UpNode) (from : ℕ) (m : Message) (b : Body) → tells_update (named (name_of b)) ≡ true
+    → CourseStops (SavesAt b x.seat) c n x (cuts.body_course c n ends x from m b)
+update_stops c n ends x from m (body.Start e) told = start_stops c n x e x.seat
+update_stops c n ends x from m (body.Prepare e place text) told = prepare_stops c n x from e place text x.seat
+update_stops c n ends x from m (body.Commit e place) told = commit_stops c n x e place x.seat
+update_stops c n ends x from m _ told = absurd (not_so told)
+
+-- .. of the message, at its second of the clock
+pub message_stops : (c : Cluster) (n now : ℕ) (ends : method.Outcome) (x : UpNode) (from : ℕ) (m : Message) → tells_update (named (name_of m.body)) ≡ true
+    → CourseStops (SavesAt m.body x.seat) c n x (course_at c n now ends x (input.Packet from m))
+message_stops c n now ends x from m told =
+    let y : UpNode = at_second now x in
+    by_test (CourseStops (SavesAt m.body x.seat) c n y) (is_foreign c n y m.body) Stops (Acts (Hears from m.body) (cuts.body_course c n ends (hearing y from m.body) from m m.body))
+    (λ foreign. none_stops (SavesAt m.body x.seat) c n y Stops tt) (λ own. update_stops c n ends (hearing y from m.body) from m m.body told)
+
+-- ---- the lines
+
+pending_so : (disk : NodeRecord) (o : Option history.NodeRecord) → IfSome o (λ r. r ≡ shown disk) → is_some disk.entries.pending ≡ true → may_be_pending o ≡ true
+pending_so disk None h some = refl
+pending_so disk (Some r) h some = ap (λ (z : history.NodeRecord). z.pending) h ∙ some
+
+both_so : (a b : Bool) → a ≡ true → b ≡ true → (a && b) ≡ true
+both_so true true h k = refl
+both_so false b h k = cc
+both_so true false h k = cc
+
+-- the rules let a node in this seat save at such a message
+saves_so : (n : ℕ) (l : Letter) (b : Body) (seat : Seat) (ms : List Moment) → tells_update (named (name_of b)) ≡ true → member_of n ms ≡ membership_in seat
+    → ((s : NodeState) → (seat ≡ Forming s) → is_some s.saved.entries.pending ≡ true → has_pending n ms ≡ true)
+    → ((s : NodeState) → (seat ≡ Member s) → is_some s.saved.entries.pending ≡ true → has_pending n ms ≡ true) → SavesAt b seat
+    → saves_at n l (named (name_of b)) ms ≡ true
+saves_so n l (body.Start e) (Forming s) ms told member forming sitting q =
+    both_so (not (is_some (member_of n ms))) (has_pending n ms) (ap (λ (o : Option ℕ). not (is_some o)) member) (forming s refl q)
+saves_so n l (body.Start e) (Member s) ms told member forming sitting q = absurd q
+saves_so n l (body.Prepare e place text) (Forming s) ms told member forming sitting q = absurd q
+saves_so n l (body.Prepare e place text) (Member s) ms told member forming sitting q = ap (λ (o : Option ℕ). is_some o) member
+saves_so n l (body.Commit e place) (Forming s) ms told member forming sitting q = absurd q
+saves_so n l (body.Commit e place) (Member s) ms told member forming sitting q =
+    both_so (is_some (member_of n ms)) (has_pending n ms) (ap (λ (o : Option ℕ). is_some o) member) (sitting s refl q)
+saves_so n l _ seat ms told member forming sitting q = absurd (not_so told)
+
+abbrev pub IsDelivering : Option Event → Type 0
+IsDelivering (Some (event.Deliver p)) = Unit {0}
+IsDelivering (Some (event.Next from to)) = Unit {0}
+IsDelivering _ = ⊥
+
+same_number : (m n : ℕ) → m ≡ n → (m == n) ≡ true
+same_number m n e = grind arith
+
+letter_saves : (S : Setting) (n : ℕ) (e : Option Event) (l : Letter) (ms : List Moment) → IsDelivering e → arrived ms ≡ Some l → l.to ≡ n → saves_at n l l.name ms ≡ true → saves_in S n e ms ≡ true
+letter_saves S n (Some (event.Deliver p)) l ms is here to saves = ap (λ o. saves_at_letter n o ms) here ∙ both_so (l.to == n) (saves_at n l l.name ms) (same_number l.to n to) saves
+letter_saves S n (Some (event.Next from at)) l ms is here to saves = ap (λ o. saves_at_letter n o ms) here ∙ both_so (l.to == n) (saves_at n l l.name ms) (same_number l.to n to) saves
+letter_saves S n _ l ms is here to saves = absurd is
+
+pub may_save_so : (S : Setting) (n : ℕ) (l : Letter) (b : Body) (seat : Seat) (disk : NodeRecord) (ms : List Moment) → IsDelivering (under_way ms) → arrived ms ≡ Some l → l.to ≡ n → l.name ≡ named (name_of b)
+    → tells_update (named (name_of b)) ≡ true → member_of n ms ≡ membership_in seat → IfSome (history.record_of n ms) (λ r. r ≡ shown disk)
+    → ((s : NodeState) → seat ≡ Forming s → disk ≡ s.saved) → ((s : NodeState) → seat ≡ Member s → disk ≡ s.saved) → SavesAt b seat → may_save S n ms ≡ true
+may_save_so S n l b seat disk ms is here to called told member record_so forming sitting q =
+    letter_saves S n (under_way ms) l ms is here to
+    (subst (λ (a : Name). saves_at n l a ms ≡ true) (sym called)
+    (saves_so n l b seat ms told member
+    (λ s at some. pending_so disk (history.record_of n ms) record_so (ap (λ (r : NodeRecord). is_some r.entries.pending) (forming s at) ∙ some))
+    (λ s at some. pending_so disk (history.record_of n ms) record_so (ap (λ (r : NodeRecord). is_some r.entries.pending) (sitting s at) ∙ some)) q))
