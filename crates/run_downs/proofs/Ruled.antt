@@ -189,13 +189,13 @@ other_by ms e is h a = ap (λ o. is_boot_or_update o a) is ∙ h a
 plain_ruled : (S : Setting) (c : Cluster) (n now : ℕ) (ends : method.Outcome) (i : Input) (node : Node) (disk : DiskState) (s : Scene) → IsPlain i → IsBrought (under_way s.moments) n i
     → Always (StopsByRule S) s.moments → Always (StopsByRule S) (passing n (stepped disk_rules c n now ends node disk i).given s).moments
 plain_ruled S c n now ends input.Boot node disk s plain is so = up_ruled S c n now ends node disk s is so
-plain_ruled S c n now ends input.Crash node disk s plain is so = other_ruled S n _ s (other_by s.moments (event.Crash n) is (λ a. refl)) so
-plain_ruled S c n now ends input.Tick node disk s plain is so = other_ruled S n _ s (other_by s.moments (event.Tick n) is (λ a. refl)) so
-plain_ruled S c n now ends input.CommandDue node disk s plain is so = other_ruled S n _ s (other_by s.moments (event.Disk n) is (λ a. refl)) so
-plain_ruled S c n now ends (input.Commanded words) node disk s plain is so = other_ruled S n _ s (other_by s.moments (event.Command n words) is (λ a. refl)) so
-plain_ruled S c n now ends (input.Reported r good) node disk s plain is so = other_ruled S n _ s (other_by s.moments (event.Probe n r good) is (λ a. refl)) so
+plain_ruled S c n now ends input.Crash node disk s plain is so = other_ruled S n (stepped disk_rules c n now ends node disk input.Crash).given s (other_by s.moments (event.Crash n) is (λ a. refl)) so
+plain_ruled S c n now ends input.Tick node disk s plain is so = other_ruled S n (stepped disk_rules c n now ends node disk input.Tick).given s (other_by s.moments (event.Tick n) is (λ a. refl)) so
+plain_ruled S c n now ends input.CommandDue node disk s plain is so = other_ruled S n (stepped disk_rules c n now ends node disk input.CommandDue).given s (other_by s.moments (event.Disk n) is (λ a. refl)) so
+plain_ruled S c n now ends (input.Commanded words) node disk s plain is so = other_ruled S n (stepped disk_rules c n now ends node disk (input.Commanded words)).given s (other_by s.moments (event.Command n words) is (λ a. refl)) so
+plain_ruled S c n now ends (input.Reported r good) node disk s plain is so = other_ruled S n (stepped disk_rules c n now ends node disk (input.Reported r good)).given s (other_by s.moments (event.Probe n r good) is (λ a. refl)) so
 plain_ruled S c n now ends (input.Client address client port) node disk s plain is so =
-    other_ruled S n _ s (other_by s.moments (event.Client n address client port) is (λ a. refl)) so
+    other_ruled S n (stepped disk_rules c n now ends node disk (input.Client address client port)).given s (other_by s.moments (event.Client n address client port) is (λ a. refl)) so
 plain_ruled S c n now ends (input.Packet from m) node disk s plain is so = absurd plain
 plain_ruled S c n now ends (input.Answered a) node disk s plain is so = absurd plain
 plain_ruled S c n now ends (input.Wrote d value a) node disk s plain is so = absurd plain
