@@ -1,5 +1,5 @@
 -- In each run a node stops in a boot, or at a Start, a Prepare or a Commit, only where the rules let it save there.
-use Rattle.std.specs.Prelude.{ℕ, ◌-◌, ◌<◌, ◌==◌, ◌≡◌, ◌≤◌, ◌^◌, Bool, true, false, List, [], ◌∷◌, Option, None, Some, length, slice_get}
+use Rattle.std.specs.Prelude.{ℕ, ◌-◌, ◌<◌, ◌==◌, ◌≡◌, ◌≤◌, ◌^◌, ◌||◌, Bool, true, false, List, [], ◌∷◌, Option, None, Some, Ok, length, slice_get}
 use Rattle.std.proofs.Common.{refl, sym, ap, subst, ◌∙◌, arith, inl, inr}
 use Rattle.cl_base.specs.declared.header.Header.{Header}
 use Rattle.cl_base.specs.declared.method.Outcome as method
@@ -29,11 +29,13 @@ use Rattle.node_model.specs.declared.seat.Seat.{Seat}
 use Rattle.node_model.specs.declared.seat.Seat.TheVariants.{Forming, Member}
 use Rattle.node_model.specs.Steps.{Outcome, booted_with, stepped}
 use Rattle.pgr_device.specs.Device.{Device}
+use Rattle.pgr_device.specs.declared.command.PrAnswer.TheVariants as given
 use Rattle.pgr_device.specs.declared.command.PrCommand.{PrCommand}
 use Rattle.pgr_device.specs.declared.command.PrCommand.TheVariants as command
 use Rattle.record_disk.specs.Disks.{DiskState, mounting, saving}
 use Rattle.record_disk.specs.declared.error.Loss.{Loss}
 use Rattle.record_disk.specs.declared.error.Loss.TheVariants.{Fault, Stopped}
+use Rattle.refinement.specs.Cuts.{course_at}
 use Rattle.refinement.specs.Runs.{moved}
 use Rattle.refinement.specs.Runs.Move.{Takes as Takes_in}
 use Rattle.refinement.specs.Steps.{disk_rules}
@@ -42,6 +44,7 @@ use Rattle.refinement.proofs.Cuts.{step_of_node_is_its_course}
 use Rattle.schedule_text.specs.declared.event.Event.{Event}
 use Rattle.schedule_text.specs.declared.event.Event.TheVariants as event
 use Rattle.schedule_text.specs.declared.line.Line.TheVariants as line
+use Rattle.seize.specs.Answers.{Answer}
 use Rattle.status_report.specs.declared.entry.Entry.{Entry}
 use Rattle.status_report.specs.declared.entry.Entry.TheVariants as entry
 use Rattle.status_report.specs.declared.node_entry.DownCause.TheVariants as cause
@@ -63,9 +66,10 @@ use Rattle.run_records.specs.Kept.{Came, KnownScene}
 use Rattle.run_records.specs.Shown.{RecordIn}
 use Rattle.run_records.proofs.Arrivals.{arrived_kept}
 use Rattle.run_records.proofs.Runs.{run_known}
-use Rattle.run_downs.proofs.Rules.{NoStops, StopsIf}
+use Rattle.run_downs.proofs.Rules.{NoStops, StopsIf, none_stops}
+use Rattle.run_downs.proofs.Steps.{client_fine}
 use Rattle.run_downs.proofs.Updates.{IsDelivering, SavesAt, may_save_so, message_stops}
-use Rattle.run_downs.specs.Laws.{StopsByRule, UpdateStopsOfEachRun, is_boot_or_update, tells_update}
+use Rattle.run_downs.specs.Laws.{SettledStopsOfEachRun, StopsByRule, asks_no_save, is_settled, is_settled_by, tells_update}
 
 not_so : false ≡ true → ⊥
 not_so h = cc
@@ -114,14 +118,14 @@ told_here (entry.Address e) ms q = refl
 
 -- the rule is silent in this event, whatever else is told in it
 abbrev IsSilent : List Moment → Type 0
-IsSilent ms = is_boot_or_update (under_way ms) (arrived ms) ≡ false
+IsSilent ms = is_settled (under_way ms) (arrived ms) ≡ false
 
 silent_line : (S : Setting) (e : Entry) (ms : List Moment) → IsSilent ms → StopsByRule S ms (Told e)
 silent_line S (entry.Node m (note.Down cause.Stopped)) ms silent = λ so. absurd (not_so (sym silent ∙ so))
 silent_line S _ ms silent = tt
 
 silent_told : (e : Entry) (ms : List Moment) → IsQuiet e → IsSilent ms → IsSilent (Told e ∷ ms)
-silent_told e ms q silent = ap (λ a. is_boot_or_update (under_way ms) a) (told_here e ms q) ∙ silent
+silent_told e ms q silent = ap (λ a. is_settled (under_way ms) a) (told_here e ms q) ∙ silent
 
 silent_dropped : (o : Option (ℕ × DropCause)) (s : Scene) → IsSilent s.moments → IsSilent (dropped_so o s).moments
 silent_dropped None s h = h
@@ -143,7 +147,7 @@ silent_ruled S n (Sends to b ∷ os) s q silent so =
 
 -- an event in which the rule is silent whatever has come
 abbrev IsOther : List Moment → Type 0
-IsOther ms = (a : Option Letter) → is_boot_or_update (under_way ms) a ≡ false
+IsOther ms = (a : Option Letter) → is_settled (under_way ms) a ≡ false
 
 other_dropped : (o : Option (ℕ × DropCause)) (s : Scene) → IsOther s.moments → IsOther (dropped_so o s).moments
 other_dropped None s h = h
@@ -181,21 +185,43 @@ up_ruled : (S : Setting) (c : Cluster) (n now : ℕ) (ends : method.Outcome) (no
 up_ruled S c n now ends Down disk s boot so = boot_ruled S n (first_valid_of c n) disk.kept (mounting disk).after (mounting disk).lost s boot so
 up_ruled S c n now ends (Up x) disk s boot so = so
 
+-- the stop comes at once, or not at all
+stops_ruled : (S : Setting) (n : ℕ) (Q : Type 0) (os : List Output) (s : Scene) → StopsIf Q n os → (Q → may_save S n s.moments ≡ true) → Always (StopsByRule S) s.moments
+    → Always (StopsByRule S) (passing n os s).moments
+stops_ruled S n Q os s (inl h) rule so = subst (λ z. Always (StopsByRule S) (passing n z s).moments) (sym h.1) ((λ told. rule h.0), so)
+stops_ruled S n Q os s (inr h) rule so = none_ruled S n os s h so
+
+-- a client's request saves nothing, and a write neither
+
+client_stops : (c : Cluster) (n now : ℕ) (ends : method.Outcome) (x : UpNode) (address : List ℕ) (client port : ℕ) (disk : DiskState)
+    → StopsIf ⊥ n (stepped disk_rules c n now ends (Up x) disk (input.Client address client port)).given
+client_stops c n now ends x address client port disk =
+    subst (λ (o : Outcome DiskState). StopsIf ⊥ n o.given) (sym ((step_of_node_is_its_course saving c n now ends x (input.Client address client port)).is [] disk))
+    (none_stops ⊥ c n x (course_at c n now ends x (input.Client address client port)) (client_fine c n now ends x address client port) disk)
+
+write_stops : (c : Cluster) (n now : ℕ) (ends : method.Outcome) (node : Node) (disk : DiskState) (d value : ℕ) (a : Answer) → NoStops (stepped disk_rules c n now ends node disk (input.Wrote d value a)).given
+write_stops c n now ends Down disk d value a = tt
+write_stops c n now ends (Up x) disk d value (Ok given.Good) = (tt, (tt, tt))
+write_stops c n now ends (Up x) disk d value (Ok given.Conflict) = (tt, (tt, (tt, tt)))
+write_stops c n now ends (Up x) disk d value _ = (tt, (tt, tt))
+
 -- ---- what comes that is no packet
 
-other_by : (ms : List Moment) (e : Event) → under_way ms ≡ Some e → ((a : Option Letter) → is_boot_or_update (Some e) a ≡ false) → IsOther ms
-other_by ms e is h a = ap (λ o. is_boot_or_update o a) is ∙ h a
+other_by : (ms : List Moment) (e : Event) → under_way ms ≡ Some e → ((a : Option Letter) → is_settled (Some e) a ≡ false) → IsOther ms
+other_by ms e is h a = ap (λ o. is_settled o a) is ∙ h a
 
 plain_ruled : (S : Setting) (c : Cluster) (n now : ℕ) (ends : method.Outcome) (i : Input) (node : Node) (disk : DiskState) (s : Scene) → IsPlain i → IsBrought (under_way s.moments) n i
     → Always (StopsByRule S) s.moments → Always (StopsByRule S) (passing n (stepped disk_rules c n now ends node disk i).given s).moments
 plain_ruled S c n now ends input.Boot node disk s plain is so = up_ruled S c n now ends node disk s is so
-plain_ruled S c n now ends input.Crash node disk s plain is so = other_ruled S n (stepped disk_rules c n now ends node disk input.Crash).given s (other_by s.moments (event.Crash n) is (λ a. refl)) so
+plain_ruled S c n now ends input.Crash Down disk s plain is so = so
+plain_ruled S c n now ends input.Crash (Up x) disk s plain is so = none_ruled S n (Tells (entry.Node n (note.Down cause.Crash)) ∷ []) s (tt, tt) so
 plain_ruled S c n now ends input.Tick node disk s plain is so = other_ruled S n (stepped disk_rules c n now ends node disk input.Tick).given s (other_by s.moments (event.Tick n) is (λ a. refl)) so
 plain_ruled S c n now ends input.CommandDue node disk s plain is so = other_ruled S n (stepped disk_rules c n now ends node disk input.CommandDue).given s (other_by s.moments (event.Disk n) is (λ a. refl)) so
 plain_ruled S c n now ends (input.Commanded words) node disk s plain is so = other_ruled S n (stepped disk_rules c n now ends node disk (input.Commanded words)).given s (other_by s.moments (event.Command n words) is (λ a. refl)) so
 plain_ruled S c n now ends (input.Reported r good) node disk s plain is so = other_ruled S n (stepped disk_rules c n now ends node disk (input.Reported r good)).given s (other_by s.moments (event.Probe n r good) is (λ a. refl)) so
-plain_ruled S c n now ends (input.Client address client port) node disk s plain is so =
-    other_ruled S n (stepped disk_rules c n now ends node disk (input.Client address client port)).given s (other_by s.moments (event.Client n address client port) is (λ a. refl)) so
+plain_ruled S c n now ends (input.Client address client port) Down disk s plain is so = so
+plain_ruled S c n now ends (input.Client address client port) (Up x) disk s plain is so =
+    stops_ruled S n ⊥ (stepped disk_rules c n now ends (Up x) disk (input.Client address client port)).given s (client_stops c n now ends x address client port disk) (λ never. absurd never) so
 plain_ruled S c n now ends (input.Packet from m) node disk s plain is so = absurd plain
 plain_ruled S c n now ends (input.Answered a) node disk s plain is so = absurd plain
 plain_ruled S c n now ends (input.Wrote d value a) node disk s plain is so = absurd plain
@@ -208,7 +234,7 @@ delivering packets number (Some (event.Next from to)) h = tt
 delivering packets number _ h = absurd h
 
 -- at a message of another kind the rule is silent
-other_kind : (e : Option Event) (l : Letter) → IsDelivering e → tells_update l.name ≡ false → is_boot_or_update e (Some l) ≡ false
+other_kind : (e : Option Event) (l : Letter) → IsDelivering e → is_settled_by l ≡ false → is_settled e (Some l) ≡ false
 other_kind (Some (event.Deliver k)) l is h = h
 other_kind (Some (event.Next from to)) l is h = h
 other_kind _ l is h = absurd is
@@ -217,12 +243,6 @@ packet_quiet : (n : ℕ) (node : Node) (from : ℕ) (m : Message) (os : List Out
 packet_quiet n Down from m os q = q
 packet_quiet n (Up x) from m os q = q
 
--- the stop comes at once, or not at all
-stops_ruled : (S : Setting) (n : ℕ) (Q : Type 0) (os : List Output) (s : Scene) → StopsIf Q n os → (Q → may_save S n s.moments ≡ true) → Always (StopsByRule S) s.moments
-    → Always (StopsByRule S) (passing n os s).moments
-stops_ruled S n Q os s (inl h) rule so = subst (λ z. Always (StopsByRule S) (passing n z s).moments) (sym h.1) ((λ told. rule h.0), so)
-stops_ruled S n Q os s (inr h) rule so = none_ruled S n os s h so
-
 forming_disk : (c : Cluster) (M : Memberships) (n : ℕ) (disk : NodeRecord) (x : UpNode) (seat : Seat) → seat ≡ x.seat → NodeTied c M n disk (Up x) → (s : NodeState) → seat ≡ Forming s → disk ≡ s.saved
 forming_disk c M n disk x seat same tied s at = (subst (λ z. SeatTied c M n disk x.attempt z) (sym same ∙ at) tied.0).1
 
@@ -230,17 +250,17 @@ sitting_disk : (c : Cluster) (M : Memberships) (n : ℕ) (disk : NodeRecord) (x 
 sitting_disk c M n disk x seat same tied s at = (subst (λ z. SeatTied c M n disk x.attempt z) (sym same ∙ at) tied.0).1
 
 message_ruled : (S : Setting) (c : Cluster) (M : Memberships) (n now : ℕ) (ends : method.Outcome) (from : ℕ) (m : Message) (node : Node) (disk : DiskState) (s : Scene) → NodeTied c M n disk.kept node
-    → IsSeated s.moments n node → RecordIn s.moments n disk.kept → IsDelivering (under_way s.moments) → Came s.moments n from m.body → (b : Bool) → tells_update (named (name_of m.body)) ≡ b
+    → IsSeated s.moments n node → RecordIn s.moments n disk.kept → IsDelivering (under_way s.moments) → Came s.moments n from m.body → (b : Bool) → (tells_update (named (name_of m.body)) || asks_no_save (named (name_of m.body))) ≡ b
     → Always (StopsByRule S) s.moments → Always (StopsByRule S) (passing n (stepped disk_rules c n now ends node disk (input.Packet from m)).given s).moments
 message_ruled S c M n now ends from m node disk s tied seated record_so is came false kind so =
     silent_ruled S n (stepped disk_rules c n now ends node disk (input.Packet from m)).given s
     (packet_quiet n node from m _ (commands_are_told c n now ends node disk (input.Packet from m)))
-    (ap (λ a. is_boot_or_update (under_way s.moments) a) came.here ∙ other_kind (under_way s.moments) came.letter is (ap tells_update came.called ∙ kind)) so
+    (ap (λ a. is_settled (under_way s.moments) a) came.here ∙ other_kind (under_way s.moments) came.letter is (ap (λ a. tells_update a || asks_no_save a) came.called ∙ kind)) so
 message_ruled S c M n now ends from m Down disk s tied seated record_so is came true kind so = so
 message_ruled S c M n now ends from m (Up x) disk s tied seated record_so is came true kind so =
     stops_ruled S n (SavesAt m.body x.seat) (stepped disk_rules c n now ends (Up x) disk (input.Packet from m)).given s
     (subst (λ (o : Outcome DiskState). StopsIf (SavesAt m.body x.seat) n o.given) (sym ((step_of_node_is_its_course saving c n now ends x (input.Packet from m)).is [] disk)) (message_stops c n now ends x from m kind disk))
-    (may_save_so S n came.letter m.body x.seat disk.kept s.moments is came.here came.receiver came.called kind seated record_so (forming_disk c M n disk.kept x x.seat refl tied)
+    (may_save_so S n came.letter m.body x.seat disk.kept s.moments is came.here came.receiver came.called seated record_so (forming_disk c M n disk.kept x x.seat refl tied)
     (sitting_disk c M n disk.kept x x.seat refl tied)) so
 
 -- ---- each thing that happens
@@ -274,7 +294,7 @@ happening_ruled S c s (Arrives number x m now ends) may k h =
     let i : Input = input.Packet x.from m in
     message_ruled S c k.known.stage.machine x.to now ends x.from m (s.nodes.node x.to) (s.nodes.disk x.to) (record t { nodes = moved c s.nodes (Takes_in x.to now ends i) })
     (k.known.stage.stands x.to).tied (k.seated x.to) (k.known.at x.to).record_so (delivering s.links.packets number (under_way s.moments) may.6) (arrived_kept c s number x m may.0 may.1 k.known)
-    (tells_update (named (name_of m.body))) refl (tt, h)
+    (tells_update (named (name_of m.body)) || asks_no_save (named (name_of m.body))) refl (tt, h)
 happening_ruled S c s (Strays number x) may k h = (tt, h)
 happening_ruled S c s (Misses number x) may k h = (tt, h)
 happening_ruled S c s (Loses number x) may k h = (tt, h)
@@ -291,9 +311,9 @@ happening_ruled S c s (Writes n d value now ends) may k h =
     let o : Option Device = slice_get s.devices (d - 1) in
     let q : PrCommand = command.Write value in
     let z : Scene = (commanded s n d q).scene in
-    let i : Input = input.Wrote d value (commanded s n d q).answer in
-    other_ruled S n (given_by c n now ends i z.nodes) (record z { nodes = moved c z.nodes (Takes_in n now ends i) })
-    (commanded_other s n d o q (other_by s.moments (event.Write n d value) may.4 (λ a. refl))) (commanded_ruled S s n d o q h)
+    let a : Answer = (commanded s n d q).answer in
+    none_ruled S n (given_by c n now ends (input.Wrote d value a) z.nodes) (record z { nodes = moved c z.nodes (Takes_in n now ends (input.Wrote d value a)) })
+    (write_stops c n now ends (z.nodes.node n) (z.nodes.disk n) d value a) (commanded_ruled S s n d o q h)
 happening_ruled S c s (Refuses n d value why) may k h = (tt, h)
 
 -- ---- runs
@@ -308,7 +328,7 @@ first_ruled : (S : Setting) (h : Header) (cells : ℕ) → Always (StopsByRule S
 unfolding first_scene
 first_ruled S h cells = tt
 
-pub update_stops_of_each_run : UpdateStopsOfEachRun
-update_stops_of_each_run h cells hs few small may S =
+pub settled_stops_of_each_run : SettledStopsOfEachRun
+settled_stops_of_each_run h cells hs few small may S =
     holds_of_each h cells (λ (s : Scene). Always (StopsByRule S) s.moments)
     (λ s x now at more so. happening_ruled S (first_cluster h) s x now (knows_at h cells s few small at) so) (first_ruled S h cells) hs may

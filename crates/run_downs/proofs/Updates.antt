@@ -1,12 +1,17 @@
 -- At a Start, a Prepare or a Commit a node stops only where the rules let it save.
-use Rattle.std.specs.Prelude.{ℕ, ◌+◌, ◌==◌, ◌≡◌, ◌&&◌, not, Bool, true, false, List, [], length, Option, None, Some, IfSome, is_some}
+use Rattle.std.specs.Prelude.{ℕ, ◌+◌, ◌==◌, ◌≡◌, ◌&&◌, ◌||◌, not, Bool, true, false, List, length, Option, None, Some, IfSome, is_some}
 use Rattle.std.proofs.Common.{refl, sym, ap, subst, ◌∙◌, arith}
 use Rattle.ccr_commit.specs.Entries.{answer_for, texts_of}
 use Rattle.ccr_commit.specs.declared.entries.Prepared.{Prepared}
 use Rattle.ccr_commit.specs.declared.entries.Prepared.TheVariants.{Already, Gap, Taken}
+use Rattle.cl_base.specs.Seizings.{SeizeResult}
 use Rattle.cl_base.specs.declared.method.Outcome as method
+use Rattle.cl_base.specs.declared.panic.Panic.TheVariants as panic
+use Rattle.cl_base.specs.declared.seizing.SeizeEnd.TheVariants as seized
+use Rattle.cmm_attempt.proofs.Basics.{if_either}
 use Rattle.cmm_member.specs.Nodes.{NodeState}
 use Rattle.cmm_member.specs.Records.{NodeRecord}
+use Rattle.device_queue.specs.Queue.{kept_of}
 use Rattle.history.specs.Letters.{Letter, arrived}
 use Rattle.history.specs.Member.{member_of}
 use Rattle.history.specs.Moment.{Moment}
@@ -20,28 +25,30 @@ use Rattle.node_model.specs.declared.cluster.Cluster.{Cluster}
 use Rattle.node_model.specs.declared.node.UpNode.{UpNode}
 use Rattle.node_model.specs.declared.seat.Seat.{Seat}
 use Rattle.node_model.specs.declared.seat.Seat.TheVariants.{Forming, Member}
-use Rattle.node_model.specs.Members.{hearing, is_foreign}
-use Rattle.node_model.specs.Seats.{is_in}
+use Rattle.node_model.specs.Members.{awaits_start, hearing, is_foreign}
+use Rattle.node_model.specs.Seats.{installed_of, is_in, session_of}
 use Rattle.node_model.specs.Steps.{at_second}
 use Rattle.node_model.specs.Updates.{commits_now}
 use Rattle.node_model.specs.declared.input.Input.TheVariants as input
-use Rattle.refinement.specs.Courses.{Course}
-use Rattle.refinement.specs.Courses.Course.{Acts, Keeps, Stops}
+use Rattle.refinement.specs.Courses.Course.{Acts, Falls, Keeps, Stops}
 use Rattle.refinement.specs.Cuts as cuts
 use Rattle.refinement.specs.Cuts.{course_at}
-use Rattle.refinement.specs.Doings.Act.{Hears, Makes}
+use Rattle.refinement.specs.Doings.Act.{Accepts, Hears, Makes}
 use Rattle.refinement.specs.Doings.Change.{Commits, Prepares, Sits}
 use Rattle.schedule_text.specs.declared.event.Event.{Event}
 use Rattle.schedule_text.specs.declared.event.Event.TheVariants as event
+use Rattle.seize.specs.declared.kind.SeizeKind.{SeizeKind}
+use Rattle.seize.specs.declared.kind.SeizeKind.TheVariants.{Plain, Vote}
+use Rattle.status_report.specs.declared.node_entry.DownCause.TheVariants as down
 use Rattle.wire.specs.declared.message.Body.{Body}
 use Rattle.wire.specs.declared.message.Body.TheVariants as body
 use Rattle.wire.specs.declared.message.Message.{Message}
 use Rattle.world_model.specs.Sends.{name_of}
 use Rattle.run_messages.specs.Laws.{membership_in}
 use Rattle.run_records.specs.Shown.{shown}
-use Rattle.run_downs.proofs.Courses.{by_test}
+use Rattle.run_downs.proofs.Courses.{GoesFine, by_test}
 use Rattle.run_downs.proofs.Rules.{CourseStops, keep_stops, none_stops}
-use Rattle.run_downs.specs.Laws.{tells_update}
+use Rattle.run_downs.specs.Laws.{asks_no_save, tells_update}
 
 not_so : false ≡ true → ⊥
 not_so h = cc
@@ -67,7 +74,7 @@ SavesAt (body.Prepare e place text) (Forming s) = ⊥
 SavesAt (body.Prepare e place text) (Member s) = Unit {0}
 SavesAt (body.Commit e place) (Forming s) = ⊥
 SavesAt (body.Commit e place) (Member s) = IsPending s
-SavesAt _ seat = Unit {0}
+SavesAt _ seat = ⊥
 
 start_stops : (c : Cluster) (n : ℕ) (x : UpNode) (e : ℕ) (seat : Seat) → CourseStops (SavesAt (body.Start e) seat) c n x (cuts.start_course e seat)
 start_stops c n x e (Member s) = none_stops ⊥ c n x Stops tt
@@ -98,15 +105,44 @@ commit_stops c n x e place (Member s) =
     (first_so (is_some s.saved.entries.pending) (place == length s.saved.entries.committed + 1) (second_so (is_in x e) (commits_now s place) now)))
     (λ later. none_stops (IsPending s) c n x Stops tt)
 
-update_stops : (c : Cluster) (n : ℕ) (ends : method.Outcome) (x : UpNode) (from : ℕ) (m : Message) (b : Body) → tells_update (named (name_of b)) ≡ true
+-- it saves nothing
+
+heartbeat_stops : (c : Cluster) (n : ℕ) (x : UpNode) (from session : ℕ) (member : Bool) → CourseStops ⊥ c n x (cuts.heartbeat_course n x from session member)
+heartbeat_stops c n x from session member =
+    none_stops ⊥ c n x (cuts.heartbeat_course n x from session member)
+    (if_either (GoesFine false) (awaits_start n x from session member) (cuts.writing from (body.Start (session_of x))) Stops (tt, tt) tt)
+
+requested_fine : (x : UpNode) (from : ℕ) (kind : SeizeKind) (e members d : ℕ) (o : Option SeizeResult) → GoesFine false (cuts.request_course x from kind e members d o)
+requested_fine x from kind e members d (Some result) = (tt, tt)
+requested_fine x from kind e members d None =
+    if_either (GoesFine false) (installed_of x == e) (cuts.writing from (body.Seized e d seized.Fault)) (Acts (Accepts kind e members d) Stops) (tt, tt) (tt, tt)
+
+seizing_stops : (c : Cluster) (n : ℕ) (x : UpNode) (from : ℕ) (kind : SeizeKind) (e members d : ℕ) → CourseStops ⊥ c n x (cuts.seizing_course x from kind e members d)
+seizing_stops c n x from kind e members d =
+    none_stops ⊥ c n x (cuts.seizing_course x from kind e members d)
+    (if_either (GoesFine false) (is_in x e) (cuts.request_course x from kind e members d (kept_of x.tasks d)) Stops (requested_fine x from kind e members d (kept_of x.tasks d)) tt)
+
+notice_stops : (c : Cluster) (n : ℕ) (x : UpNode) (e newest : ℕ) → CourseStops ⊥ c n x (cuts.notice_course x e newest)
+notice_stops c n x e newest =
+    none_stops ⊥ c n x (cuts.notice_course x e newest) (if_either (GoesFine false) (is_in x e) (Falls (down.Panic (panic.Excluded newest))) Stops tt tt)
+
+-- the message is one of these
+abbrev pub IsSettled : Body → Type 0
+IsSettled b = (tells_update (named (name_of b)) || asks_no_save (named (name_of b))) ≡ true
+
+update_stops : (c : Cluster) (n : ℕ) (ends : method.Outcome) (x : UpNode) (from : ℕ) (m : Message) (b : Body) → IsSettled b
     → CourseStops (SavesAt b x.seat) c n x (cuts.body_course c n ends x from m b)
 update_stops c n ends x from m (body.Start e) told = start_stops c n x e x.seat
 update_stops c n ends x from m (body.Prepare e place text) told = prepare_stops c n x from e place text x.seat
 update_stops c n ends x from m (body.Commit e place) told = commit_stops c n x e place x.seat
+update_stops c n ends x from m (body.Heartbeat promised session member) told = heartbeat_stops c n x from session member
+update_stops c n ends x from m (body.SeizeQuorum e members d) told = seizing_stops c n x from Vote e members d
+update_stops c n ends x from m (body.SeizeData e members d) told = seizing_stops c n x from Plain e members d
+update_stops c n ends x from m (body.Excluded e newest) told = notice_stops c n x e newest
 update_stops c n ends x from m _ told = absurd (not_so told)
 
 -- .. of the message, at its second of the clock
-pub message_stops : (c : Cluster) (n now : ℕ) (ends : method.Outcome) (x : UpNode) (from : ℕ) (m : Message) → tells_update (named (name_of m.body)) ≡ true
+pub message_stops : (c : Cluster) (n now : ℕ) (ends : method.Outcome) (x : UpNode) (from : ℕ) (m : Message) → IsSettled m.body
     → CourseStops (SavesAt m.body x.seat) c n x (course_at c n now ends x (input.Packet from m))
 message_stops c n now ends x from m told =
     let y : UpNode = at_second now x in
@@ -125,19 +161,19 @@ both_so false b h k = cc
 both_so true false h k = cc
 
 -- the rules let a node in this seat save at such a message
-saves_so : (n : ℕ) (l : Letter) (b : Body) (seat : Seat) (ms : List Moment) → tells_update (named (name_of b)) ≡ true → member_of n ms ≡ membership_in seat
+saves_so : (n : ℕ) (l : Letter) (b : Body) (seat : Seat) (ms : List Moment) → member_of n ms ≡ membership_in seat
     → ((s : NodeState) → (seat ≡ Forming s) → is_some s.saved.entries.pending ≡ true → has_pending n ms ≡ true)
     → ((s : NodeState) → (seat ≡ Member s) → is_some s.saved.entries.pending ≡ true → has_pending n ms ≡ true) → SavesAt b seat
     → saves_at n l (named (name_of b)) ms ≡ true
-saves_so n l (body.Start e) (Forming s) ms told member forming sitting q =
+saves_so n l (body.Start e) (Forming s) ms member forming sitting q =
     both_so (not (is_some (member_of n ms))) (has_pending n ms) (ap (λ (o : Option ℕ). not (is_some o)) member) (forming s refl q)
-saves_so n l (body.Start e) (Member s) ms told member forming sitting q = absurd q
-saves_so n l (body.Prepare e place text) (Forming s) ms told member forming sitting q = absurd q
-saves_so n l (body.Prepare e place text) (Member s) ms told member forming sitting q = ap (λ (o : Option ℕ). is_some o) member
-saves_so n l (body.Commit e place) (Forming s) ms told member forming sitting q = absurd q
-saves_so n l (body.Commit e place) (Member s) ms told member forming sitting q =
+saves_so n l (body.Start e) (Member s) ms member forming sitting q = absurd q
+saves_so n l (body.Prepare e place text) (Forming s) ms member forming sitting q = absurd q
+saves_so n l (body.Prepare e place text) (Member s) ms member forming sitting q = ap (λ (o : Option ℕ). is_some o) member
+saves_so n l (body.Commit e place) (Forming s) ms member forming sitting q = absurd q
+saves_so n l (body.Commit e place) (Member s) ms member forming sitting q =
     both_so (is_some (member_of n ms)) (has_pending n ms) (ap (λ (o : Option ℕ). is_some o) member) (sitting s refl q)
-saves_so n l _ seat ms told member forming sitting q = absurd (not_so told)
+saves_so n l _ seat ms member forming sitting q = absurd q
 
 abbrev pub IsDelivering : Option Event → Type 0
 IsDelivering (Some (event.Deliver p)) = Unit {0}
@@ -153,11 +189,11 @@ letter_saves S n (Some (event.Next from at)) l ms is here to saves = ap (λ o. s
 letter_saves S n _ l ms is here to saves = absurd is
 
 pub may_save_so : (S : Setting) (n : ℕ) (l : Letter) (b : Body) (seat : Seat) (disk : NodeRecord) (ms : List Moment) → IsDelivering (under_way ms) → arrived ms ≡ Some l → l.to ≡ n → l.name ≡ named (name_of b)
-    → tells_update (named (name_of b)) ≡ true → member_of n ms ≡ membership_in seat → IfSome (history.record_of n ms) (λ r. r ≡ shown disk)
+    → member_of n ms ≡ membership_in seat → IfSome (history.record_of n ms) (λ r. r ≡ shown disk)
     → ((s : NodeState) → seat ≡ Forming s → disk ≡ s.saved) → ((s : NodeState) → seat ≡ Member s → disk ≡ s.saved) → SavesAt b seat → may_save S n ms ≡ true
-may_save_so S n l b seat disk ms is here to called told member record_so forming sitting q =
+may_save_so S n l b seat disk ms is here to called member record_so forming sitting q =
     letter_saves S n (under_way ms) l ms is here to
     (subst (λ (a : Name). saves_at n l a ms ≡ true) (sym called)
-    (saves_so n l b seat ms told member
+    (saves_so n l b seat ms member
     (λ s at some. pending_so disk (history.record_of n ms) record_so (ap (λ (r : NodeRecord). is_some r.entries.pending) (forming s at) ∙ some))
     (λ s at some. pending_so disk (history.record_of n ms) record_so (ap (λ (r : NodeRecord). is_some r.entries.pending) (sitting s at) ∙ some)) q))

@@ -1,5 +1,5 @@
 -- What is proved of each run of the world, as things that happen: why nodes come up and go down, and where they stop.
-use Rattle.std.specs.Prelude.{ℕ, ◌≡◌, ◌==◌, Bool, true, false, List, Option, None, Some}
+use Rattle.std.specs.Prelude.{ℕ, ◌≡◌, ◌==◌, ◌||◌, Bool, true, false, List, Option, None, Some}
 use Rattle.std.specs.List.{list_any}
 use Rattle.cl_base.specs.declared.panic.Panic.TheVariants as panic
 use Rattle.schedule_text.specs.declared.event.Event.{Event}
@@ -69,16 +69,30 @@ tells_update (name.Prepare v) = true
 tells_update (name.Commit v) = true
 tells_update _ = false
 
--- the event is a boot, or delivers such a message
-abbrev pub is_boot_or_update : Option Event → Option Letter → Bool
-is_boot_or_update (Some (event.Boot n)) came = true
-is_boot_or_update (Some (event.Deliver p)) came = passes (λ (l : Letter). tells_update l.name) came
-is_boot_or_update (Some (event.Next from to)) came = passes (λ (l : Letter). tells_update l.name) came
-is_boot_or_update _ came = false
+-- a message at which a node saves nothing
+abbrev pub asks_no_save : Name → Bool
+asks_no_save name.Heartbeat = true
+asks_no_save (name.SeizeQuorum d) = true
+asks_no_save (name.SeizeData d) = true
+asks_no_save name.Excluded = true
+asks_no_save _ = false
+
+abbrev pub is_settled_by : Letter → Bool
+is_settled_by l = tells_update l.name || asks_no_save l.name
+
+-- the event is a boot, delivers such a message, or is one in which a node saves nothing: a crash, a write, a client's request
+abbrev pub is_settled : Option Event → Option Letter → Bool
+is_settled (Some (event.Boot n)) came = true
+is_settled (Some (event.Crash n)) came = true
+is_settled (Some (event.Write n d value)) came = true
+is_settled (Some (event.Client n address client port)) came = true
+is_settled (Some (event.Deliver p)) came = passes is_settled_by came
+is_settled (Some (event.Next from to)) came = passes is_settled_by came
+is_settled _ came = false
 
 -- .. and where it stops in such an event the rules let it save there
 abbrev pub StopsByRule : Setting → List Moment → Moment → Type 0
-StopsByRule S before (stopped n) = is_boot_or_update (under_way before) (arrived before) ≡ true → may_save S n before ≡ true
+StopsByRule S before (stopped n) = is_settled (under_way before) (arrived before) ≡ true → may_save S n before ≡ true
 StopsByRule S before _ = Unit {0}
 
 -- a stop that is due comes next
@@ -100,8 +114,8 @@ StopsOfEachRun = OfEachRun (Always StopsAtStop)
 abbrev pub SavesOfEachRun : Type 0
 SavesOfEachRun = OfEachRun (Always SavesInEvent)
 
-abbrev pub UpdateStopsOfEachRun : Type 0
-UpdateStopsOfEachRun = OfEachRun (λ moments. (S : Setting) → Always (StopsByRule S) moments)
+abbrev pub SettledStopsOfEachRun : Type 0
+SettledStopsOfEachRun = OfEachRun (λ moments. (S : Setting) → Always (StopsByRule S) moments)
 
 abbrev pub StopsComeInEachRun : Type 0
 StopsComeInEachRun = OfEachRun (Always StopComes)

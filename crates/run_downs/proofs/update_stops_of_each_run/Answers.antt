@@ -1,5 +1,0 @@
-use Rattle.run_downs.proofs.Ruled as proof
-use Rattle.run_downs.proofs.update_stops_of_each_run.Goals as goal
-
-pub returns : goal.returns
-returns c = proof.update_stops_of_each_run
