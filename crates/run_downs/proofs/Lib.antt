@@ -5,4 +5,8 @@ pub mod Steps
 pub mod Runs
 pub mod Rules
 pub mod Updates
+pub mod Packets
+pub mod Promises
+pub mod Collects
+pub mod Promised
 pub mod Ruled
