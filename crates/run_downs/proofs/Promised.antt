@@ -118,7 +118,7 @@ taking_promises c M n now ends i z low fits holds so stands after saves h = λ j
 
 -- ---- a message
 
-collect_number : (M : Memberships) (l : Letter) (p members : ℕ) → LetterSound M l → says l.bytes ≡ Some (body.Collect p members) → number_of l ≡ Some p
+pub collect_number : (M : Memberships) (l : Letter) (p members : ℕ) → LetterSound M l → says l.bytes ≡ Some (body.Collect p members) → number_of l ≡ Some p
 collect_number M l p members sound read = by_whole (whole_of l.bytes) refl read
   where
     by_whole : (o : Option Message) → whole_of l.bytes ≡ o → option_map (λ (m : Message). m.body) o ≡ Some (body.Collect p members) → number_of l ≡ Some p

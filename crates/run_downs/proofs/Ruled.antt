@@ -1,5 +1,5 @@
 -- In each run a node stops in a boot, or at a Start, a Prepare or a Commit, only where the rules let it save there.
-use Rattle.std.specs.Prelude.{ℕ, ◌-◌, ◌<◌, ◌==◌, ◌≡◌, ◌≤◌, ◌^◌, ◌||◌, Bool, true, false, List, [], ◌∷◌, Option, None, Some, Ok, length, slice_get}
+use Rattle.std.specs.Prelude.{ℕ, ◌-◌, ◌<◌, ◌==◌, ◌≡◌, ◌≤◌, ◌^◌, Bool, true, false, List, [], ◌∷◌, Option, None, Some, Ok, length, slice_get}
 use Rattle.std.proofs.Common.{refl, sym, ap, subst, ◌∙◌, arith, inl, inr}
 use Rattle.cl_base.specs.declared.header.Header.{Header}
 use Rattle.cl_base.specs.declared.method.Outcome as method
@@ -7,11 +7,11 @@ use Rattle.cl_base.specs.declared.packet.DropCause.{DropCause}
 use Rattle.cmm_attempt.proofs.Basics.{if_either}
 use Rattle.cmm_member.specs.Nodes.{NodeState}
 use Rattle.cmm_member.specs.Records.{NodeRecord}
-use Rattle.history.specs.Letters.{Letter, arrived}
+use Rattle.history.specs.Letters.{Letter, arrived, says}
 use Rattle.history.specs.Moment.{Moment, Said, Told}
 use Rattle.history.specs.Names.{named}
 use Rattle.history.specs.Order.{Always, under_way}
-use Rattle.history.specs.Saves.{may_save, saves_in}
+use Rattle.history.specs.Saves.{may_save, promise_of, saves_in}
 use Rattle.history.specs.Setting.{Setting}
 use Rattle.interconnect.specs.Links as net
 use Rattle.interconnect.specs.Links.{Packet, sending}
@@ -51,6 +51,8 @@ use Rattle.status_report.specs.declared.node_entry.DownCause.TheVariants as caus
 use Rattle.status_report.specs.declared.node_entry.NodeEntry.TheVariants as note
 use Rattle.status_report.specs.declared.packet_entry.PacketEntry.TheVariants as packet
 use Rattle.wire.specs.Spelling.{spelling}
+use Rattle.wire.specs.declared.message.Body.{Body}
+use Rattle.wire.specs.declared.message.Body.TheVariants as body
 use Rattle.wire.specs.declared.message.Message.{Message}
 use Rattle.world_model.specs.First.{first_cluster}
 use Rattle.world_model.specs.Sends.{is_sent, name_of}
@@ -65,11 +67,13 @@ use Rattle.run_messages.proofs.Runs.{memberships_of_each_run}
 use Rattle.run_records.specs.Kept.{Came, KnownScene}
 use Rattle.run_records.specs.Shown.{RecordIn}
 use Rattle.run_records.proofs.Arrivals.{arrived_kept}
-use Rattle.run_records.proofs.Runs.{run_known}
+use Rattle.run_records.specs.Sound.{LetterSound}
+use Rattle.run_records.proofs.Letters.{letter_sound}
+use Rattle.run_downs.proofs.Promised.{PromisesHold, collect_number, known_at, run_promises}
 use Rattle.run_downs.proofs.Rules.{NoStops, StopsIf, none_stops}
 use Rattle.run_downs.proofs.Steps.{client_fine}
-use Rattle.run_downs.proofs.Updates.{IsDelivering, SavesAt, may_save_so, message_stops}
-use Rattle.run_downs.specs.Laws.{SettledStopsOfEachRun, StopsByRule, asks_no_save, is_settled, is_settled_by, tells_update}
+use Rattle.run_downs.proofs.Updates.{AskedSo, IsDelivering, SavesAt, may_save_so, message_stops}
+use Rattle.run_downs.specs.Laws.{SettledStopsOfEachRun, StopsByRule, is_settled, is_settled_by, is_settled_name}
 
 not_so : false ≡ true → ⊥
 not_so h = cc
@@ -250,17 +254,18 @@ sitting_disk : (c : Cluster) (M : Memberships) (n : ℕ) (disk : NodeRecord) (x 
 sitting_disk c M n disk x seat same tied s at = (subst (λ z. SeatTied c M n disk x.attempt z) (sym same ∙ at) tied.0).1
 
 message_ruled : (S : Setting) (c : Cluster) (M : Memberships) (n now : ℕ) (ends : method.Outcome) (from : ℕ) (m : Message) (node : Node) (disk : DiskState) (s : Scene) → NodeTied c M n disk.kept node
-    → IsSeated s.moments n node → RecordIn s.moments n disk.kept → IsDelivering (under_way s.moments) → Came s.moments n from m.body → (b : Bool) → (tells_update (named (name_of m.body)) || asks_no_save (named (name_of m.body))) ≡ b
+    → IsSeated s.moments n node → RecordIn s.moments n disk.kept → IsDelivering (under_way s.moments) → (came : Came s.moments n from m.body)
+    → AskedSo came.letter m.body → promise_of n s.moments ≤ disk.kept.promised → (b : Bool) → is_settled_name (named (name_of m.body)) ≡ b
     → Always (StopsByRule S) s.moments → Always (StopsByRule S) (passing n (stepped disk_rules c n now ends node disk (input.Packet from m)).given s).moments
-message_ruled S c M n now ends from m node disk s tied seated record_so is came false kind so =
+message_ruled S c M n now ends from m node disk s tied seated record_so is came asked low false kind so =
     silent_ruled S n (stepped disk_rules c n now ends node disk (input.Packet from m)).given s
     (packet_quiet n node from m _ (commands_are_told c n now ends node disk (input.Packet from m)))
-    (ap (λ a. is_settled (under_way s.moments) a) came.here ∙ other_kind (under_way s.moments) came.letter is (ap (λ a. tells_update a || asks_no_save a) came.called ∙ kind)) so
-message_ruled S c M n now ends from m Down disk s tied seated record_so is came true kind so = so
-message_ruled S c M n now ends from m (Up x) disk s tied seated record_so is came true kind so =
+    (ap (λ a. is_settled (under_way s.moments) a) came.here ∙ other_kind (under_way s.moments) came.letter is (ap is_settled_name came.called ∙ kind)) so
+message_ruled S c M n now ends from m Down disk s tied seated record_so is came asked low true kind so = so
+message_ruled S c M n now ends from m (Up x) disk s tied seated record_so is came asked low true kind so =
     stops_ruled S n (SavesAt m.body x.seat) (stepped disk_rules c n now ends (Up x) disk (input.Packet from m)).given s
     (subst (λ (o : Outcome DiskState). StopsIf (SavesAt m.body x.seat) n o.given) (sym ((step_of_node_is_its_course saving c n now ends x (input.Packet from m)).is [] disk)) (message_stops c n now ends x from m kind disk))
-    (may_save_so S n came.letter m.body x.seat disk.kept s.moments is came.here came.receiver came.called seated record_so (forming_disk c M n disk.kept x x.seat refl tied)
+    (may_save_so S n came.letter m.body x.seat disk.kept s.moments is came.here came.receiver came.called asked low seated record_so (forming_disk c M n disk.kept x x.seat refl tied)
     (sitting_disk c M n disk.kept x x.seat refl tied)) so
 
 -- ---- each thing that happens
@@ -269,6 +274,11 @@ message_ruled S c M n now ends from m (Up x) disk s tied seated record_so is cam
 record Knows (c : Cluster) (s : Scene) : Type 0 where
   known : KnownScene c s
   seated : AreSeated s
+  promises : PromisesHold s
+
+asked_so : (M : Memberships) (l : Letter) (b : Body) → LetterSound M l → says l.bytes ≡ Some b → AskedSo l b
+asked_so M l (body.Collect p members) sound read = collect_number M l p members sound read
+asked_so M l _ sound read = tt
 
 commanded_ruled : (S : Setting) (s : Scene) (n d : ℕ) (o : Option Device) (k : PrCommand) → Always (StopsByRule S) s.moments → Always (StopsByRule S) (commanded_at s n d o k).scene.moments
 commanded_ruled S s n d None k h = h
@@ -292,9 +302,11 @@ happening_ruled S c s (Takes n now ends i) may k h =
 happening_ruled S c s (Arrives number x m now ends) may k h =
     let t : Scene = telling (entry.Packet (packet.Delivered number x.from x.to)) (removed s number) in
     let i : Input = input.Packet x.from m in
+    let came : Came t.moments x.to x.from m.body = arrived_kept c s number x m may.0 may.1 k.known in
     message_ruled S c k.known.stage.machine x.to now ends x.from m (s.nodes.node x.to) (s.nodes.disk x.to) (record t { nodes = moved c s.nodes (Takes_in x.to now ends i) })
-    (k.known.stage.stands x.to).tied (k.seated x.to) (k.known.at x.to).record_so (delivering s.links.packets number (under_way s.moments) may.6) (arrived_kept c s number x m may.0 may.1 k.known)
-    (tells_update (named (name_of m.body)) || asks_no_save (named (name_of m.body))) refl (tt, h)
+    (k.known.stage.stands x.to).tied (k.seated x.to) (k.known.at x.to).record_so (delivering s.links.packets number (under_way s.moments) may.6) came
+    (asked_so k.known.stage.machine came.letter m.body (letter_sound k.known.stage.machine number s.moments came.letter k.known.sound came.here) came.read) (k.promises x.to)
+    (is_settled_name (named (name_of m.body))) refl (tt, h)
 happening_ruled S c s (Strays number x) may k h = (tt, h)
 happening_ruled S c s (Misses number x) may k h = (tt, h)
 happening_ruled S c s (Loses number x) may k h = (tt, h)
@@ -320,8 +332,9 @@ happening_ruled S c s (Refuses n d value why) may k h = (tt, h)
 
 knows_at : (h : Header) (cells : ℕ) (s : Scene) → length h.devices ≤ 16 → h.cluster < 2 ^ 32 → IsReached h cells s → Knows (first_cluster h) s
 knows_at h cells s few small r = record {
-  known = subst (KnownScene (first_cluster h)) r.is (run_known h cells r.happenings few small r.may);
+  known = known_at h cells s few small r;
   seated = subst AreSeated r.is (memberships_of_each_run h cells r.happenings few small r.may);
+  promises = subst PromisesHold r.is (run_promises h cells r.happenings few small r.may);
 }
 
 first_ruled : (S : Setting) (h : Header) (cells : ℕ) → Always (StopsByRule S) (first_scene h cells).moments

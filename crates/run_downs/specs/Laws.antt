@@ -77,10 +77,18 @@ asks_no_save (name.SeizeData d) = true
 asks_no_save name.Excluded = true
 asks_no_save _ = false
 
-abbrev pub is_settled_by : Letter → Bool
-is_settled_by l = tells_update l.name || asks_no_save l.name
+-- a message that asks for a promise
+abbrev pub asks_promise : Name → Bool
+asks_promise name.Collect = true
+asks_promise _ = false
 
--- the event is a boot, delivers such a message, or is one in which a node saves nothing: a crash, a write, a client's request
+abbrev pub is_settled_name : Name → Bool
+is_settled_name called = tells_update called || (asks_no_save called || asks_promise called)
+
+abbrev pub is_settled_by : Letter → Bool
+is_settled_by l = is_settled_name l.name
+
+-- the event is a boot, delivers a message of these kinds, or is one in which a node saves nothing: a crash, a write, a client's request
 abbrev pub is_settled : Option Event → Option Letter → Bool
 is_settled (Some (event.Boot n)) came = true
 is_settled (Some (event.Crash n)) came = true
