@@ -24,7 +24,7 @@ use Rattle.run_history.proofs.WholeEachRun.{repositories_are_kept}
 use Rattle.run_history.proofs.DiskEachRun.{disk_rule_of_each_run}
 use Rattle.run_history.proofs.Runs.{installed_of_each_run, once_of_each_run, prepared_of_each_run, ready_of_each_run, told_of_each_run}
 use Rattle.run_answers.proofs.Laws.{asked_of_each_run}
-use Rattle.run_commands.proofs.Laws.{answers_once_in_each_run}
+use Rattle.run_commands.proofs.Laws as commands
 use Rattle.run_downs.proofs.Runs as downs
 use Rattle.run_messages.proofs.Runs.{heartbeats_of_each_run}
 use Rattle.run_messages.proofs.Spelling.{spelled_of_each_run}
@@ -107,7 +107,9 @@ told_trace h events text p header disks is told =
       heartbeats = heartbeats_of_each_run h 65536 told.happenings header.devices header.cluster_high told.may;
       updates = updates_of_each_run h 65536 told.happenings header.devices header.cluster_high told.may;
       asked = asked_of_each_run h 65536 told.happenings header.devices header.cluster_high told.may;
-      answers_once = answers_once_in_each_run h 65536 told.happenings header.devices header.cluster_high told.may;
+      answers_once = commands.answers_once_in_each_run h 65536 told.happenings header.devices header.cluster_high told.may;
+      numbered = commands.commands_are_numbered_in_each_run h 65536 told.happenings header.devices header.cluster_high told.may;
+      own_answers = commands.own_answers_fit_in_each_run h 65536 told.happenings header.devices header.cluster_high told.may;
       boots = downs.boots_of_each_run h 65536 told.happenings header.devices header.cluster_high told.may;
       crashes = downs.crashes_of_each_run h 65536 told.happenings header.devices header.cluster_high told.may;
       fences = downs.fences_of_each_run h 65536 told.happenings header.devices header.cluster_high told.may;

@@ -27,6 +27,8 @@ use Rattle.history.specs.Requests.{Asked}
 use Rattle.history.specs.Starts.{StartLines, base_due}
 use Rattle.history_setting.specs.Settings.{setting_of}
 use Rattle.world_model.specs.First.{first_world}
+use Rattle.run_commands.specs.Numbered.{CommandsAreNumbered}
+use Rattle.run_commands.specs.Own.{OwnAnswersFit}
 use Rattle.run_downs.specs.Laws.{BootIsSaid, CrashIsSaid, FencedByWrite, SavesInEvent, StopComes, StopsAtStop}
 use Rattle.run_history.specs.Telling.{lines_upon}
 use Rattle.run_history.specs.Scenes.{text_of}
@@ -43,7 +45,8 @@ use Rattle.replay.specs.Replays.{OfCluster, OfDevice, Schedule, entries, schedul
 -- comes up, crashes and saves in the event that makes it do so, panics for a fence where a write of its own was refused, and
 -- stops exactly where an armed stop falls. While there are fewer than 2^63 lines, which number the commands, a Prepare has the
 -- words that were proposed, a Request those of its command, a member answers what the president's Answer says, each update was
--- asked for by a request of its own, and each command is answered once at most.
+-- asked for by a request of its own, each command is numbered and is answered once at most, and what a node answers by itself
+-- fits its command.
 pub record IsTrace (h : Header) (events : List Event) (text : List ℕ) : Type 0 where
   pub moments : List Moment
   pub said : lines_of moments ≡ lines_upon [] events
@@ -72,6 +75,8 @@ pub record IsTrace (h : Header) (events : List Event) (text : List ℕ) : Type 0
   pub updates : length (lines_of moments) < 2 ^ 63 → CarriedUpdates (setting_of h) moments
   pub asked : length (lines_of moments) < 2 ^ 63 → Asked (setting_of h) moments
   pub answers_once : length (lines_of moments) < 2 ^ 63 → AnswersOnce moments
+  pub numbered : length (lines_of moments) < 2 ^ 63 → CommandsAreNumbered moments
+  pub own_answers : length (lines_of moments) < 2 ^ 63 → OwnAnswersFit (setting_of h) moments
   pub boots : Always BootIsSaid moments
   pub crashes : Always CrashIsSaid moments
   pub fences : Always FencedByWrite moments

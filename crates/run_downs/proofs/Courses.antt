@@ -115,7 +115,7 @@ pub record Walked (n : ℕ) (may : Bool) (stop : Option Stop) (before : List Out
   pub fine : AreFine n may (calls_in stop) outputs
   pub left : left_by_all (calls_in stop) outputs ≡ calls_in o.disk.stop
 
-says_all : (me : ℕ) (os : List Output) (p : Plan) (given : List Output) (disk : DiskState) → carried saving me p (given ++ os) disk ≡ carried saving me (saying os p) given disk
+pub says_all : (me : ℕ) (os : List Output) (p : Plan) (given : List Output) (disk : DiskState) → carried saving me p (given ++ os) disk ≡ carried saving me (saying os p) given disk
 says_all me os p given disk = (said_singly saving me os p).is given disk
 
 acted_walks : (c : Cluster) (me : ℕ) (may : Bool) (x : UpNode) (stop : Option Stop) (before : List Output) (a : Act) (o : Outcome DiskState) → GivesAsides a

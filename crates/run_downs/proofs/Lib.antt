@@ -3,3 +3,10 @@ pub mod Lines
 pub mod Courses
 pub mod Steps
 pub mod Runs
+pub mod Rules
+pub mod Updates
+pub mod Packets
+pub mod Promises
+pub mod Collects
+pub mod Promised
+pub mod Ruled

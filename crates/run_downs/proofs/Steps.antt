@@ -188,6 +188,10 @@ client_keeps : (c : Cluster) (x : UpNode) (name : List ℕ) (client port : ℕ) 
 client_keeps c x name client port None = tt
 client_keeps c x name client port (Some p) = client_serves (in_force c x) x p name client port (named (in_force c x).addresses name)
 
+pub client_fine : (c : Cluster) (n now : ℕ) (ends : method.Outcome) (x : UpNode) (name : List ℕ) (client port : ℕ) → GoesFine false (course_at c n now ends x (Client name client port))
+client_fine c n now ends x name client port =
+    (tt, unsaved_fine Any (cuts.client_course c (at_second now x) name client port) (client_is Any c (at_second now x) name client port) (client_keeps c (at_second now x) name client port x.presidency))
+
 pub step_passed : (c : Cluster) (n now : ℕ) (ends : method.Outcome) (i : Input) (node : Node) (disk : DiskState) (s : Scene) → AtEvent i n s.moments
     → calls_left n s.moments ≡ calls_in disk.stop → stop_due s.moments ≡ None → Always GoesSo s.moments
     → (let o : Outcome DiskState = stepped disk_rules c n now ends node disk i in Passed n (calls_in o.disk.stop) s.moments (passing n o.given s).moments)
@@ -216,6 +220,4 @@ step_passed c n now ends (Commanded words) (Up x) disk s at left due so =
 step_passed c n now ends (Reported r good) (Up x) disk s at left due so =
     course_passed c n now ends true (Reported r good) x disk s (tt, ordinary_fine Any (cuts.report_course c n (at_second now x) r good) (report_is Any c n (at_second now x) r good)) (λ y. at.1) at.0 left due so
 step_passed c n now ends (Client name client port) (Up x) disk s at left due so =
-    course_passed c n now ends false (Client name client port) x disk s
-    (tt, unsaved_fine Any (cuts.client_course c (at_second now x) name client port) (client_is Any c (at_second now x) name client port) (client_keeps c (at_second now x) name client port x.presidency))
-    (λ never. absurd (not_so never)) at left due so
+    course_passed c n now ends false (Client name client port) x disk s (client_fine c n now ends x name client port) (λ never. absurd (not_so never)) at left due so

@@ -1,13 +1,18 @@
 -- What is proved of each run of the world, as things that happen: why nodes come up and go down, and where they stop.
-use Rattle.std.specs.Prelude.{ℕ, ◌≡◌, ◌==◌, Bool, true, false, List, Option, None, Some}
+use Rattle.std.specs.Prelude.{ℕ, ◌≡◌, ◌==◌, ◌||◌, Bool, true, false, List, Option, None, Some}
 use Rattle.std.specs.List.{list_any}
 use Rattle.cl_base.specs.declared.panic.Panic.TheVariants as panic
 use Rattle.schedule_text.specs.declared.event.Event.{Event}
 use Rattle.schedule_text.specs.declared.event.Event.TheVariants as event
 use Rattle.status_report.specs.declared.node_entry.DownCause.TheVariants as cause
 use Rattle.history.specs.Downs.{StopsWhereDue, is_fenced_write, stop_due, stops_here, stops_next}
+use Rattle.history.specs.Letters.{Letter, arrived, passes}
 use Rattle.history.specs.Moment.{Moment}
+use Rattle.history.specs.Names as name
+use Rattle.history.specs.Names.{Name}
 use Rattle.history.specs.Order.{Always, so_far, under_way}
+use Rattle.history.specs.Saves.{may_save}
+use Rattle.history.specs.Setting.{Setting}
 use Rattle.history.specs.Trace.{delivered, down, saved, stopped, up}
 use Rattle.run_history.specs.ContactRuns.{OfEachRun}
 
@@ -57,6 +62,47 @@ SavesInEvent before (stopped n) = IsInOwnEvent n before
 SavesInEvent before (saved n) = IsInOwnEvent n before
 SavesInEvent before _ = Unit {0}
 
+-- a message by which a member learns of an update, or that its membership has started
+abbrev pub tells_update : Name → Bool
+tells_update name.Start = true
+tells_update (name.Prepare v) = true
+tells_update (name.Commit v) = true
+tells_update _ = false
+
+-- a message at which a node saves nothing
+abbrev pub asks_no_save : Name → Bool
+asks_no_save name.Heartbeat = true
+asks_no_save (name.SeizeQuorum d) = true
+asks_no_save (name.SeizeData d) = true
+asks_no_save name.Excluded = true
+asks_no_save _ = false
+
+-- a message that asks for a promise
+abbrev pub asks_promise : Name → Bool
+asks_promise name.Collect = true
+asks_promise _ = false
+
+abbrev pub is_settled_name : Name → Bool
+is_settled_name called = tells_update called || (asks_no_save called || asks_promise called)
+
+abbrev pub is_settled_by : Letter → Bool
+is_settled_by l = is_settled_name l.name
+
+-- the event is a boot, delivers a message of these kinds, or is one in which a node saves nothing: a crash, a write, a client's request
+abbrev pub is_settled : Option Event → Option Letter → Bool
+is_settled (Some (event.Boot n)) came = true
+is_settled (Some (event.Crash n)) came = true
+is_settled (Some (event.Write n d value)) came = true
+is_settled (Some (event.Client n address client port)) came = true
+is_settled (Some (event.Deliver p)) came = passes is_settled_by came
+is_settled (Some (event.Next from to)) came = passes is_settled_by came
+is_settled _ came = false
+
+-- .. and where it stops in such an event the rules let it save there
+abbrev pub StopsByRule : Setting → List Moment → Moment → Type 0
+StopsByRule S before (stopped n) = is_settled (under_way before) (arrived before) ≡ true → may_save S n before ≡ true
+StopsByRule S before _ = Unit {0}
+
 -- a stop that is due comes next
 abbrev pub StopComes : List Moment → Moment → Type 0
 StopComes before x = StopsWhereDue (stop_due before) x
@@ -75,6 +121,9 @@ StopsOfEachRun = OfEachRun (Always StopsAtStop)
 
 abbrev pub SavesOfEachRun : Type 0
 SavesOfEachRun = OfEachRun (Always SavesInEvent)
+
+abbrev pub SettledStopsOfEachRun : Type 0
+SettledStopsOfEachRun = OfEachRun (λ moments. (S : Setting) → Always (StopsByRule S) moments)
 
 abbrev pub StopsComeInEachRun : Type 0
 StopsComeInEachRun = OfEachRun (Always StopComes)

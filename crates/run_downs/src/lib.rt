@@ -4,7 +4,7 @@
 //! all agents.
 #![tactic(auto)]
 
-ghost use Rattle.run_downs.specs.Laws.{BootsOfEachRun, CrashesOfEachRun, FencesOfEachRun, NoStopIsDue, SavesOfEachRun, StopsComeInEachRun, StopsOfEachRun};
+ghost use Rattle.run_downs.specs.Laws.{BootsOfEachRun, CrashesOfEachRun, FencesOfEachRun, NoStopIsDue, SavesOfEachRun, SettledStopsOfEachRun, StopsComeInEachRun, StopsOfEachRun};
 
 /// A node comes up in the event of its boot.
 pub fn boots_of_each_run()
@@ -30,6 +30,13 @@ pub fn stops_of_each_run()
 /// the delivery of a packet to it.
 pub fn saves_of_each_run()
     ensures { SavesOfEachRun }
+{}
+
+/// In a boot, and in the event of a Collect, a Start, a Prepare or a Commit, a node stops only where the rules let it save there: a Collect is of a greater
+/// number than it has promised, at a Prepare and a Commit it is a member, at a Start it is none yet, and at a Start and a Commit an update may be pending. In a crash, a write, a client's request, and at a Heartbeat,
+/// a request to seize or an Excluded it does not stop at all.
+pub fn settled_stops_of_each_run()
+    ensures { SettledStopsOfEachRun }
 {}
 
 /// Where the stop falls in a mounting the node stops at once: that is the next line after `up`.

@@ -1,0 +1,347 @@
+-- In each run a node stops in a boot, or at a Start, a Prepare or a Commit, only where the rules let it save there.
+use Rattle.std.specs.Prelude.{ℕ, ◌-◌, ◌<◌, ◌==◌, ◌≡◌, ◌≤◌, ◌^◌, Bool, true, false, List, [], ◌∷◌, Option, None, Some, Ok, length, slice_get}
+use Rattle.std.proofs.Common.{refl, sym, ap, subst, ◌∙◌, arith, inl, inr}
+use Rattle.cl_base.specs.declared.header.Header.{Header}
+use Rattle.cl_base.specs.declared.method.Outcome as method
+use Rattle.cl_base.specs.declared.packet.DropCause.{DropCause}
+use Rattle.cmm_attempt.proofs.Basics.{if_either}
+use Rattle.cmm_member.specs.Nodes.{NodeState}
+use Rattle.cmm_member.specs.Records.{NodeRecord}
+use Rattle.history.specs.Letters.{Letter, arrived, says}
+use Rattle.history.specs.Moment.{Moment, Said, Told}
+use Rattle.history.specs.Names.{named}
+use Rattle.history.specs.Order.{Always, under_way}
+use Rattle.history.specs.Saves.{may_save, promise_of, saves_in}
+use Rattle.history.specs.Setting.{Setting}
+use Rattle.interconnect.specs.Links as net
+use Rattle.interconnect.specs.Links.{Packet, sending}
+use Rattle.membership_machine.specs.State.{Memberships}
+use Rattle.node_model.specs.Clusters.{first_valid_of}
+use Rattle.node_model.specs.declared.cluster.Cluster.{Cluster}
+use Rattle.node_model.specs.declared.input.Input.{Input}
+use Rattle.node_model.specs.declared.input.Input.TheVariants as input
+use Rattle.node_model.specs.declared.node.Node.{Node}
+use Rattle.node_model.specs.declared.node.Node.TheVariants.{Down, Up}
+use Rattle.node_model.specs.declared.node.UpNode.{UpNode}
+use Rattle.node_model.specs.declared.output.Output.{Output}
+use Rattle.node_model.specs.declared.output.Output.TheVariants.{Sends, Tells}
+use Rattle.node_model.specs.declared.seat.Seat.{Seat}
+use Rattle.node_model.specs.declared.seat.Seat.TheVariants.{Forming, Member}
+use Rattle.node_model.specs.Steps.{Outcome, booted_with, stepped}
+use Rattle.pgr_device.specs.Device.{Device}
+use Rattle.pgr_device.specs.declared.command.PrAnswer.TheVariants as given
+use Rattle.pgr_device.specs.declared.command.PrCommand.{PrCommand}
+use Rattle.pgr_device.specs.declared.command.PrCommand.TheVariants as command
+use Rattle.record_disk.specs.Disks.{DiskState, mounting, saving}
+use Rattle.record_disk.specs.declared.error.Loss.{Loss}
+use Rattle.record_disk.specs.declared.error.Loss.TheVariants.{Fault, Stopped}
+use Rattle.refinement.specs.Cuts.{course_at}
+use Rattle.refinement.specs.Runs.{moved}
+use Rattle.refinement.specs.Runs.Move.{Takes as Takes_in}
+use Rattle.refinement.specs.Steps.{disk_rules}
+use Rattle.refinement.specs.Ties.{NodeTied, SeatTied}
+use Rattle.refinement.proofs.Cuts.{step_of_node_is_its_course}
+use Rattle.schedule_text.specs.declared.event.Event.{Event}
+use Rattle.schedule_text.specs.declared.event.Event.TheVariants as event
+use Rattle.schedule_text.specs.declared.line.Line.TheVariants as line
+use Rattle.seize.specs.Answers.{Answer}
+use Rattle.status_report.specs.declared.entry.Entry.{Entry}
+use Rattle.status_report.specs.declared.entry.Entry.TheVariants as entry
+use Rattle.status_report.specs.declared.node_entry.DownCause.TheVariants as cause
+use Rattle.status_report.specs.declared.node_entry.NodeEntry.TheVariants as note
+use Rattle.status_report.specs.declared.packet_entry.PacketEntry.TheVariants as packet
+use Rattle.wire.specs.Spelling.{spelling}
+use Rattle.wire.specs.declared.message.Body.{Body}
+use Rattle.wire.specs.declared.message.Body.TheVariants as body
+use Rattle.wire.specs.declared.message.Message.{Message}
+use Rattle.world_model.specs.First.{first_cluster}
+use Rattle.world_model.specs.Sends.{is_sent, name_of}
+use Rattle.run_history.specs.Bringing.{IsBrought, IsDelivery}
+use Rattle.run_history.specs.CommandLines.{AllQuiet, IsQuiet, NodeTells}
+use Rattle.run_history.specs.Happenings.{Arrives, Begins, Commands, Happening, IsPlain, Loses, MayHappen, Misses, Notes, Refuses, Repeats, Speaks, Strays, Takes, Writes, armed_by, commanded, commanded_at, given_by, happened, removed}
+use Rattle.run_history.specs.Scenes.{Scene, adding, dropped_so, first_scene, passing, posting, sent_as, telling, with_links}
+use Rattle.run_history.proofs.LineSteps.{commands_are_told}
+use Rattle.run_messages.specs.Laws.{AreSeated, IsSeated}
+use Rattle.run_messages.proofs.Reaching.{IsReached, holds_of_each}
+use Rattle.run_messages.proofs.Runs.{memberships_of_each_run}
+use Rattle.run_records.specs.Kept.{Came, KnownScene}
+use Rattle.run_records.specs.Shown.{RecordIn}
+use Rattle.run_records.proofs.Arrivals.{arrived_kept}
+use Rattle.run_records.specs.Sound.{LetterSound}
+use Rattle.run_records.proofs.Letters.{letter_sound}
+use Rattle.run_downs.proofs.Promised.{PromisesHold, collect_number, known_at, run_promises}
+use Rattle.run_downs.proofs.Rules.{NoStops, StopsIf, none_stops}
+use Rattle.run_downs.proofs.Steps.{client_fine}
+use Rattle.run_downs.proofs.Updates.{AskedSo, IsDelivering, SavesAt, may_save_so, message_stops}
+use Rattle.run_downs.specs.Laws.{SettledStopsOfEachRun, StopsByRule, is_settled, is_settled_by, is_settled_name}
+
+not_so : false ≡ true → ⊥
+not_so h = cc
+
+-- ---- a line, and a packet
+
+dropped_ruled : (S : Setting) (o : Option (ℕ × DropCause)) (s : Scene) → Always (StopsByRule S) s.moments → Always (StopsByRule S) (dropped_so o s).moments
+dropped_ruled S None s h = h
+dropped_ruled S (Some x) s h = (tt, h)
+
+posted_ruled : (S : Setting) (from to : ℕ) (m : Message) (s : Scene) → Always (StopsByRule S) s.moments → Always (StopsByRule S) (posting from to m s).moments
+posted_ruled S from to m s h =
+    let o : net.Outcome = sending s.links from to (spelling m) in
+    if_either (λ (z : Scene). Always (StopsByRule S) z.moments) (is_sent s.links m) (sent_as from to m o s) s
+    (dropped_ruled S o.sent.dropped (telling (entry.Packet (packet.Sent s.links.next from to (name_of m.body) (spelling m))) (with_links s o.after)) (tt, h)) h
+
+-- ---- outputs without a stop
+
+no_stop_ruled : (S : Setting) (e : Entry) (ms : List Moment) → (let o : Output = Tells e in NoStops (o ∷ [])) → StopsByRule S ms (Told e)
+no_stop_ruled S (entry.Node m (note.Down cause.Stopped)) ms h = absurd h.0
+no_stop_ruled S _ ms h = tt
+
+none_ruled : (S : Setting) (n : ℕ) (os : List Output) (s : Scene) → NoStops os → Always (StopsByRule S) s.moments → Always (StopsByRule S) (passing n os s).moments
+none_ruled S n [] s h so = so
+none_ruled S n (Tells e ∷ os) s h so = none_ruled S n os (telling e s) h.1 (no_stop_ruled S e s.moments (h.0, tt), so)
+none_ruled S n (Sends to b ∷ os) s h so =
+    none_ruled S n os (posting n to (record { sender = n; body = b }) s) h.1 (posted_ruled S n to (record { sender = n; body = b }) s so)
+
+-- ---- outputs in an event of another kind
+
+-- what is told of packets here is that they were sent or dropped
+told_here : (e : Entry) (ms : List Moment) → IsQuiet e → arrived (Told e ∷ ms) ≡ arrived ms
+told_here (entry.Packet e) ms q = absurd q
+told_here (entry.Answered e) ms q = refl
+told_here entry.Powered ms q = refl
+told_here (entry.Node n e) ms q = refl
+told_here (entry.Device e) ms q = refl
+told_here (entry.Attempt e) ms q = refl
+told_here (entry.Start e) ms q = refl
+told_here (entry.Update e) ms q = refl
+told_here (entry.Schedule e) ms q = refl
+told_here (entry.Command e) ms q = refl
+told_here (entry.Call e) ms q = refl
+told_here (entry.Status e) ms q = refl
+told_here (entry.Address e) ms q = refl
+
+-- the rule is silent in this event, whatever else is told in it
+abbrev IsSilent : List Moment → Type 0
+IsSilent ms = is_settled (under_way ms) (arrived ms) ≡ false
+
+silent_line : (S : Setting) (e : Entry) (ms : List Moment) → IsSilent ms → StopsByRule S ms (Told e)
+silent_line S (entry.Node m (note.Down cause.Stopped)) ms silent = λ so. absurd (not_so (sym silent ∙ so))
+silent_line S _ ms silent = tt
+
+silent_told : (e : Entry) (ms : List Moment) → IsQuiet e → IsSilent ms → IsSilent (Told e ∷ ms)
+silent_told e ms q silent = ap (λ a. is_settled (under_way ms) a) (told_here e ms q) ∙ silent
+
+silent_dropped : (o : Option (ℕ × DropCause)) (s : Scene) → IsSilent s.moments → IsSilent (dropped_so o s).moments
+silent_dropped None s h = h
+silent_dropped (Some x) s h = h
+
+silent_posted : (from to : ℕ) (m : Message) (s : Scene) → IsSilent s.moments → IsSilent (posting from to m s).moments
+silent_posted from to m s h =
+    let o : net.Outcome = sending s.links from to (spelling m) in
+    if_either (λ (z : Scene). IsSilent z.moments) (is_sent s.links m) (sent_as from to m o s) s
+    (silent_dropped o.sent.dropped (telling (entry.Packet (packet.Sent s.links.next from to (name_of m.body) (spelling m))) (with_links s o.after)) h) h
+
+silent_ruled : (S : Setting) (n : ℕ) (os : List Output) (s : Scene) → AllQuiet os → IsSilent s.moments → Always (StopsByRule S) s.moments → Always (StopsByRule S) (passing n os s).moments
+silent_ruled S n [] s q silent so = so
+silent_ruled S n (Tells e ∷ os) s q silent so =
+    silent_ruled S n os (telling e s) q.1 (silent_told e s.moments q.0 silent) (silent_line S e s.moments silent, so)
+silent_ruled S n (Sends to b ∷ os) s q silent so =
+    let m : Message = record { sender = n; body = b } in
+    silent_ruled S n os (posting n to m s) q.1 (silent_posted n to m s silent) (posted_ruled S n to m s so)
+
+-- an event in which the rule is silent whatever has come
+abbrev IsOther : List Moment → Type 0
+IsOther ms = (a : Option Letter) → is_settled (under_way ms) a ≡ false
+
+other_dropped : (o : Option (ℕ × DropCause)) (s : Scene) → IsOther s.moments → IsOther (dropped_so o s).moments
+other_dropped None s h = h
+other_dropped (Some x) s h = h
+
+other_posted : (from to : ℕ) (m : Message) (s : Scene) → IsOther s.moments → IsOther (posting from to m s).moments
+other_posted from to m s h =
+    let o : net.Outcome = sending s.links from to (spelling m) in
+    if_either (λ (z : Scene). IsOther z.moments) (is_sent s.links m) (sent_as from to m o s) s
+    (other_dropped o.sent.dropped (telling (entry.Packet (packet.Sent s.links.next from to (name_of m.body) (spelling m))) (with_links s o.after)) h) h
+
+other_ruled : (S : Setting) (n : ℕ) (os : List Output) (s : Scene) → IsOther s.moments → Always (StopsByRule S) s.moments → Always (StopsByRule S) (passing n os s).moments
+other_ruled S n [] s other so = so
+other_ruled S n (Tells e ∷ os) s other so = other_ruled S n os (telling e s) other (silent_line S e s.moments (other (arrived s.moments)), so)
+other_ruled S n (Sends to b ∷ os) s other so =
+    let m : Message = record { sender = n; body = b } in
+    other_ruled S n os (posting n to m s) (other_posted n to m s other) (posted_ruled S n to m s so)
+
+-- ---- a boot
+
+same_number : (n : ℕ) → (n == n) ≡ true
+same_number n = grind arith
+
+boot_saves : (S : Setting) (n : ℕ) (ms : List Moment) → under_way ms ≡ Some (event.Boot n) → may_save S n (Told (entry.Node n note.Up) ∷ ms) ≡ true
+boot_saves S n ms boot = subst (λ e. saves_in S n e (Told (entry.Node n note.Up) ∷ ms) ≡ true) (sym boot) (same_number n)
+
+boot_ruled : (S : Setting) (n valid : ℕ) (r : NodeRecord) (after : DiskState) (lost : Option Loss) (s : Scene) → under_way s.moments ≡ Some (event.Boot n) → Always (StopsByRule S) s.moments
+    → Always (StopsByRule S) (passing n (booted_with n valid r (record { after = after; lost = lost })).given s).moments
+boot_ruled S n valid r after None s boot so = (tt, so)
+boot_ruled S n valid r after (Some Stopped) s boot so = (λ in_rule. boot_saves S n s.moments boot, (tt, so))
+boot_ruled S n valid r after (Some Fault) s boot so = (tt, (tt, so))
+
+up_ruled : (S : Setting) (c : Cluster) (n now : ℕ) (ends : method.Outcome) (node : Node) (disk : DiskState) (s : Scene) → under_way s.moments ≡ Some (event.Boot n) → Always (StopsByRule S) s.moments
+    → Always (StopsByRule S) (passing n (stepped disk_rules c n now ends node disk input.Boot).given s).moments
+up_ruled S c n now ends Down disk s boot so = boot_ruled S n (first_valid_of c n) disk.kept (mounting disk).after (mounting disk).lost s boot so
+up_ruled S c n now ends (Up x) disk s boot so = so
+
+-- the stop comes at once, or not at all
+stops_ruled : (S : Setting) (n : ℕ) (Q : Type 0) (os : List Output) (s : Scene) → StopsIf Q n os → (Q → may_save S n s.moments ≡ true) → Always (StopsByRule S) s.moments
+    → Always (StopsByRule S) (passing n os s).moments
+stops_ruled S n Q os s (inl h) rule so = subst (λ z. Always (StopsByRule S) (passing n z s).moments) (sym h.1) ((λ told. rule h.0), so)
+stops_ruled S n Q os s (inr h) rule so = none_ruled S n os s h so
+
+-- a client's request saves nothing, and a write neither
+
+client_stops : (c : Cluster) (n now : ℕ) (ends : method.Outcome) (x : UpNode) (address : List ℕ) (client port : ℕ) (disk : DiskState)
+    → StopsIf ⊥ n (stepped disk_rules c n now ends (Up x) disk (input.Client address client port)).given
+client_stops c n now ends x address client port disk =
+    subst (λ (o : Outcome DiskState). StopsIf ⊥ n o.given) (sym ((step_of_node_is_its_course saving c n now ends x (input.Client address client port)).is [] disk))
+    (none_stops ⊥ c n x (course_at c n now ends x (input.Client address client port)) (client_fine c n now ends x address client port) disk)
+
+write_stops : (c : Cluster) (n now : ℕ) (ends : method.Outcome) (node : Node) (disk : DiskState) (d value : ℕ) (a : Answer) → NoStops (stepped disk_rules c n now ends node disk (input.Wrote d value a)).given
+write_stops c n now ends Down disk d value a = tt
+write_stops c n now ends (Up x) disk d value (Ok given.Good) = (tt, (tt, tt))
+write_stops c n now ends (Up x) disk d value (Ok given.Conflict) = (tt, (tt, (tt, tt)))
+write_stops c n now ends (Up x) disk d value _ = (tt, (tt, tt))
+
+-- ---- what comes that is no packet
+
+other_by : (ms : List Moment) (e : Event) → under_way ms ≡ Some e → ((a : Option Letter) → is_settled (Some e) a ≡ false) → IsOther ms
+other_by ms e is h a = ap (λ o. is_settled o a) is ∙ h a
+
+plain_ruled : (S : Setting) (c : Cluster) (n now : ℕ) (ends : method.Outcome) (i : Input) (node : Node) (disk : DiskState) (s : Scene) → IsPlain i → IsBrought (under_way s.moments) n i
+    → Always (StopsByRule S) s.moments → Always (StopsByRule S) (passing n (stepped disk_rules c n now ends node disk i).given s).moments
+plain_ruled S c n now ends input.Boot node disk s plain is so = up_ruled S c n now ends node disk s is so
+plain_ruled S c n now ends input.Crash Down disk s plain is so = so
+plain_ruled S c n now ends input.Crash (Up x) disk s plain is so = none_ruled S n (Tells (entry.Node n (note.Down cause.Crash)) ∷ []) s (tt, tt) so
+plain_ruled S c n now ends input.Tick node disk s plain is so = other_ruled S n (stepped disk_rules c n now ends node disk input.Tick).given s (other_by s.moments (event.Tick n) is (λ a. refl)) so
+plain_ruled S c n now ends input.CommandDue node disk s plain is so = other_ruled S n (stepped disk_rules c n now ends node disk input.CommandDue).given s (other_by s.moments (event.Disk n) is (λ a. refl)) so
+plain_ruled S c n now ends (input.Commanded words) node disk s plain is so = other_ruled S n (stepped disk_rules c n now ends node disk (input.Commanded words)).given s (other_by s.moments (event.Command n words) is (λ a. refl)) so
+plain_ruled S c n now ends (input.Reported r good) node disk s plain is so = other_ruled S n (stepped disk_rules c n now ends node disk (input.Reported r good)).given s (other_by s.moments (event.Probe n r good) is (λ a. refl)) so
+plain_ruled S c n now ends (input.Client address client port) Down disk s plain is so = so
+plain_ruled S c n now ends (input.Client address client port) (Up x) disk s plain is so =
+    stops_ruled S n ⊥ (stepped disk_rules c n now ends (Up x) disk (input.Client address client port)).given s (client_stops c n now ends x address client port disk) (λ never. absurd never) so
+plain_ruled S c n now ends (input.Packet from m) node disk s plain is so = absurd plain
+plain_ruled S c n now ends (input.Answered a) node disk s plain is so = absurd plain
+plain_ruled S c n now ends (input.Wrote d value a) node disk s plain is so = absurd plain
+
+-- ---- a message
+
+delivering : (packets : List Packet) (number : ℕ) (e : Option Event) → IsDelivery packets number e → IsDelivering e
+delivering packets number (Some (event.Deliver k)) h = tt
+delivering packets number (Some (event.Next from to)) h = tt
+delivering packets number _ h = absurd h
+
+-- at a message of another kind the rule is silent
+other_kind : (e : Option Event) (l : Letter) → IsDelivering e → is_settled_by l ≡ false → is_settled e (Some l) ≡ false
+other_kind (Some (event.Deliver k)) l is h = h
+other_kind (Some (event.Next from to)) l is h = h
+other_kind _ l is h = absurd is
+
+packet_quiet : (n : ℕ) (node : Node) (from : ℕ) (m : Message) (os : List Output) → NodeTells n node (input.Packet from m) os → AllQuiet os
+packet_quiet n Down from m os q = q
+packet_quiet n (Up x) from m os q = q
+
+forming_disk : (c : Cluster) (M : Memberships) (n : ℕ) (disk : NodeRecord) (x : UpNode) (seat : Seat) → seat ≡ x.seat → NodeTied c M n disk (Up x) → (s : NodeState) → seat ≡ Forming s → disk ≡ s.saved
+forming_disk c M n disk x seat same tied s at = (subst (λ z. SeatTied c M n disk x.attempt z) (sym same ∙ at) tied.0).1
+
+sitting_disk : (c : Cluster) (M : Memberships) (n : ℕ) (disk : NodeRecord) (x : UpNode) (seat : Seat) → seat ≡ x.seat → NodeTied c M n disk (Up x) → (s : NodeState) → seat ≡ Member s → disk ≡ s.saved
+sitting_disk c M n disk x seat same tied s at = (subst (λ z. SeatTied c M n disk x.attempt z) (sym same ∙ at) tied.0).1
+
+message_ruled : (S : Setting) (c : Cluster) (M : Memberships) (n now : ℕ) (ends : method.Outcome) (from : ℕ) (m : Message) (node : Node) (disk : DiskState) (s : Scene) → NodeTied c M n disk.kept node
+    → IsSeated s.moments n node → RecordIn s.moments n disk.kept → IsDelivering (under_way s.moments) → (came : Came s.moments n from m.body)
+    → AskedSo came.letter m.body → promise_of n s.moments ≤ disk.kept.promised → (b : Bool) → is_settled_name (named (name_of m.body)) ≡ b
+    → Always (StopsByRule S) s.moments → Always (StopsByRule S) (passing n (stepped disk_rules c n now ends node disk (input.Packet from m)).given s).moments
+message_ruled S c M n now ends from m node disk s tied seated record_so is came asked low false kind so =
+    silent_ruled S n (stepped disk_rules c n now ends node disk (input.Packet from m)).given s
+    (packet_quiet n node from m _ (commands_are_told c n now ends node disk (input.Packet from m)))
+    (ap (λ a. is_settled (under_way s.moments) a) came.here ∙ other_kind (under_way s.moments) came.letter is (ap is_settled_name came.called ∙ kind)) so
+message_ruled S c M n now ends from m Down disk s tied seated record_so is came asked low true kind so = so
+message_ruled S c M n now ends from m (Up x) disk s tied seated record_so is came asked low true kind so =
+    stops_ruled S n (SavesAt m.body x.seat) (stepped disk_rules c n now ends (Up x) disk (input.Packet from m)).given s
+    (subst (λ (o : Outcome DiskState). StopsIf (SavesAt m.body x.seat) n o.given) (sym ((step_of_node_is_its_course saving c n now ends x (input.Packet from m)).is [] disk)) (message_stops c n now ends x from m kind disk))
+    (may_save_so S n came.letter m.body x.seat disk.kept s.moments is came.here came.receiver came.called asked low seated record_so (forming_disk c M n disk.kept x x.seat refl tied)
+    (sitting_disk c M n disk.kept x x.seat refl tied)) so
+
+-- ---- each thing that happens
+
+-- what is known of a scene
+record Knows (c : Cluster) (s : Scene) : Type 0 where
+  known : KnownScene c s
+  seated : AreSeated s
+  promises : PromisesHold s
+
+asked_so : (M : Memberships) (l : Letter) (b : Body) → LetterSound M l → says l.bytes ≡ Some b → AskedSo l b
+asked_so M l (body.Collect p members) sound read = collect_number M l p members sound read
+asked_so M l _ sound read = tt
+
+commanded_ruled : (S : Setting) (s : Scene) (n d : ℕ) (o : Option Device) (k : PrCommand) → Always (StopsByRule S) s.moments → Always (StopsByRule S) (commanded_at s n d o k).scene.moments
+commanded_ruled S s n d None k h = h
+commanded_ruled S s n d (Some x) k h = h
+
+commanded_other : (s : Scene) (n d : ℕ) (o : Option Device) (k : PrCommand) → IsOther s.moments → IsOther (commanded_at s n d o k).scene.moments
+commanded_other s n d None k h = h
+commanded_other s n d (Some x) k h = h
+
+speaks_ruled : (S : Setting) (c : Cluster) (e : Event) (s : Scene) → Always (StopsByRule S) s.moments → Always (StopsByRule S) (armed_by c e (adding (Said (line.Event e)) s)).moments
+speaks_ruled S c (event.CrashAt n calls choice) s h = (tt, h)
+speaks_ruled S c (event.Fault n d done) s h = (tt, h)
+speaks_ruled S c _ s h = (tt, h)
+
+happening_ruled : (S : Setting) (c : Cluster) (s : Scene) (x : Happening) → MayHappen c s x → Knows c s → Always (StopsByRule S) s.moments → Always (StopsByRule S) (happened c s x).moments
+happening_ruled S c s (Speaks e) may k h = speaks_ruled S c e s h
+happening_ruled S c s (Begins e) may k h = (tt, h)
+happening_ruled S c s (Notes e) may k h = (tt, h)
+happening_ruled S c s (Takes n now ends i) may k h =
+    plain_ruled S c n now ends i (s.nodes.node n) (s.nodes.disk n) (record s { nodes = moved c s.nodes (Takes_in n now ends i) }) may.1 may.5 h
+happening_ruled S c s (Arrives number x m now ends) may k h =
+    let t : Scene = telling (entry.Packet (packet.Delivered number x.from x.to)) (removed s number) in
+    let i : Input = input.Packet x.from m in
+    let came : Came t.moments x.to x.from m.body = arrived_kept c s number x m may.0 may.1 k.known in
+    message_ruled S c k.known.stage.machine x.to now ends x.from m (s.nodes.node x.to) (s.nodes.disk x.to) (record t { nodes = moved c s.nodes (Takes_in x.to now ends i) })
+    (k.known.stage.stands x.to).tied (k.seated x.to) (k.known.at x.to).record_so (delivering s.links.packets number (under_way s.moments) may.6) came
+    (asked_so k.known.stage.machine came.letter m.body (letter_sound k.known.stage.machine number s.moments came.letter k.known.sound came.here) came.read) (k.promises x.to)
+    (is_settled_name (named (name_of m.body))) refl (tt, h)
+happening_ruled S c s (Strays number x) may k h = (tt, h)
+happening_ruled S c s (Misses number x) may k h = (tt, h)
+happening_ruled S c s (Loses number x) may k h = (tt, h)
+happening_ruled S c s (Repeats number x) may k h =
+    let o : net.Outcome = sending s.links x.from x.to x.bytes in
+    dropped_ruled S o.sent.dropped (telling (entry.Packet (packet.Repeated number s.links.next)) (with_links s o.after)) (tt, h)
+happening_ruled S c s (Commands n d q now ends) may k h =
+    let o : Option Device = slice_get s.devices (d - 1) in
+    let z : Scene = (commanded s n d q).scene in
+    let i : Input = input.Answered (commanded s n d q).answer in
+    other_ruled S n (given_by c n now ends i z.nodes) (record z { nodes = moved c z.nodes (Takes_in n now ends i) })
+    (commanded_other s n d o q (other_by s.moments (event.Disk n) may.5 (λ a. refl))) (commanded_ruled S s n d o q h)
+happening_ruled S c s (Writes n d value now ends) may k h =
+    let o : Option Device = slice_get s.devices (d - 1) in
+    let q : PrCommand = command.Write value in
+    let z : Scene = (commanded s n d q).scene in
+    let a : Answer = (commanded s n d q).answer in
+    none_ruled S n (given_by c n now ends (input.Wrote d value a) z.nodes) (record z { nodes = moved c z.nodes (Takes_in n now ends (input.Wrote d value a)) })
+    (write_stops c n now ends (z.nodes.node n) (z.nodes.disk n) d value a) (commanded_ruled S s n d o q h)
+happening_ruled S c s (Refuses n d value why) may k h = (tt, h)
+
+-- ---- runs
+
+knows_at : (h : Header) (cells : ℕ) (s : Scene) → length h.devices ≤ 16 → h.cluster < 2 ^ 32 → IsReached h cells s → Knows (first_cluster h) s
+knows_at h cells s few small r = record {
+  known = known_at h cells s few small r;
+  seated = subst AreSeated r.is (memberships_of_each_run h cells r.happenings few small r.may);
+  promises = subst PromisesHold r.is (run_promises h cells r.happenings few small r.may);
+}
+
+first_ruled : (S : Setting) (h : Header) (cells : ℕ) → Always (StopsByRule S) (first_scene h cells).moments
+unfolding first_scene
+first_ruled S h cells = tt
+
+pub settled_stops_of_each_run : SettledStopsOfEachRun
+settled_stops_of_each_run h cells hs few small may S =
+    holds_of_each h cells (λ (s : Scene). Always (StopsByRule S) s.moments)
+    (λ s x now at more so. happening_ruled S (first_cluster h) s x now (knows_at h cells s few small at) so) (first_ruled S h cells) hs may
