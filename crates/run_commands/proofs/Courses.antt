@@ -1,42 +1,22 @@
 -- In each course of a step a command is answered once: it waits before, and not any more.
-use Rattle.std.specs.Option.{unwrap_or}
-use Rattle.admin_commands.specs.declared.accepted.Accepted.{Accepted}
-use Rattle.admin_commands.specs.declared.accepted.Accepted.TheVariants as accepted
-use Rattle.admin_commands.specs.declared.error.CheckError.{CheckError}
-use Rattle.admin_commands.specs.declared.error.CheckError.TheVariants as because
-use Rattle.admin_words.specs.Commands.{request_of}
-use Rattle.admin_words.specs.declared.error.WordError.{WordError}
-use Rattle.admin_words.specs.declared.request.Request.TheVariants as asked
-use Rattle.admin_words.specs.declared.request.Request as wanted
 use Rattle.answer_words.specs.Answers.{answer_in}
 use Rattle.ccr_commit.specs.Entries.{answer_for, texts_of}
 use Rattle.ccr_commit.specs.declared.entries.Prepared.{Prepared}
 use Rattle.ccr_commit.specs.declared.entries.Prepared.TheVariants.{Taken, Already, Gap}
 use Rattle.ccr_tables.specs.State.{ConfigState}
-use Rattle.ccr_tables.specs.declared.command.AdminCommand.{AdminCommand}
-use Rattle.ccr_tables.specs.declared.command.AdminCommand.TheVariants as wish
 use Rattle.cl_base.specs.Sets.{has}
-use Rattle.cl_base.specs.declared.command.Ask.{Ask}
 use Rattle.cl_base.specs.declared.method.Outcome.{Outcome}
 use Rattle.cl_base.specs.Seizings.{SeizeResult}
-use Rattle.cmm_attempt.specs.declared.step.AttemptEnd.{AttemptEnd}
-use Rattle.cmm_attempt.specs.declared.step.Step.{Step}
-use Rattle.cmm_attempt.specs.declared.step.Step.TheVariants as step
-use Rattle.cmm_attempt.specs.Attempts.{AttemptState, Turn, newest_installed}
-use Rattle.cmm_attempt.specs.Calls.{Call, Own_ready, Own_seized, Take, Tick as Call_tick, With_votes, starts_in, turn}
+use Rattle.cmm_attempt.specs.Attempts.{AttemptState}
+use Rattle.cmm_attempt.specs.Calls.{Own_seized, Take}
 use Rattle.cmm_member.specs.Nodes.{NodeState}
 use Rattle.device_queue.specs.declared.progress.Progress.{Progress}
 use Rattle.device_queue.specs.declared.progress.Progress.TheVariants.{GoesOn, Seized, Joined}
-use Rattle.device_queue.specs.Queue.{begins_plainly, due_device, joins, kept_of, next_of, progress_after}
+use Rattle.device_queue.specs.Queue.{begins_plainly, due_device, next_of, progress_after}
 use Rattle.pgr_device.specs.declared.command.PrAnswer.TheVariants as given
 use Rattle.pgr_device.specs.declared.command.PrCommand.{PrCommand}
-use Rattle.proposals.specs.Arrivals.{arrival_of, with_arrival}
 use Rattle.proposals.specs.Proposing.{goes_again, is_prepared, prepared_by}
-use Rattle.proposals.specs.State.{State, first_in, kept_at}
-use Rattle.proposals.specs.declared.arrived.Arrival.{Arrival}
-use Rattle.proposals.specs.declared.arrived.Arrival.TheVariants.{New, Waits as Waits_already, Answered as Answered_last, Past}
-use Rattle.proposals.specs.declared.arrived.Arrived.{Arrived}
-use Rattle.proposals.specs.declared.arrived.Kept.{Kept}
+use Rattle.proposals.specs.State.{State}
 use Rattle.proposals.specs.declared.arrived.Proposed.{Proposed}
 use Rattle.request_queue.specs.Queue as queue
 use Rattle.request_queue.specs.Queue.{found, is_full, next_number, oldest}
@@ -44,20 +24,14 @@ use Rattle.request_queue.specs.declared.request.Request.{Request}
 use Rattle.rgm_member.specs.Orders.{answer_to, outcome_in}
 use Rattle.rgm_member.specs.declared.carried.Carried.{Carried}
 use Rattle.rgm_member.specs.declared.carried.Carried.TheVariants as carried
-use Rattle.rgm_president.specs.Decisions as decisions
 use Rattle.rgm_state.specs.Outcomes as order
 use Rattle.seize.specs.Answers.{Answer as DeviceAnswer}
 use Rattle.seize.specs.declared.kind.JoinResult.{JoinResult}
 use Rattle.seize.specs.declared.kind.JoinResult.TheVariants as join
-use Rattle.seize.specs.declared.kind.SeizeKind.{SeizeKind}
 use Rattle.seize.specs.declared.kind.SeizeKind.TheVariants.{Vote, Plain}
 use Rattle.status_report.specs.declared.command_entry.Answer.{Answer}
-use Rattle.status_report.specs.declared.command_entry.Answer.TheVariants as answer
-use Rattle.status_report.specs.declared.status_entry.StatusEntry.{StatusEntry}
-use Rattle.update_words.specs.Words.{ask_words_of, words_of}
 use Rattle.wire.specs.declared.message.Body.{Body}
 use Rattle.wire.specs.declared.message.Body.TheVariants as body
-use Rattle.wire.specs.declared.message.Install.{Install}
 use Rattle.wire.specs.declared.message.Message.{Message}
 use Rattle.wire.specs.declared.message.Order.{Order}
 use Rattle.node_model.specs.Addresses.{request_for}
@@ -72,34 +46,30 @@ use Rattle.node_model.specs.declared.node.UpNode.{UpNode}
 use Rattle.node_model.specs.declared.presidency.Presidency.{Presidency}
 use Rattle.node_model.specs.declared.seat.Seat.{Seat}
 use Rattle.node_model.specs.declared.seat.Seat.TheVariants.{Forming, Member}
-use Rattle.node_model.specs.Attempts.{begins_install, installs_now, is_choosing, left_out_by, next_epoch, starts_now, votes_in}
 use Rattle.node_model.specs.Configurations.{in_force}
-use Rattle.node_model.specs.Deciding.{is_held_up, may_order}
 use Rattle.node_model.specs.Devices.{joining_so}
 use Rattle.node_model.specs.Groups.{is_last, orders_again, own_order, with_ended}
-use Rattle.node_model.specs.Members.{awaits_start, hearing, is_foreign}
-use Rattle.node_model.specs.Presidents.{checked, is_busy, is_clear, others_of, own_arrival, proposed_by, query_lines, requests_of, with_act, with_proposals, word_answer}
-use Rattle.node_model.specs.Requests.{is_idle, waiting_with}
-use Rattle.node_model.specs.Ticks.{later, members_to_form, waiting_less}
+use Rattle.node_model.specs.Members.{hearing, is_foreign}
+use Rattle.node_model.specs.Presidents.{with_proposals}
+use Rattle.node_model.specs.Ticks.{later}
 use Rattle.node_model.specs.Steps.{at_second}
 use Rattle.node_model.specs.Updates.{commits_now, is_of_member}
-use Rattle.refinement.specs.Courses.{Course, joined}
-use Rattle.refinement.specs.Courses.Course.{Acts, Falls, Keeps, Stops}
+use Rattle.refinement.specs.Courses.{Course}
+use Rattle.refinement.specs.Courses.Course.{Acts}
 use Rattle.refinement.specs.Cuts as cuts
 use Rattle.refinement.specs.Cuts.{acks_of, first_turn, left_answered}
-use Rattle.node_model.specs.Seats.{coordinator_of, installed_of, is_in, is_member, promised_of, record_of, version_of}
-use Rattle.refinement.specs.Doings.{Change, acted, answered_so, changed, going}
+use Rattle.node_model.specs.Seats.{coordinator_of, is_in, is_member, record_of}
+use Rattle.refinement.specs.Doings.{answered_so}
 use Rattle.refinement.specs.Doings.Act.{Gives}
-use Rattle.refinement.specs.Doings.Change.{Counts, Installs, Leads, Sits, Starts}
-use Rattle.std.specs.Prelude.{ℕ, zero, suc, ◌≡◌, ◌==◌, ◌&&◌, nat_le, nat_lt, Bool, true, false, List, [], ◌∷◌, length, Option, None, Some, Result, Ok, Err, is_some, if◌then◌else◌}
-use Rattle.std.proofs.Common.{refl, sym, subst, inr}
-use Rattle.node_model.specs.Attempts.{resting}
-use Rattle.node_model.specs.Presidents.{answer_given, orders_for, own_line}
+use Rattle.std.specs.Prelude.{ℕ, ◌≡◌, ◌==◌, ◌&&◌, false, List, length, Option, None, Some, Ok, Err}
+use Rattle.std.proofs.Common.{refl, subst}
+use Rattle.node_model.specs.Presidents.{own_line}
 use Rattle.refinement.specs.Cuts.{queue_by}
-use Rattle.run_commands.specs.Guards.{ChangeSo, GoesSo, Hand, IsFree, IsUnspent, QueueGoes}
-use Rattle.run_commands.specs.Guards.Hand.{Free, Held, Spent}
-use Rattle.run_commands.specs.Guards.Move.{Joins, Stays}
-use Rattle.run_commands.proofs.Asides.{Frees, Turns, again_quiet, given_frees, given_turns, lines_quiet, order_quiet, orders_quiet, own_turns, quiet_gives, served_quiet}
+use Rattle.run_commands.specs.Guards.{GoesSo}
+use Rattle.run_commands.specs.Guards.Hand.{Free}
+use Rattle.run_commands.proofs.Asides.{Turns, again_quiet, order_quiet, own_turns, quiet_gives, served_quiet}
+use Rattle.run_commands.proofs.Forming.{collect_so, deciding_so, either_so, going_so, heartbeat_so, install_so, notice_so, own_ready_so, readying_so, seizing_so, start_so, then_so, ticked_so, unmoved}
+use Rattle.run_commands.proofs.Requesting.{acknowledging_so, asked_so, asking_so, handling_so}
 
 -- neither a command nor a monitor's report
 abbrev pub IsNoCommand : Input → Type 0
@@ -107,333 +77,10 @@ IsNoCommand (Commanded words) = ⊥
 IsNoCommand (Reported r good) = ⊥
 IsNoCommand _ = Unit {0}
 
-free_is : (h : Hand) → IsFree h → h ≡ Free
-free_is Free is = refl
-free_is (Held k) is = absurd is
-free_is (Spent k) is = absurd is
-
--- what ends well in the strict sense ends well in the loose one
-loosely : (c : Cluster) (me : ℕ) (h : Hand) (x : UpNode) (k : Course) → GoesSo false c me h x k → GoesSo true c me h x k
-loosely c me h x Stops p = by_hand h p
-  where
-    by_hand : (g : Hand) → IsFree g → IsUnspent g
-    by_hand Free is = tt
-    by_hand (Held k) is = tt
-    by_hand (Spent k) is = absurd is
-loosely c me h x (Acts a rest) p = (p.0, p.1, loosely c me p.0 (acted c me x a) rest p.2)
-loosely c me h x (Keeps change rest) p = (p.0, p.1, loosely c me p.0 (changed c me x change) rest p.2)
-loosely c me h x (Falls why) p = tt
-
--- the requests stay
-unmoved : (x : UpNode) → QueueGoes Free x.requests x.requests Free
-unmoved x = record { move = Stays; waiting = refl; asked = refl; may = (tt, refl) }
-
 module _ (c : Cluster) (me : ℕ) where
   -- no command waits but those whose requests are in the queue, before the course and after it
   abbrev G : UpNode → Course → Type 0
   G x k = GoesSo false c me Free x k
-
-  either_so : (x : UpNode) (b : Bool) (k l : Course) → G x k → G x l → G x (if b then k else l)
-  either_so x true k l p q = p
-  either_so x false k l p q = q
-
-  then_at : (h : Hand) (x : UpNode) (k : Course) (next : UpNode → Course) → GoesSo false c me h x k → ((y : UpNode) → G y (next y)) → GoesSo false c me h x (joined c me x k next)
-  then_at h x Stops next p q = subst (λ g. GoesSo false c me g x (next x)) (sym (free_is h p)) (q x)
-  then_at h x (Acts a rest) next p q = (p.0, p.1, then_at p.0 (acted c me x a) rest next p.2 q)
-  then_at h x (Keeps change rest) next p q = (p.0, p.1, then_at p.0 (changed c me x change) rest next p.2 q)
-  then_at h x (Falls why) next p q = tt
-
-  then_so : (x : UpNode) (k : Course) (next : UpNode → Course) → G x k → ((y : UpNode) → G y (next y)) → G x (joined c me x k next)
-  then_so x k next p q = then_at Free x k next p q
-
-  decided_so : (x : UpNode) (p : Presidency) (t : decisions.Turn) → G x (cuts.decided_course me x p t)
-  decided_so x p t = (Free, quiet_gives me Free x.requests.waiting _ (orders_quiet me t.orders), (Free, unmoved x, tt))
-
-  deciding_by_so : (x : UpNode) (o : Option Presidency) → G x (cuts.deciding_by_course c me x o)
-  deciding_by_so x None = tt
-  deciding_by_so x (Some p) = either_so x (may_order p.groups) _ _ (decided_so x p (decisions.decision (in_force c x) x.second (is_held_up p) p.groups)) tt
-
-  deciding_so : (x : UpNode) → G x (cuts.deciding_course c me x)
-  deciding_so x = deciding_by_so x x.presidency
-
-  excluded_so : (x : UpNode) (e newest : ℕ) (o : Option ℕ) → G x (cuts.excluded_course me e newest o)
-  excluded_so x e newest None = tt
-  excluded_so x e newest (Some m) = either_so x (m == me) _ _ tt (Free, refl, tt)
-
-  ended_so : (x : UpNode) (e : AttemptEnd) (o : Option AttemptState) → G x (cuts.ended_course me e o)
-  ended_so x e None = tt
-  ended_so x e (Some a) = (Free, refl, excluded_so (resting x) a.plan.epoch (unwrap_or (newest_installed a) 0) (left_out_by e))
-
-  queued_so : (x : UpNode) (d : ℕ) (kind : SeizeKind) (o : Option AttemptState) → G x (cuts.queued_course d kind o)
-  queued_so x d kind None = tt
-  queued_so x d kind (Some a) = (Free, refl, tt)
-
-  step_so : (x : UpNode) (s : Step) → G x (cuts.step_course me x s)
-  step_so x (step.Send to m) = (Free, refl, tt)
-  step_so x (step.SeizeHere d kind) = queued_so x d kind x.attempt
-  step_so x (step.NeedVotes n) = tt
-  step_so x (step.InstallHere i) = tt
-  step_so x step.StartHere = tt
-  step_so x (step.Ended e) = ended_so x e x.attempt
-
-  steps_so : (x : UpNode) (steps : List Step) → G x (cuts.steps_course c me x steps)
-  steps_so x [] = tt
-  steps_so x (s ∷ steps) = then_so x _ _ (step_so x s) (λ y. steps_so y steps)
-
-  kept_if_so : (x : UpNode) (keeps : Bool) (change : Change) (rest : Course) → ChangeSo Free x change Free → G (changed c me x change) rest → G x (cuts.kept_if keeps change rest)
-  kept_if_so x true change rest k l = (Free, k, l)
-  kept_if_so x false change rest k l = (Free, k, l)
-
-  gone_on_so : (x : UpNode) (a : AttemptState) (k : Call) (steps : List Step) → G x (cuts.gone_on c me x a k steps)
-  gone_on_so x a k steps = (Free, refl, steps_so (going x a k) steps)
-
-  counted_so : (x : UpNode) (a : AttemptState) (k : Call) (i : Install) (rest : List Step) (seat : Seat) → G x (cuts.counted c me x a k i rest seat)
-  counted_so x a k i rest (Member s) = gone_on_so x a k rest
-  counted_so x a k i rest (Forming s) =
-      either_so x (installs_now s i) _ _ (Free, (refl, refl), steps_so (changed c me x (Counts a k s i)) rest) (gone_on_so x a k rest)
-
-  started_so : (x : UpNode) (a : AttemptState) (k : Call) (rest : List Step) (seat : Seat) → G x (cuts.started c me x a k rest seat)
-  started_so x a k rest (Member s) = gone_on_so x a k rest
-  started_so x a k rest (Forming s) =
-      either_so x (starts_now s (turn a k).after.plan.epoch) _ _
-      (kept_if_so x (is_some s.saved.entries.pending) (Starts a k s) (cuts.steps_course c me (changed c me x (Starts a k s)) rest) (refl, refl) (steps_so (changed c me x (Starts a k s)) rest))
-      (gone_on_so x a k rest)
-
-  turned_by_so : (x : UpNode) (a : AttemptState) (k : Call) (steps : List Step) → G x (cuts.turned_by c me x a k steps)
-  turned_by_so x a k [] = gone_on_so x a k []
-  turned_by_so x a k (step.InstallHere i ∷ rest) = counted_so x a k i rest x.seat
-  turned_by_so x a k (step.StartHere ∷ rest) = started_so x a k rest x.seat
-  turned_by_so x a k (step.Send to m ∷ rest) = gone_on_so x a k (step.Send to m ∷ rest)
-  turned_by_so x a k (step.SeizeHere d kind ∷ rest) = gone_on_so x a k (step.SeizeHere d kind ∷ rest)
-  turned_by_so x a k (step.NeedVotes n ∷ rest) = gone_on_so x a k (step.NeedVotes n ∷ rest)
-  turned_by_so x a k (step.Ended e ∷ rest) = gone_on_so x a k (step.Ended e ∷ rest)
-
-  turned_so : (x : UpNode) (a : AttemptState) (k : Call) → G x (cuts.turned c me x a k)
-  turned_so x a k = turned_by_so x a k (turn a k).steps
-
-  if_started_so : (steps : List Step) (y : UpNode) → G y (cuts.if_started c me steps y)
-  if_started_so steps y = either_so y (starts_in steps) _ _ (deciding_so y) tt
-
-  turned_all_so : (x : UpNode) (a : AttemptState) (k : Call) → G x (cuts.turned_all c me x a k)
-  turned_all_so x a k = then_so x _ _ (turned_so x a k) (λ z. if_started_so (turn a k).steps z)
-
-  readied_so : (x : UpNode) (o : Option AttemptState) → G x (cuts.readied_course c me x o)
-  readied_so x None = tt
-  readied_so x (Some a) = turned_all_so x a Own_ready
-
-  own_ready_so : (x : UpNode) → G x (cuts.own_ready_course c me x)
-  own_ready_so x = either_so x (joins x.tasks) _ _ tt (readied_so x x.attempt)
-
-  if_installed_so : (steps : List Step) (y : UpNode) → G y (cuts.if_installed c me steps y)
-  if_installed_so steps y = either_so y (begins_install steps) _ _ (own_ready_so y) tt
-
-  called_so : (x : UpNode) (a : AttemptState) (k : Call) → G x (cuts.called c me x a k)
-  called_so x a k = then_so x _ _ (turned_all_so x a k) (λ z. if_installed_so (turn a k).steps z)
-
-  going_so : (x : UpNode) (a : AttemptState) (k : Call) → G x (cuts.going_course c me x a k)
-  going_so x a k =
-      either_so x (is_choosing (turn a k).after.phase) _ _
-      (Free, refl, called_so (going x a k) (turn a k).after (With_votes (votes_in c (turn a k).after))) (called_so x a k)
-
-  begun_so : (x : UpNode) (t : Turn) → G x (cuts.begun_course c me x t)
-  begun_so x t = either_so x (is_choosing t.after.phase) _ _ (called_so x t.after (With_votes (votes_in c t.after))) (steps_so x t.steps)
-
-  leading_so : (x : UpNode) (p members : ℕ) → G x (cuts.leading_course c me x p members)
-  leading_so x p members =
-      either_so x (nat_lt (promised_of x) p) _ _ (Free, (refl, refl), begun_so (changed c me x (Leads p members)) (first_turn c me x p members)) tt
-
-  forming_so : (x : UpNode) (o : Option ℕ) → G x (cuts.forming_course c me x o)
-  forming_so x None = tt
-  forming_so x (Some members) = leading_so x (next_epoch me x) members
-
-  ticked_so : (x : UpNode) (o : Option AttemptState) → G x (cuts.ticked_course c me x o)
-  ticked_so x (Some a) = going_so x a Call_tick
-  ticked_so x None = either_so x (nat_le 1 x.beats.wait) _ _ (Free, refl, tt) (Free, refl, forming_so (waiting_less x) (members_to_form c me (waiting_less x)))
-
-  heartbeat_so : (x : UpNode) (from session : ℕ) (member : Bool) → G x (cuts.heartbeat_course me x from session member)
-  heartbeat_so x from session member = either_so x (awaits_start me x from session member) _ _ (Free, refl, tt) tt
-
-  collect_so : (x : UpNode) (from p : ℕ) → G x (cuts.collect_course x from p)
-  collect_so x from p = either_so x (nat_lt (promised_of x) p) _ _ (Free, (refl, refl), (Free, refl, tt)) (either_so x (is_in x p) _ _ (Free, refl, tt) (Free, refl, tt))
-
-  request_so : (x : UpNode) (from : ℕ) (kind : SeizeKind) (e members d : ℕ) (o : Option SeizeResult) → G x (cuts.request_course x from kind e members d o)
-  request_so x from kind e members d (Some result) = (Free, refl, tt)
-  request_so x from kind e members d None = either_so x (installed_of x == e) _ _ (Free, refl, tt) (Free, refl, tt)
-
-  seizing_so : (x : UpNode) (from : ℕ) (kind : SeizeKind) (e members d : ℕ) → G x (cuts.seizing_course x from kind e members d)
-  seizing_so x from kind e members d = either_so x (is_in x e) _ _ (request_so x from kind e members d (kept_of x.tasks d)) tt
-
-  readying_so : (x : UpNode) (to : ℕ) → G x (cuts.readying_course c x to)
-  readying_so x to = either_so x (joins x.tasks) _ _ tt (Free, refl, tt)
-
-  installed_so : (x : UpNode) (from : ℕ) (i : Install) (seat : Seat) → G x (cuts.installed_course c me x from i seat)
-  installed_so x from i (Member s) = readying_so x from
-  installed_so x from i (Forming s) = either_so x (s.saved.installed == i.epoch) _ _ (readying_so x from) (Free, (refl, refl), readying_so (changed c me x (Installs s i)) from)
-
-  install_so : (x : UpNode) (from : ℕ) (i : Install) → G x (cuts.install_course c me x from i)
-  install_so x from i = either_so x (is_in x i.epoch) _ _ (installed_so x from i x.seat) (Free, refl, tt)
-
-  start_so : (x : UpNode) (e : ℕ) (seat : Seat) → G x (cuts.start_course e seat)
-  start_so x e (Member s) = tt
-  start_so x e (Forming s) = either_so x (starts_now s e) _ _ (kept_if_so x (is_some s.saved.entries.pending) (Sits s e) Stops (refl, refl) tt) tt
-
-  notice_so : (x : UpNode) (e newest : ℕ) → G x (cuts.notice_course x e newest)
-  notice_so x e newest = either_so x (is_in x e) _ _ tt tt
-
-  -- Requests at their president.
-
-  answering_so : (x : UpNode) (p : Presidency) (a : Arrived) (told : Answer) → G x (cuts.answering_course c me x p a told)
-  answering_so x p a told =
-      let t : Turns me x.requests.waiting (answer_given me x a told) x.requests.asked (queue_by me x a) = given_turns me x a told in
-      (t.after, t.gives, (Free, record { move = t.move; waiting = t.waiting_so; asked = t.asked_so; may = t.may }, deciding_so (left_answered me x p a told)))
-
-  acknowledged_so : (x : UpNode) (p : Presidency) (a : Arrived) (text : List ℕ) → G x (cuts.acknowledged_course c me x p a text)
-  acknowledged_so x p a text =
-      let f : Frees me x.requests.waiting x.requests.asked (queue_by me x a) (answer_given me x a answer.Ok) = given_frees me x a answer.Ok in (
-        f.after,
-        record { move = f.move; waiting = f.waiting_so; asked = f.asked_so; may = f.may },
-        (f.after, refl, (Free, f.gives (changed c me x (acks_of c me x p a text)).requests.waiting, deciding_so (changed c me x (acks_of c me x p a text)))),
-      )
-
-  acknowledging_text_so : (x : UpNode) (p : Presidency) (o : Option Arrived) (text : Option (List ℕ)) → G x (cuts.acknowledging_text_course c me x p o text)
-  acknowledging_text_so x p (Some a) (Some text) = acknowledged_so x p a text
-  acknowledging_text_so x p None text = tt
-  acknowledging_text_so x p (Some a) None = tt
-
-  acknowledging_by_so : (x : UpNode) (o : Option Presidency) → G x (cuts.acknowledging_by_course c me x o)
-  acknowledging_by_so x None = tt
-  acknowledging_by_so x (Some p) = acknowledging_text_so x p (first_in p.proposals.arrived) (record_of x).entries.pending
-
-  acknowledging_so : (x : UpNode) → G x (cuts.acknowledging_course c me x)
-  acknowledging_so x = acknowledging_by_so x x.presidency
-
-  proposing_so : (x : UpNode) (p : Presidency) (text : List ℕ) → G x (cuts.proposing_course c me x p text)
-  proposing_so x p text =
-      (Free, (refl, refl), (Free, refl, either_so (proposed_by c me x p text) (others_of me x == 0) _ _ (acknowledging_so (proposed_by c me x p text)) tt))
-
-  acting_so : (x : UpNode) (p : Presidency) (a : Arrived) (ask : Ask) → G x (cuts.acting_course c me x p a ask)
-  acting_so x p a ask =
-      either_so x (may_order p.groups) _ _ (Free, quiet_gives me Free x.requests.waiting _ (orders_quiet me (orders_for p.groups ask)), answering_so x (with_act c me x p a ask) a answer.Ok) tt
-
-  taken_as_so : (x : UpNode) (p : Presidency) (a : Arrived) (r : Result Accepted CheckError) → G x (cuts.taken_as_course c me x p a r)
-  taken_as_so x p a (Ok (accepted.Change u)) = proposing_so x p (words_of u)
-  taken_as_so x p a (Ok (accepted.Act ask)) = acting_so x p a ask
-  taken_as_so x p a (Ok (accepted.Query q)) = answering_so x p a answer.Ok
-  taken_as_so x p a (Err (because.Refused r)) = answering_so x p a (answer.Refused r)
-  taken_as_so x p a (Err because.NoMemory) = tt
-
-  taken_so : (x : UpNode) (p : Presidency) (a : Arrived) (r : Result wanted.Request WordError) → G x (cuts.taken_course c me x p a r)
-  taken_so x p a (Ok (asked.Change u)) = either_so x (is_busy p.groups) _ _ tt (taken_as_so x p a (checked c x p (wish.Change u)))
-  taken_so x p a (Ok (asked.Act ask)) = either_so x (is_busy p.groups && is_clear ask) _ _ tt (taken_as_so x p a (checked c x p (wish.Act ask)))
-  taken_so x p a (Err e) = answering_so x p a (word_answer e)
-
-  turn_of_so : (x : UpNode) (p : Presidency) (o : Option Proposed) (first : Option Arrived) → G x (cuts.turn_of_course c me x p o first)
-  turn_of_so x p None (Some a) = taken_so x p a (request_of (version_of c) a.text)
-  turn_of_so x p None None = tt
-  turn_of_so x p (Some proposed) first = tt
-
-  turn_by_so : (x : UpNode) (o : Option Presidency) → G x (cuts.turn_by_course c me x o)
-  turn_by_so x None = tt
-  turn_by_so x (Some p) = turn_of_so x p p.proposals.proposed (first_in p.proposals.arrived)
-
-  one_turn_so : (x : UpNode) → G x (cuts.one_turn_course c me x)
-  one_turn_so x = turn_by_so x x.presidency
-
-  turns_so : (x : UpNode) (k : ℕ) → G x (cuts.turns_course c me x k)
-  turns_so x zero = tt
-  turns_so x (suc k) = then_so x _ _ (turns_so x k) (λ z. one_turn_so z)
-
-  handling_so : (x : UpNode) → G x (cuts.handling_course c me x)
-  handling_so x = turns_so x (requests_of x x.presidency)
-
-  kept_again_so : (x : UpNode) (from : ℕ) (o : Option Kept) → G x (cuts.kept_again_course x from o)
-  kept_again_so x from None = tt
-  kept_again_so x from (Some k) = (Free, refl, tt)
-
-  arrived_so : (x : UpNode) (p : Presidency) (a : Arrived) (how : Arrival) → G x (cuts.arrived_course c me x p a how)
-  arrived_so x p a New = (Free, unmoved x, handling_so (with_proposals x p (with_arrival p.proposals a New)))
-  arrived_so x p a Waits_already = tt
-  arrived_so x p a Answered_last = kept_again_so x a.from (kept_at p.proposals.answers a.from)
-  arrived_so x p a Past = tt
-
-  arriving_so : (x : UpNode) (p : Presidency) (a : Arrived) → G x (cuts.arriving_course c me x p a)
-  arriving_so x p a = arrived_so x p a (arrival_of p.proposals a.from a.number)
-
-  requested_so : (x : UpNode) (from number : ℕ) (text : List ℕ) (o : Option Presidency) → G x (cuts.requested_course c me x from number text o)
-  requested_so x from number text None = tt
-  requested_so x from number text (Some p) = arriving_so x p (record { from = from; number = number; text = text })
-
-  asked_so : (x : UpNode) (from e number : ℕ) (text : List ℕ) → G x (cuts.asked_course c me x from e number text)
-  asked_so x from e number text = either_so x (is_of_member x from e) _ _ (requested_so x from number text x.presidency) tt
-
-  -- Requests at the node that asks.
-
-  request_to_so : (x : UpNode) (r : Request) (o : Option ℕ) → G x (cuts.request_to_course x r o)
-  request_to_so x r None = tt
-  request_to_so x r (Some president) = (Free, refl, tt)
-
-  asking_of_so : (x : UpNode) (r : Request) (o : Option Presidency) → G x (cuts.asking_of_course c me x r o)
-  asking_of_so x r None = request_to_so x r (coordinator_of x)
-  asking_of_so x r (Some p) = arriving_so x p (own_arrival me r)
-
-  asking_for_so : (x : UpNode) (o : Option Request) → G x (cuts.asking_for_course c me x o)
-  asking_for_so x None = tt
-  asking_for_so x (Some r) = asking_of_so x r x.presidency
-
-  asking_so : (x : UpNode) → G x (cuts.asking_course c me x)
-  asking_so x = asking_for_so x (oldest x.requests)
-
-  pub asking_if_so : (alone : Bool) (x : UpNode) → G x (cuts.asking_if_course alone c me x)
-  asking_if_so alone x = either_so x alone _ _ (asking_so x) tt
-
-  -- A command that came: it is answered, or gets its request, or waits on.
-
-  abbrev W : ℕ → UpNode → Course → Type 0
-  W q x k = GoesSo true c me (Held q) x k
-
-  either_held : (q : ℕ) (x : UpNode) (b : Bool) (k l : Course) → W q x k → W q x l → W q x (if b then k else l)
-  either_held q x true k l g h = g
-  either_held q x false k l g h = h
-
-  replying_so : (x : UpNode) (number : ℕ) (told : Answer) → W number x (cuts.replying_course me number told)
-  replying_so x number told = (Free, inr (record { number = number; reply = told; is = refl; may = (refl, refl) }), tt)
-
-  waiting_so : (x : UpNode) (number : ℕ) (text : List ℕ) → W number x (cuts.waiting_course c me x number text)
-  waiting_so x number text =
-      either_held number x (is_full x.requests) _ _ (replying_so x number answer.QueueFull) (
-        Free,
-        record { move = Joins (record { number = number; text = text; told = true; second = x.second }); waiting = refl; asked = refl; may = (refl, refl, refl) },
-        loosely c me Free (waiting_with x number text) _ (asking_if_so (is_idle x.requests.waiting) (waiting_with x number text)),
-      )
-
-  elsewhere_so : (x : UpNode) (number : ℕ) (o : Option ℕ) → W number x (cuts.elsewhere_course me number o)
-  elsewhere_so x number None = tt
-  elsewhere_so x number (Some president) = replying_so x number (answer.Ask president)
-
-  telling_so : (x : UpNode) (number : ℕ) (lines : List StatusEntry) → W number x (cuts.telling_course me number lines)
-  telling_so x number lines = (Held number, quiet_gives me (Held number) x.requests.waiting _ (lines_quiet lines), replying_so x number answer.Ok)
-
-  query_so : (x : UpNode) (p : Presidency) (number : ℕ) (s : ConfigState) (r : Result Accepted CheckError) → W number x (cuts.query_course me x p number s r)
-  query_so x p number s (Ok (accepted.Query q)) = telling_so x number (query_lines x p s q)
-  query_so x p number s (Ok (accepted.Change u)) = tt
-  query_so x p number s (Ok (accepted.Act ask)) = tt
-  query_so x p number s (Err (because.Refused r)) = replying_so x number (answer.Refused r)
-  query_so x p number s (Err because.NoMemory) = tt
-
-  queried_so : (x : UpNode) (number : ℕ) (question : AdminCommand) (o : Option Presidency) → W number x (cuts.queried_course c me x number question o)
-  queried_so x number question None = elsewhere_so x number (coordinator_of x)
-  queried_so x number question (Some p) =
-      either_held number x (is_full x.requests) _ _ (replying_so x number answer.QueueFull) (query_so x p number (in_force c x) (checked c x p question))
-
-  commanded_so : (x : UpNode) (number : ℕ) (o : AdminCommand) → W number x (cuts.commanded_course c me x number o)
-  commanded_so x number (wish.Change u) = waiting_so x number (words_of u)
-  commanded_so x number (wish.Act a) = waiting_so x number (ask_words_of a)
-  commanded_so x number (wish.Status q) = queried_so x number (wish.Status q) x.presidency
-  commanded_so x number (wish.Rows table) = queried_so x number (wish.Rows table) x.presidency
-
-  pub worded_so : (x : UpNode) (number : ℕ) (r : Result AdminCommand WordError) → W number x (cuts.worded_course c me x number r)
-  worded_so x number (Err e) = replying_so x number (word_answer e)
-  worded_so x number (Ok command) = either_held number x (is_member x.seat) _ _ (commanded_so x number command) (replying_so x number answer.NotMember)
 
   -- The president's answer.
 
@@ -442,14 +89,14 @@ module _ (c : Cluster) (me : ℕ) where
   replied_to_so x number told (Some r) is =
       let t : Turns me x.requests.waiting (own_line me told (Some r)) x.requests.asked (queue.answered x.requests number) =
       subst (λ o. Turns me x.requests.waiting (own_line me told o) x.requests.asked (queue.answered x.requests number)) is (own_turns me x.requests told number) in
-      (t.after, t.gives, (Free, record { move = t.move; waiting = t.waiting_so; asked = t.asked_so; may = t.may }, asking_so (record x { requests = queue.answered x.requests number })))
+      (t.after, t.gives, (Free, record { move = t.move; waiting = t.waiting_so; asked = t.asked_so; may = t.may }, asking_so c me (record x { requests = queue.answered x.requests number })))
 
   replied_so : (x : UpNode) (number : ℕ) (o : Option Answer) → G x (cuts.replied_course c me x number o)
   replied_so x number None = tt
   replied_so x number (Some told) = replied_to_so x number told (found x.requests.waiting number) refl
 
   reply_so : (x : UpNode) (e number : ℕ) (text : List ℕ) → G x (cuts.reply_course c me x e number (answer_in text))
-  reply_so x e number text = either_so x (is_member x.seat && is_in x e) _ _ (replied_so x number (answer_in text)) tt
+  reply_so x e number text = either_so c me x (is_member x.seat && is_in x e) _ _ (replied_so x number (answer_in text)) tt
 
   preparing_so : (x : UpNode) (from e place : ℕ) (s : NodeState) (text : List ℕ) (o : Prepared) → G x (cuts.preparing_course from e place s text o)
   preparing_so x from e place s text Taken = (Free, (refl, refl), (Free, refl, tt))
@@ -458,31 +105,31 @@ module _ (c : Cluster) (me : ℕ) where
 
   prepare_so : (x : UpNode) (from e place : ℕ) (text : List ℕ) (seat : Seat) → G x (cuts.prepare_course x from e place text seat)
   prepare_so x from e place text (Forming s) = tt
-  prepare_so x from e place text (Member s) = either_so x (is_in x e) _ _ (preparing_so x from e place s text (answer_for (length (texts_of s.saved.entries)) place)) tt
+  prepare_so x from e place text (Member s) = either_so c me x (is_in x e) _ _ (preparing_so x from e place s text (answer_for (length (texts_of s.saved.entries)) place)) tt
 
   prepared_all_so : (x : UpNode) (p : Presidency) → G x (cuts.prepared_all_course c me x p)
-  prepared_all_so x p = either_so x (is_prepared p.proposals) _ _ (then_so x _ _ (acknowledging_so x) (λ z. handling_so z)) tt
+  prepared_all_so x p = either_so c me x (is_prepared p.proposals) _ _ (then_so c me x _ _ (acknowledging_so c me x) (λ z. handling_so c me z)) tt
 
   prepared_at_so : (x : UpNode) (from place : ℕ) (o : Option Presidency) → G x (cuts.prepared_at_course c me x from place o)
   prepared_at_so x from place None = tt
   prepared_at_so x from place (Some p) = let s : State = prepared_by p.proposals from place in (Free, refl, prepared_all_so (with_proposals x p s) (record p { proposals = s }))
 
   prepared_so : (x : UpNode) (from e place : ℕ) → G x (cuts.prepared_course c me x from e place)
-  prepared_so x from e place = either_so x (is_of_member x from e) _ _ (prepared_at_so x from place x.presidency) tt
+  prepared_so x from e place = either_so c me x (is_of_member x from e) _ _ (prepared_at_so x from place x.presidency) tt
 
   commit_so : (x : UpNode) (e place : ℕ) (seat : Seat) → G x (cuts.commit_course x e place seat)
   commit_so x e place (Forming s) = tt
-  commit_so x e place (Member s) = either_so x (is_in x e && commits_now s place) _ _ (Free, (refl, refl), tt) tt
+  commit_so x e place (Member s) = either_so c me x (is_in x e && commits_now s place) _ _ (Free, (refl, refl), tt) tt
 
   done_at_so : (x : UpNode) (from number : ℕ) (outcome : Outcome) (o : Option Presidency) → G x (cuts.done_at_course c me x from number outcome o)
   done_at_so x from number outcome None = tt
-  done_at_so x from number outcome (Some p) = either_so x (order.is_due p.groups.view from number) _ _ (Free, unmoved x, then_so (record x { presidency = Some (with_ended c x p from number outcome) }) _ _ (deciding_so (record x { presidency = Some (with_ended c x p from number outcome) })) (λ z. handling_so z)) tt
+  done_at_so x from number outcome (Some p) = either_so c me x (order.is_due p.groups.view from number) _ _ (Free, unmoved x, then_so c me (record x { presidency = Some (with_ended c x p from number outcome) }) _ _ (deciding_so c me (record x { presidency = Some (with_ended c x p from number outcome) })) (λ z. handling_so c me z)) tt
 
   done_so : (x : UpNode) (from e number : ℕ) (outcome : Outcome) → G x (cuts.done_course c me x from e number outcome)
-  done_so x from e number outcome = either_so x (is_of_member x from e) _ _ (done_at_so x from number outcome x.presidency) tt
+  done_so x from e number outcome = either_so c me x (is_of_member x from e) _ _ (done_at_so x from number outcome x.presidency) tt
 
   carrying_so : (x : UpNode) (o : Order) (how : Carried) → G x (cuts.carrying_course c me x o how)
-  carrying_so x o how = (Free, quiet_gives me Free x.requests.waiting _ (order_quiet me o how), either_so x (is_last c x o how) _ _ tt (Free, refl, tt))
+  carrying_so x o how = (Free, quiet_gives me Free x.requests.waiting _ (order_quiet me o how), either_so c me x (is_last c x o how) _ _ tt (Free, refl, tt))
 
   order_answered_so : (from : ℕ) (o : Order) (how : Carried) (x : UpNode) → G x (cuts.order_answered_course from o how x)
   order_answered_so from o carried.Old x = tt
@@ -491,17 +138,17 @@ module _ (c : Cluster) (me : ℕ) where
   order_answered_so from o (carried.Kept outcome) x = (Free, refl, tt)
 
   obeying_so : (x : UpNode) (from : ℕ) (o : Order) (how : Carried) → G x (cuts.obeying_course c me x from o how)
-  obeying_so x from o how = then_so x (cuts.carrying_course c me x o how) _ (carrying_so x o how) (λ z. order_answered_so from o how z)
+  obeying_so x from o how = then_so c me x (cuts.carrying_course c me x o how) _ (carrying_so x o how) (λ z. order_answered_so from o how z)
 
   order_so : (outcome : Outcome) (x : UpNode) (from : ℕ) (o : Order) → G x (cuts.order_course c me outcome x from o)
-  order_so outcome x from o = either_so x (is_member x.seat && is_in x o.epoch) _ _ (obeying_so x from o (answer_to x.worker o outcome)) tt
+  order_so outcome x from o = either_so c me x (is_member x.seat && is_in x o.epoch) _ _ (obeying_so x from o (answer_to x.worker o outcome)) tt
 
   own_done_so : (o : Order) (how : Carried) (x : UpNode) → G x (cuts.own_done_course c me o how x)
   own_done_so o how x = done_at_so x me o.number (outcome_in how) x.presidency
 
   own_turn_so : (outcome : Outcome) (x : UpNode) (o : Option Order) → G x (cuts.own_turn_course c me outcome x o)
   own_turn_so outcome x None = tt
-  own_turn_so outcome x (Some o) = then_so x (cuts.carrying_course c me x o (answer_to x.worker o outcome)) _ (carrying_so x o (answer_to x.worker o outcome)) (λ z. own_done_so o (answer_to x.worker o outcome) z)
+  own_turn_so outcome x (Some o) = then_so c me x (cuts.carrying_course c me x o (answer_to x.worker o outcome)) _ (carrying_so x o (answer_to x.worker o outcome)) (λ z. own_done_so o (answer_to x.worker o outcome) z)
 
   prepares_so : (before x : UpNode) (o : Option Proposed) (text : Option (List ℕ)) (rest : Course) → G x rest → G x (cuts.prepares_course before o text rest)
   prepares_so before x (Some p) (Some text) rest k = (Free, refl, k)
@@ -510,16 +157,16 @@ module _ (c : Cluster) (me : ℕ) where
 
   prepares_again_so : (before x : UpNode) (o : Option Presidency) (rest : Course) → G x rest → G x (cuts.prepares_again_course before o rest)
   prepares_again_so before x None rest k = k
-  prepares_again_so before x (Some p) rest k = either_so x (goes_again p.proposals) _ _ (prepares_so before x p.proposals.proposed (record_of before).entries.pending rest k) k
+  prepares_again_so before x (Some p) rest k = either_so c me x (goes_again p.proposals) _ _ (prepares_so before x p.proposals.proposed (record_of before).entries.pending rest k) k
 
   going_again_so : (before x : UpNode) → G x (cuts.going_again_course c me before x)
-  going_again_so before x = prepares_again_so before x before.presidency (Acts (Gives (orders_again before x)) (cuts.deciding_course c me x)) (Free, quiet_gives me Free x.requests.waiting _ (again_quiet before.presidency x.presidency), deciding_so x)
+  going_again_so before x = prepares_again_so before x before.presidency (Acts (Gives (orders_again before x)) (cuts.deciding_course c me x)) (Free, quiet_gives me Free x.requests.waiting _ (again_quiet before.presidency x.presidency), deciding_so c me x)
 
   governing_so : (outcome : Outcome) (before x : UpNode) → G x (cuts.governing_course c me outcome before x)
-  governing_so outcome before x = then_so x _ _ (own_turn_so outcome x (own_order me x)) (λ z. going_again_so before z)
+  governing_so outcome before x = then_so c me x _ _ (own_turn_so outcome x (own_order me x)) (λ z. going_again_so before z)
 
   tick_so : (outcome : Outcome) (x : UpNode) → G x (cuts.tick_course c me outcome x)
-  tick_so outcome x = (Free, refl, then_so (later c x) _ _ (governing_so outcome x (later c x)) (λ y. ticked_so y y.attempt))
+  tick_so outcome x = (Free, refl, then_so c me (later c x) _ _ (governing_so outcome x (later c x)) (λ y. ticked_so c me y y.attempt))
 
   serving_so : (x : UpNode) (p : Presidency) (name : List ℕ) (client port : ℕ) (o : serving.Outcome) → G x (cuts.serving_course x p name client port o)
   serving_so x p name client port o = (Free, quiet_gives me Free x.requests.waiting _ (served_quiet name client port o), (Free, unmoved x, tt))
@@ -537,46 +184,46 @@ module _ (c : Cluster) (me : ℕ) where
 
   answer_so : (x : UpNode) (from : ℕ) (m : Message) (o : Option AttemptState) → G x (cuts.answer_course c me x from m o)
   answer_so x from m None = tt
-  answer_so x from m (Some a) = going_so x a (Take from m)
+  answer_so x from m (Some a) = going_so c me x a (Take from m)
 
   body_so : (outcome : Outcome) (x : UpNode) (from : ℕ) (m : Message) (b : Body) → G x (cuts.body_course c me outcome x from m b)
-  body_so outcome x from m (body.Heartbeat promised session member) = heartbeat_so x from session member
-  body_so outcome x from m (body.Collect e members) = collect_so x from e
+  body_so outcome x from m (body.Heartbeat promised session member) = heartbeat_so c me x from session member
+  body_so outcome x from m (body.Collect e members) = collect_so c me x from e
   body_so outcome x from m (body.Promise e installed members valid flagged committed pending) = answer_so x from m x.attempt
   body_so outcome x from m (body.Nack e promised) = answer_so x from m x.attempt
-  body_so outcome x from m (body.SeizeQuorum e members d) = seizing_so x from Vote e members d
-  body_so outcome x from m (body.SeizeData e members d) = seizing_so x from Plain e members d
+  body_so outcome x from m (body.SeizeQuorum e members d) = seizing_so c me x from Vote e members d
+  body_so outcome x from m (body.SeizeData e members d) = seizing_so c me x from Plain e members d
   body_so outcome x from m (body.Seized e d ended) = answer_so x from m x.attempt
-  body_so outcome x from m (body.Install i) = install_so x from i
+  body_so outcome x from m (body.Install i) = install_so c me x from i
   body_so outcome x from m (body.Ready e joined_devices report) = answer_so x from m x.attempt
-  body_so outcome x from m (body.Start e) = start_so x e x.seat
-  body_so outcome x from m (body.Excluded e newest) = notice_so x e newest
+  body_so outcome x from m (body.Start e) = start_so c me x e x.seat
+  body_so outcome x from m (body.Excluded e newest) = notice_so c me x e newest
   body_so outcome x from m (body.Prepare e place text) = prepare_so x from e place text x.seat
   body_so outcome x from m (body.Prepared e place) = prepared_so x from e place
   body_so outcome x from m (body.Commit e place) = commit_so x e place x.seat
-  body_so outcome x from m (body.Request e number text) = asked_so x from e number text
+  body_so outcome x from m (body.Request e number text) = asked_so c me x from e number text
   body_so outcome x from m (body.Answer e number text) = reply_so x e number text
   body_so outcome x from m (body.Order o) = order_so outcome x from o
   body_so outcome x from m (body.Done e number ended) = done_so x from e number ended
 
   packet_so : (outcome : Outcome) (x : UpNode) (from : ℕ) (m : Message) → G x (cuts.packet_course c me outcome x from m)
-  packet_so outcome x from m = either_so x (is_foreign c me x m.body) _ _ tt (Free, refl, body_so outcome (hearing x from m.body) from m m.body)
+  packet_so outcome x from m = either_so c me x (is_foreign c me x m.body) _ _ tt (Free, refl, body_so outcome (hearing x from m.body) from m m.body)
 
   distrusting_so : (x : UpNode) (o : Option ℕ) → G x (cuts.distrusting_course x o)
   distrusting_so x None = tt
-  distrusting_so x (Some d) = either_so x (has (record_of x).valid d) _ _ (Free, (refl, refl), tt) tt
+  distrusting_so x (Some d) = either_so c me x (has (record_of x).valid d) _ _ (Free, (refl, refl), tt) tt
 
   own_seized_so : (x : UpNode) (d : ℕ) (result : SeizeResult) (o : Option AttemptState) → G x (cuts.own_seized_course c me x d result o)
   own_seized_so x d result None = tt
-  own_seized_so x d result (Some a) = going_so x a (Own_seized d result)
+  own_seized_so x d result (Some a) = going_so c me x a (Own_seized d result)
 
   seized_so : (x : UpNode) (d : ℕ) (result : SeizeResult) (o : Option ℕ) → G x (cuts.seized_course c me x d result o)
   seized_so x d result None = tt
-  seized_so x d result (Some coordinator) = either_so x (coordinator == me) _ _ (own_seized_so x d result x.attempt) (Free, refl, tt)
+  seized_so x d result (Some coordinator) = either_so c me x (coordinator == me) _ _ (own_seized_so x d result x.attempt) (Free, refl, tt)
 
   joined_so : (x : UpNode) (o : Option ℕ) → G x (cuts.joined_course c me x o)
   joined_so x None = tt
-  joined_so x (Some coordinator) = either_so x (coordinator == me) _ _ (own_ready_so x) (readying_so x coordinator)
+  joined_so x (Some coordinator) = either_so c me x (coordinator == me) _ _ (own_ready_so c me x) (readying_so c me x coordinator)
 
   joins_device_so : (x : UpNode) (at : ℕ) (command : PrCommand) (a : DeviceAnswer) (d : ℕ) (r : JoinResult) → G x (cuts.joining_course c me x at command a d r)
   joins_device_so x at command a d join.Joined = (Free, (refl, refl), joined_so (joining_so (answered_so x a) d) (coordinator_of (joining_so (answered_so x a) d)))

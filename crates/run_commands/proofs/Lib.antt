@@ -2,6 +2,8 @@ pub mod Waiting
 pub mod Numbers
 pub mod Owed
 pub mod Asides
+pub mod Forming
+pub mod Requesting
 pub mod Courses
 pub mod Quiet
 pub mod Doings
@@ -11,6 +13,8 @@ pub mod Runs
 pub mod Texts
 pub mod Offices
 pub mod Hearing
+pub mod ReadForming
+pub mod ReadRequesting
 pub mod Readings
 pub mod Explained
 pub mod Counting

@@ -42,7 +42,8 @@ use Rattle.run_commands.specs.Reads.{CameSo, OwnCause, OwnReplies, ReadsIn, coll
 use Rattle.run_commands.proofs.Explained.{Now}
 use Rattle.run_commands.proofs.Fitting.{cause_known}
 use Rattle.run_commands.proofs.Hearing.{IsNoCommand}
-use Rattle.run_commands.proofs.Readings.{course_at_so, worded_so}
+use Rattle.run_commands.proofs.ReadRequesting.{worded_so}
+use Rattle.run_commands.proofs.Readings.{course_at_so}
 use Rattle.run_commands.proofs.ReadWalk.{Ends_so, NodeReads, down_so, read_walk}
 
 abbrev EndsBy : Setting → Cluster → ℕ → Node → NodeRecord → List Doing → Scene → Type 0
@@ -99,7 +100,7 @@ command_step S c n replies x disk words s low reads explained at fits =
     let o : OwnReplies = Caused q (version_of c) x words in
     let e : EndsBy S c n (Up y) disk (under replies rest) (telling told s) =
     read_walk S c n (input.Commanded words) o replies rest y disk (telling told s)
-    (worded_so c n low (input.Commanded words) tt o y q words (command_of (version_of c) words) refl (λ reply cause. (refl, cause)))
+    (worded_so c n (input.Commanded words) o y q words (command_of (version_of c) words) refl (λ reply cause. (refl, cause)))
     (record {
       reads = record { waiting_read = reads.waiting_read; office_read = reads.office_read };
       now = asked_now S (version_of c) n q x words s.moments fits;

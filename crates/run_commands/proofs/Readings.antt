@@ -1,43 +1,23 @@
 -- In each course of a step what the node keeps stays read, and it answers as president, or by itself to the command that came.
-use Rattle.std.specs.Option.{unwrap_or}
-use Rattle.admin_commands.specs.declared.accepted.Accepted.{Accepted}
-use Rattle.admin_commands.specs.declared.accepted.Accepted.TheVariants as accepted
-use Rattle.admin_commands.specs.declared.error.CheckError.{CheckError}
-use Rattle.admin_commands.specs.declared.error.CheckError.TheVariants as because
-use Rattle.admin_words.specs.Commands.{request_of}
-use Rattle.admin_words.specs.declared.error.WordError.{WordError}
-use Rattle.admin_words.specs.declared.request.Request.TheVariants as asked
-use Rattle.admin_words.specs.declared.request.Request as wanted
 use Rattle.answer_words.specs.Answers.{answer_in}
 use Rattle.ccr_commit.specs.Entries.{answer_for, texts_of}
 use Rattle.ccr_commit.specs.declared.entries.Prepared.{Prepared}
 use Rattle.ccr_commit.specs.declared.entries.Prepared.TheVariants.{Taken, Already, Gap}
 use Rattle.ccr_tables.specs.State.{ConfigState}
-use Rattle.ccr_tables.specs.declared.command.AdminCommand.{AdminCommand}
-use Rattle.ccr_tables.specs.declared.command.AdminCommand.TheVariants as wish
 use Rattle.cl_base.specs.Sets.{has}
 use Rattle.cl_base.specs.declared.command.Ask.{Ask}
 use Rattle.cl_base.specs.declared.method.Outcome.{Outcome}
 use Rattle.cl_base.specs.Seizings.{SeizeResult}
-use Rattle.cmm_attempt.proofs.Basics.{false_true}
-use Rattle.cmm_attempt.specs.declared.step.AttemptEnd.{AttemptEnd}
-use Rattle.cmm_attempt.specs.declared.step.Step.{Step}
-use Rattle.cmm_attempt.specs.declared.step.Step.TheVariants as step
-use Rattle.cmm_attempt.specs.Attempts.{AttemptState, Turn, newest_installed}
-use Rattle.cmm_attempt.specs.Calls.{Call, Own_ready, Own_seized, Take, Tick as Call_tick, With_votes, starts_in, turn}
+use Rattle.cmm_attempt.specs.Attempts.{AttemptState}
+use Rattle.cmm_attempt.specs.Calls.{Own_seized, Take}
 use Rattle.cmm_member.specs.Nodes.{NodeState}
 use Rattle.device_queue.specs.declared.progress.Progress.{Progress}
 use Rattle.device_queue.specs.declared.progress.Progress.TheVariants.{GoesOn, Seized, Joined}
-use Rattle.device_queue.specs.Queue.{begins_plainly, due_device, joins, kept_of, next_of, progress_after}
+use Rattle.device_queue.specs.Queue.{begins_plainly, due_device, next_of, progress_after}
 use Rattle.pgr_device.specs.declared.command.PrAnswer.TheVariants as given
 use Rattle.pgr_device.specs.declared.command.PrCommand.{PrCommand}
-use Rattle.proposals.specs.Arrivals.{arrival_of, with_arrival}
 use Rattle.proposals.specs.Proposing.{goes_again, is_prepared, prepared_by}
-use Rattle.proposals.specs.State.{State, first_in, kept_at}
-use Rattle.proposals.specs.declared.arrived.Arrival.{Arrival}
-use Rattle.proposals.specs.declared.arrived.Arrival.TheVariants.{New, Waits as Waits_already, Answered as Answered_last, Past}
-use Rattle.proposals.specs.declared.arrived.Arrived.{Arrived}
-use Rattle.proposals.specs.declared.arrived.Kept.{Kept}
+use Rattle.proposals.specs.State.{State}
 use Rattle.proposals.specs.declared.arrived.Proposed.{Proposed}
 use Rattle.request_queue.specs.Queue as queue
 use Rattle.request_queue.specs.Queue.{found, is_full, next_number, oldest}
@@ -45,20 +25,15 @@ use Rattle.request_queue.specs.declared.request.Request.{Request}
 use Rattle.rgm_member.specs.Orders.{answer_to, outcome_in}
 use Rattle.rgm_member.specs.declared.carried.Carried.{Carried}
 use Rattle.rgm_member.specs.declared.carried.Carried.TheVariants as carried
-use Rattle.rgm_president.specs.Decisions as decisions
 use Rattle.rgm_state.specs.Outcomes as order
 use Rattle.seize.specs.Answers.{Answer as DeviceAnswer}
 use Rattle.seize.specs.declared.kind.JoinResult.{JoinResult}
 use Rattle.seize.specs.declared.kind.JoinResult.TheVariants as join
-use Rattle.seize.specs.declared.kind.SeizeKind.{SeizeKind}
 use Rattle.seize.specs.declared.kind.SeizeKind.TheVariants.{Vote, Plain}
 use Rattle.status_report.specs.declared.command_entry.Answer.{Answer}
-use Rattle.status_report.specs.declared.command_entry.Answer.TheVariants as answer
-use Rattle.status_report.specs.declared.status_entry.StatusEntry.{StatusEntry}
-use Rattle.update_words.specs.Words.{ask_words_of, words_of}
+use Rattle.update_words.specs.Words.{ask_words_of}
 use Rattle.wire.specs.declared.message.Body.{Body}
 use Rattle.wire.specs.declared.message.Body.TheVariants as body
-use Rattle.wire.specs.declared.message.Install.{Install}
 use Rattle.wire.specs.declared.message.Message.{Message}
 use Rattle.wire.specs.declared.message.Order.{Order}
 use Rattle.node_model.specs.Addresses.{request_for}
@@ -73,399 +48,44 @@ use Rattle.node_model.specs.declared.node.UpNode.{UpNode}
 use Rattle.node_model.specs.declared.presidency.Presidency.{Presidency}
 use Rattle.node_model.specs.declared.seat.Seat.{Seat}
 use Rattle.node_model.specs.declared.seat.Seat.TheVariants.{Forming, Member}
-use Rattle.node_model.specs.Attempts.{begins_install, installs_now, is_choosing, left_out_by, next_epoch, starts_now, votes_in}
 use Rattle.node_model.specs.Configurations.{in_force}
-use Rattle.node_model.specs.Deciding.{is_held_up, may_order}
 use Rattle.node_model.specs.Devices.{joining_so}
 use Rattle.node_model.specs.Groups.{is_last, orders_again, own_order, with_ended}
-use Rattle.node_model.specs.Members.{awaits_start, hearing, is_foreign}
-use Rattle.node_model.specs.Presidents.{checked, is_busy, is_clear, others_of, own_arrival, proposed_by, query_lines, requests_of, with_act, with_proposals, word_answer}
-use Rattle.node_model.specs.Requests.{is_idle, waiting_with}
-use Rattle.node_model.specs.Ticks.{later, members_to_form, waiting_less}
+use Rattle.node_model.specs.Members.{hearing, is_foreign}
+use Rattle.node_model.specs.Presidents.{with_proposals}
+use Rattle.node_model.specs.Requests.{is_idle}
+use Rattle.node_model.specs.Ticks.{later}
 use Rattle.node_model.specs.Steps.{at_second}
 use Rattle.node_model.specs.Updates.{commits_now, is_of_member}
-use Rattle.refinement.specs.Courses.{Course, joined}
-use Rattle.refinement.specs.Courses.Course.{Acts, Falls, Keeps, Stops}
+use Rattle.refinement.specs.Courses.{Course}
+use Rattle.refinement.specs.Courses.Course.{Acts}
 use Rattle.refinement.specs.Cuts as cuts
 use Rattle.refinement.specs.Cuts.{acks_of, first_turn, left_answered}
 use Rattle.attempt_laws.proofs.Walk.{if_with}
-use Rattle.node_model.specs.Seats.{coordinator_of, installed_of, is_in, is_member, promised_of, record_of, version_of}
-use Rattle.refinement.specs.Doings.{Change, acted, answered_so, changed, going}
+use Rattle.node_model.specs.Seats.{coordinator_of, is_in, is_member, record_of, version_of}
+use Rattle.refinement.specs.Doings.{answered_so}
 use Rattle.refinement.specs.Doings.Act.{Gives}
-use Rattle.refinement.specs.Doings.Change.{Counts, Installs, Leads, Sits, Starts}
-use Rattle.std.specs.List.{AllByRecursion}
-use Rattle.cmm_attempt.specs.Calls.{May}
-use Rattle.node_model.specs.Attempts.{promise_of, resting}
-use Rattle.node_model.specs.Presidents.{orders_for}
-use Rattle.node_model.specs.Seats.{promising}
-use Rattle.std.specs.Prelude.{ℕ, zero, suc, ◌≡◌, ◌≤◌, ◌==◌, ◌&&◌, nat_le, nat_lt, not, Bool, true, false, List, [], ◌∷◌, length, Option, None, Some, IfSome, Result, Ok, Err, is_some, if◌then◌else◌}
-use Rattle.std.proofs.Common.{refl, ap, subst, inl, inr}
-use Rattle.admin_words.specs.Commands.{command_of}
+use Rattle.std.specs.Prelude.{ℕ, ◌≡◌, ◌≤◌, ◌==◌, ◌&&◌, not, false, List, length, Option, None, Some, IfSome, Ok, Err}
+use Rattle.std.proofs.Common.{refl}
 use Rattle.history.specs.Setting.{coordinator}
 use Rattle.node_model.specs.Configurations.{own_config}
 use Rattle.node_model.specs.Groups.{asked_by, monitor_asked, reported}
-use Rattle.node_model.specs.Members.{is_ok}
-use Rattle.node_model.specs.Presidents.{committing}
 use Rattle.refinement.specs.Cuts.{with_committed}
 use Rattle.rgm_member.specs.Probes.{probed}
 use Rattle.rgm_member.specs.declared.probed.Probed.{Probed}
 use Rattle.rgm_member.specs.declared.probed.Probed.TheVariants as probe
 use Rattle.run_history.proofs.Lists.{all_and}
-use Rattle.history_setting.specs.Settings.{is_asked}
 use Rattle.run_requests.specs.Guards.{is_silent}
-use Rattle.run_requests.proofs.Asides.{IsOther, choosing_is, first_other, text_of, turn_other}
-use Rattle.run_commands.specs.Reads.{CameSo, GoesRead, IsPresidents, IsRead, IsStarting, OwnReplies, OwnCause, ReadsIn, ReplySo, RequestRead, collects}
-use Rattle.run_commands.proofs.Hearing.{IsNoCommand, MonitorsName, NotForeign, again_so, asked_named, collects_so, given_so, lines_so, not_foreign, order_so_told, orders_so, other_so, own_next, own_line_so, probed_named, reply_fine, served_so, starting_reads}
-use Rattle.run_commands.proofs.Offices.{StateReads, answered_read, answered_reads, arrived_reads, first_arrived, first_read, kept_loud, office_at, same_reads, taken_up_reads}
-use Rattle.run_commands.proofs.Texts.{IsMonitors, command_read, monitor_read}
+use Rattle.run_commands.specs.Reads.{CameSo, GoesRead, IsPresidents, OwnReplies, RequestRead}
+use Rattle.run_commands.proofs.Hearing.{IsNoCommand, MonitorsName, NotForeign, again_so, asked_named, collects_so, not_foreign, order_so_told, own_line_so, probed_named, reply_fine, served_so}
+use Rattle.run_commands.proofs.Offices.{answered_read, same_reads}
+use Rattle.run_commands.proofs.Texts.{IsMonitors, monitor_read}
+use Rattle.run_commands.proofs.ReadForming.{collect_so, deciding_so, either_so, going_so, heartbeat_so, install_so, notice_so, own_ready_so, readying_so, seizing_so, start_so, then_so, ticked_so}
+use Rattle.run_commands.proofs.ReadRequesting.{acknowledging_so, asked_so, asking_if_so, asking_so, handling_so}
 
 module _ (c : Cluster) (me : ℕ) (low : me ≤ 32) (came : Input) (fine : CameSo came) (word : OwnReplies) where
   abbrev G : UpNode → Course → Type 0
   G x k = GoesRead c me came word x k
-
-  -- what x keeps is read
-  abbrev R : UpNode → Type 0
-  R x = ReadsIn (version_of c) x
-
-  either_so : (x : UpNode) (b : Bool) (k l : Course) → G x k → G x l → G x (if b then k else l)
-  either_so x true k l p q = p
-  either_so x false k l p q = q
-
-  then_so : (x : UpNode) (k : Course) (next : UpNode → Course) → G x k → ((y : UpNode) → G y (next y)) → G x (joined c me x k next)
-  then_so x Stops next p q = q x
-  then_so x (Acts a rest) next p q = (p.0, then_so (acted c me x a) rest next p.1 q)
-  then_so x (Keeps change rest) next p q = (p.0, then_so (changed c me x change) rest next p.1 q)
-  then_so x (Falls why) next p q = tt
-
-  decided_so : (x : UpNode) (p : Presidency) (t : decisions.Turn) → x.presidency ≡ Some p → G x (cuts.decided_course me x p t)
-  decided_so x p t is = ((λ r. orders_so me word t.orders), ((λ r. same_reads (version_of c) x x.requests.waiting p _ is refl refl refl r), tt))
-
-  deciding_by_so : (x : UpNode) (o : Option Presidency) → x.presidency ≡ o → G x (cuts.deciding_by_course c me x o)
-  deciding_by_so x None is = tt
-  deciding_by_so x (Some p) is = either_so x (may_order p.groups) _ _ (decided_so x p (decisions.decision (in_force c x) x.second (is_held_up p) p.groups) is) tt
-
-  deciding_so : (x : UpNode) → G x (cuts.deciding_course c me x)
-  deciding_so x = deciding_by_so x x.presidency refl
-
-  excluded_so : (x : UpNode) (e newest : ℕ) (o : Option ℕ) → G x (cuts.excluded_course me e newest o)
-  excluded_so x e newest None = tt
-  excluded_so x e newest (Some m) = either_so x (m == me) _ _ tt ((λ r. tt), tt)
-
-  ended_so : (x : UpNode) (e : AttemptEnd) (o : Option AttemptState) → G x (cuts.ended_course me e o)
-  ended_so x e None = tt
-  ended_so x e (Some a) = ((λ r. tt), excluded_so (resting x) a.plan.epoch (unwrap_or (newest_installed a) 0) (left_out_by e))
-
-  queued_so : (x : UpNode) (d : ℕ) (kind : SeizeKind) (o : Option AttemptState) → G x (cuts.queued_course d kind o)
-  queued_so x d kind None = tt
-  queued_so x d kind (Some a) = ((λ r. tt), tt)
-
-  step_so : (x : UpNode) (s : Step) → IsOther s → G x (cuts.step_course me x s)
-  step_so x (step.Send to m) is = ((λ r. other_so m.body is), tt)
-  step_so x (step.SeizeHere d kind) is = queued_so x d kind x.attempt
-  step_so x (step.NeedVotes n) is = tt
-  step_so x (step.InstallHere i) is = tt
-  step_so x step.StartHere is = tt
-  step_so x (step.Ended e) is = ended_so x e x.attempt
-
-  steps_so : (x : UpNode) (steps : List Step) → AllByRecursion IsOther steps → G x (cuts.steps_course c me x steps)
-  steps_so x [] all = tt
-  steps_so x (s ∷ steps) all = then_so x _ _ (step_so x s all.0) (λ y. steps_so y steps all.1)
-
-  kept_if_so : (x : UpNode) (keeps : Bool) (change : Change) (rest : Course) → IsStarting change → G (changed c me x change) rest → G x (cuts.kept_if keeps change rest)
-  kept_if_so x true change rest k l = ((λ r. starting_reads c me came x change k), l)
-  kept_if_so x false change rest k l = ((λ r. k), l)
-
-  gone_on_so : (x : UpNode) (a : AttemptState) (k : Call) (steps : List Step) → AllByRecursion IsOther steps → G x (cuts.gone_on c me x a k steps)
-  gone_on_so x a k steps all = ((λ r. tt), steps_so (going x a k) steps all)
-
-  counted_so : (x : UpNode) (a : AttemptState) (k : Call) (i : Install) (rest : List Step) (seat : Seat) → AllByRecursion IsOther rest
-      → G x (cuts.counted c me x a k i rest seat)
-  counted_so x a k i rest (Member s) all = gone_on_so x a k rest all
-  counted_so x a k i rest (Forming s) all =
-      either_so x (installs_now s i) _ _ ((λ r. tt), steps_so (changed c me x (Counts a k s i)) rest all) (gone_on_so x a k rest all)
-
-  started_so : (x : UpNode) (a : AttemptState) (k : Call) (rest : List Step) (seat : Seat) → AllByRecursion IsOther rest → G x (cuts.started c me x a k rest seat)
-  started_so x a k rest (Member s) all = gone_on_so x a k rest all
-  started_so x a k rest (Forming s) all =
-      either_so x (starts_now s (turn a k).after.plan.epoch) _ _
-      (kept_if_so x (is_some s.saved.entries.pending) (Starts a k s) (cuts.steps_course c me (changed c me x (Starts a k s)) rest) tt (steps_so (changed c me x (Starts a k s)) rest all))
-      (gone_on_so x a k rest all)
-
-  turned_by_so : (x : UpNode) (a : AttemptState) (k : Call) (steps : List Step) → AllByRecursion IsOther steps → G x (cuts.turned_by c me x a k steps)
-  turned_by_so x a k [] all = gone_on_so x a k [] tt
-  turned_by_so x a k (step.InstallHere i ∷ rest) all = counted_so x a k i rest x.seat all.1
-  turned_by_so x a k (step.StartHere ∷ rest) all = started_so x a k rest x.seat all.1
-  turned_by_so x a k (step.Send to m ∷ rest) all = gone_on_so x a k (step.Send to m ∷ rest) all
-  turned_by_so x a k (step.SeizeHere d kind ∷ rest) all = gone_on_so x a k (step.SeizeHere d kind ∷ rest) all
-  turned_by_so x a k (step.NeedVotes n ∷ rest) all = gone_on_so x a k (step.NeedVotes n ∷ rest) all
-  turned_by_so x a k (step.Ended e ∷ rest) all = gone_on_so x a k (step.Ended e ∷ rest) all
-
-  turned_so : (x : UpNode) (a : AttemptState) (k : Call) → May a k → G x (cuts.turned c me x a k)
-  turned_so x a k may = turned_by_so x a k (turn a k).steps (turn_other a k may)
-
-  if_started_so : (steps : List Step) (y : UpNode) → G y (cuts.if_started c me steps y)
-  if_started_so steps y = either_so y (starts_in steps) _ _ (deciding_so y) tt
-
-  turned_all_so : (x : UpNode) (a : AttemptState) (k : Call) → May a k → G x (cuts.turned_all c me x a k)
-  turned_all_so x a k may = then_so x _ _ (turned_so x a k may) (λ z. if_started_so (turn a k).steps z)
-
-  readied_so : (x : UpNode) (o : Option AttemptState) → G x (cuts.readied_course c me x o)
-  readied_so x None = tt
-  readied_so x (Some a) = turned_all_so x a Own_ready tt
-
-  own_ready_so : (x : UpNode) → G x (cuts.own_ready_course c me x)
-  own_ready_so x = either_so x (joins x.tasks) _ _ tt (readied_so x x.attempt)
-
-  if_installed_so : (steps : List Step) (y : UpNode) → G y (cuts.if_installed c me steps y)
-  if_installed_so steps y = either_so y (begins_install steps) _ _ (own_ready_so y) tt
-
-  called_so : (x : UpNode) (a : AttemptState) (k : Call) → May a k → G x (cuts.called c me x a k)
-  called_so x a k may = then_so x _ _ (turned_all_so x a k may) (λ z. if_installed_so (turn a k).steps z)
-
-  going_so : (x : UpNode) (a : AttemptState) (k : Call) → May a k → G x (cuts.going_course c me x a k)
-  going_so x a k may =
-      if_with (λ z. G x z) (is_choosing (turn a k).after.phase) (is_choosing (turn a k).after.phase) _ _ refl
-      (λ is. ((λ r. tt), called_so (going x a k) (turn a k).after (With_votes (votes_in c (turn a k).after)) (choosing_is (turn a k).after.phase is)))
-      (λ is. called_so x a k may)
-
-  begun_so : (x : UpNode) (t : Turn) → AllByRecursion IsOther t.steps → G x (cuts.begun_course c me x t)
-  begun_so x t all =
-      if_with (λ z. G x z) (is_choosing t.after.phase) (is_choosing t.after.phase) _ _ refl
-      (λ is. called_so x t.after (With_votes (votes_in c t.after)) (choosing_is t.after.phase is)) (λ is. steps_so x t.steps all)
-
-  leading_so : (x : UpNode) (p members : ℕ) → coordinator p ≡ me → G x (cuts.leading_course c me x p members)
-  leading_so x p members own =
-      either_so x (nat_lt (promised_of x) p) _ _ (
-        (λ r. own),
-        begun_so (changed c me x (Leads p members)) (first_turn c me x p members)
-            (first_other p members (record { sender = me; body = promise_of (record (promising x p) { greatest = p }) p }) c.attached c.id),
-      ) tt
-
-  forming_so : (x : UpNode) (o : Option ℕ) → G x (cuts.forming_course c me x o)
-  forming_so x None = tt
-  forming_so x (Some members) = leading_so x (next_epoch me x) members (own_next me x low)
-
-  ticked_so : (x : UpNode) (o : Option AttemptState) → G x (cuts.ticked_course c me x o)
-  ticked_so x (Some a) = going_so x a Call_tick tt
-  ticked_so x None = either_so x (nat_le 1 x.beats.wait) _ _ ((λ r. tt), tt) ((λ r. tt), forming_so (waiting_less x) (members_to_form c me (waiting_less x)))
-
-  heartbeat_so : (x : UpNode) (from session : ℕ) (member : Bool) → G x (cuts.heartbeat_course me x from session member)
-  heartbeat_so x from session member = either_so x (awaits_start me x from session member) _ _ ((λ r. tt), tt) tt
-
-  collect_so : (x : UpNode) (from p : ℕ) → collects came ≡ true → G x (cuts.collect_course x from p)
-  collect_so x from p is = either_so x (nat_lt (promised_of x) p) _ _ ((λ r. is), ((λ r. tt), tt)) (either_so x (is_in x p) _ _ ((λ r. tt), tt) ((λ r. tt), tt))
-
-  request_so : (x : UpNode) (from : ℕ) (kind : SeizeKind) (e members d : ℕ) (o : Option SeizeResult) → G x (cuts.request_course x from kind e members d o)
-  request_so x from kind e members d (Some result) = ((λ r. tt), tt)
-  request_so x from kind e members d None = either_so x (installed_of x == e) _ _ ((λ r. tt), tt) ((λ r. tt), tt)
-
-  seizing_so : (x : UpNode) (from : ℕ) (kind : SeizeKind) (e members d : ℕ) → G x (cuts.seizing_course x from kind e members d)
-  seizing_so x from kind e members d = either_so x (is_in x e) _ _ (request_so x from kind e members d (kept_of x.tasks d)) tt
-
-  readying_so : (x : UpNode) (to : ℕ) → G x (cuts.readying_course c x to)
-  readying_so x to = either_so x (joins x.tasks) _ _ tt ((λ r. tt), tt)
-
-  installed_so : (x : UpNode) (from : ℕ) (i : Install) (seat : Seat) → G x (cuts.installed_course c me x from i seat)
-  installed_so x from i (Member s) = readying_so x from
-  installed_so x from i (Forming s) = either_so x (s.saved.installed == i.epoch) _ _ (readying_so x from) ((λ r. tt), readying_so (changed c me x (Installs s i)) from)
-
-  install_so : (x : UpNode) (from : ℕ) (i : Install) → G x (cuts.install_course c me x from i)
-  install_so x from i = either_so x (is_in x i.epoch) _ _ (installed_so x from i x.seat) ((λ r. tt), tt)
-
-  start_so : (x : UpNode) (e : ℕ) (seat : Seat) → G x (cuts.start_course e seat)
-  start_so x e (Member s) = tt
-  start_so x e (Forming s) = either_so x (starts_now s e) _ _ (kept_if_so x (is_some s.saved.entries.pending) (Sits s e) Stops tt tt) tt
-
-  notice_so : (x : UpNode) (e newest : ℕ) → G x (cuts.notice_course x e newest)
-  notice_so x e newest = either_so x (is_in x e) _ _ tt tt
-
-  -- Requests at their president.
-
-  answering_so : (x : UpNode) (p : Presidency) (a : Arrived) (told : Answer) → (R x → StateReads (version_of c) p.proposals) → (R x → is_silent told ≡ false)
-      → G x (cuts.answering_course c me x p a told)
-  answering_so x p a told kept loud = (
-    (λ r. given_so me word x a told (loud r)),
-    ((λ r. answered_reads (version_of c) me x p a told (loud r) (kept r) r.waiting_read), deciding_so (left_answered me x p a told)),
-  )
-
-  acknowledged_so : (x : UpNode) (p : Presidency) (a : Arrived) (text : List ℕ) → (R x → StateReads (version_of c) p.proposals) → G x (cuts.acknowledged_course c me x p a text)
-  acknowledged_so x p a text kept = (
-    (λ r. answered_reads (version_of c) me x (with_committed c x p text) a answer.Ok refl
-        (taken_up_reads (version_of c) (in_force c (committing x)) p (command_of (version_of c) text) (kept r)) r.waiting_read),
-    ((λ r. tt), ((λ r. given_so me word x a answer.Ok refl), deciding_so (changed c me x (acks_of c me x p a text)))),
-  )
-
-  acknowledging_text_so : (x : UpNode) (p : Presidency) (o : Option Arrived) (text : Option (List ℕ)) → (R x → StateReads (version_of c) p.proposals)
-      → G x (cuts.acknowledging_text_course c me x p o text)
-  acknowledging_text_so x p (Some a) (Some text) kept = acknowledged_so x p a text kept
-  acknowledging_text_so x p None text kept = tt
-  acknowledging_text_so x p (Some a) None kept = tt
-
-  acknowledging_by_so : (x : UpNode) (o : Option Presidency) → x.presidency ≡ o → G x (cuts.acknowledging_by_course c me x o)
-  acknowledging_by_so x None is = tt
-  acknowledging_by_so x (Some p) is =
-      acknowledging_text_so x p (first_in p.proposals.arrived) (record_of x).entries.pending (λ r. office_at (version_of c) x.presidency p is r.office_read)
-
-  acknowledging_so : (x : UpNode) → G x (cuts.acknowledging_course c me x)
-  acknowledging_so x = acknowledging_by_so x x.presidency refl
-
-  proposing_so : (x : UpNode) (p : Presidency) (text : List ℕ) → x.presidency ≡ Some p → G x (cuts.proposing_course c me x p text)
-  proposing_so x p text is = (
-    (λ r. same_reads (version_of c) x x.requests.waiting p _ is refl refl refl r),
-    ((λ r. tt), either_so (proposed_by c me x p text) (others_of me x == 0) _ _ (acknowledging_so (proposed_by c me x p text)) tt),
-  )
-
-  acting_so : (x : UpNode) (p : Presidency) (a : Arrived) (ask : Ask) → x.presidency ≡ Some p → G x (cuts.acting_course c me x p a ask)
-  acting_so x p a ask is =
-      either_so x (may_order p.groups) _ _ (
-        (λ r. orders_so me word (orders_for p.groups ask)),
-        answering_so x (with_act c me x p a ask) a answer.Ok (λ r. office_at (version_of c) x.presidency p is r.office_read) (λ r. refl),
-      ) tt
-
-  taken_as_so : (x : UpNode) (p : Presidency) (a : Arrived) (r : Result Accepted CheckError) → x.presidency ≡ Some p → G x (cuts.taken_as_course c me x p a r)
-  taken_as_so x p a (Ok (accepted.Change u)) is = proposing_so x p (words_of u) is
-  taken_as_so x p a (Ok (accepted.Act ask)) is = acting_so x p a ask is
-  taken_as_so x p a (Ok (accepted.Query q)) is = answering_so x p a answer.Ok (λ r. office_at (version_of c) x.presidency p is r.office_read) (λ r. refl)
-  taken_as_so x p a (Err (because.Refused why)) is = answering_so x p a (answer.Refused why) (λ r. office_at (version_of c) x.presidency p is r.office_read) (λ r. refl)
-  taken_as_so x p a (Err because.NoMemory) is = tt
-
-  taken_so : (x : UpNode) (p : Presidency) (a : Arrived) (w : Result wanted.Request WordError) → request_of (version_of c) a.text ≡ w → first_in p.proposals.arrived ≡ Some a
-      → x.presidency ≡ Some p → G x (cuts.taken_course c me x p a w)
-  taken_so x p a (Ok (asked.Change u)) reads first is = either_so x (is_busy p.groups) _ _ tt (taken_as_so x p a (checked c x p (wish.Change u)) is)
-  taken_so x p a (Ok (asked.Act ask)) reads first is = either_so x (is_busy p.groups && is_clear ask) _ _ tt (taken_as_so x p a (checked c x p (wish.Act ask)) is)
-  taken_so x p a (Err e) reads first is =
-      answering_so x p a (word_answer e) (λ r. office_at (version_of c) x.presidency p is r.office_read)
-      (λ r. absurd (false_true (subst (λ z. is_ok z ≡ true) reads (first_arrived (version_of c) p.proposals.arrived a first (office_at (version_of c) x.presidency p is r.office_read).0))))
-
-  turn_of_so : (x : UpNode) (p : Presidency) (o : Option Proposed) (first : Option Arrived) → first_in p.proposals.arrived ≡ first → x.presidency ≡ Some p
-      → G x (cuts.turn_of_course c me x p o first)
-  turn_of_so x p None (Some a) at is = taken_so x p a (request_of (version_of c) a.text) refl at is
-  turn_of_so x p None None at is = tt
-  turn_of_so x p (Some proposed) first at is = tt
-
-  turn_by_so : (x : UpNode) (o : Option Presidency) → x.presidency ≡ o → G x (cuts.turn_by_course c me x o)
-  turn_by_so x None is = tt
-  turn_by_so x (Some p) is = turn_of_so x p p.proposals.proposed (first_in p.proposals.arrived) refl is
-
-  one_turn_so : (x : UpNode) → G x (cuts.one_turn_course c me x)
-  one_turn_so x = turn_by_so x x.presidency refl
-
-  turns_so : (x : UpNode) (k : ℕ) → G x (cuts.turns_course c me x k)
-  turns_so x zero = tt
-  turns_so x (suc k) = then_so x _ _ (turns_so x k) (λ z. one_turn_so z)
-
-  handling_so : (x : UpNode) → G x (cuts.handling_course c me x)
-  handling_so x = turns_so x (requests_of x x.presidency)
-
-  kept_again_so : (x : UpNode) (p : Presidency) (from : ℕ) (o : Option Kept) → kept_at p.proposals.answers from ≡ o → x.presidency ≡ Some p → G x (cuts.kept_again_course x from o)
-  kept_again_so x p from None at is = tt
-  kept_again_so x p from (Some k) at is = ((λ r. kept_loud p.proposals.answers from k at (office_at (version_of c) x.presidency p is r.office_read).1), tt)
-
-  arrived_so : (x : UpNode) (p : Presidency) (a : Arrived) (how : Arrival) → (R x → IsRead (version_of c) a.text) → x.presidency ≡ Some p → G x (cuts.arrived_course c me x p a how)
-  arrived_so x p a New read is = ((λ r. arrived_reads (version_of c) x p a is read r), handling_so (with_proposals x p (with_arrival p.proposals a New)))
-  arrived_so x p a Waits_already read is = tt
-  arrived_so x p a Answered_last read is = kept_again_so x p a.from (kept_at p.proposals.answers a.from) refl is
-  arrived_so x p a Past read is = tt
-
-  arriving_so : (x : UpNode) (p : Presidency) (a : Arrived) → (R x → IsRead (version_of c) a.text) → x.presidency ≡ Some p → G x (cuts.arriving_course c me x p a)
-  arriving_so x p a read is = arrived_so x p a (arrival_of p.proposals a.from a.number) read is
-
-  requested_so : (x : UpNode) (from number : ℕ) (text : List ℕ) (o : Option Presidency) → IsRead (version_of c) text → x.presidency ≡ o → G x (cuts.requested_course c me x from number text o)
-  requested_so x from number text None read is = tt
-  requested_so x from number text (Some p) read is = arriving_so x p (record { from = from; number = number; text = text }) (λ r. read) is
-
-  asked_so : (x : UpNode) (from e number : ℕ) (text : List ℕ) → IsRead (version_of c) text → G x (cuts.asked_course c me x from e number text)
-  asked_so x from e number text read = either_so x (is_of_member x from e) _ _ (requested_so x from number text x.presidency read refl) tt
-
-  -- Requests at the node that asks.
-
-  request_to_so : (x : UpNode) (r : Request) (o : Option ℕ) → G x (cuts.request_to_course x r o)
-  request_to_so x r None = tt
-  request_to_so x r (Some president) = ((λ r. tt), tt)
-
-  asking_of_so : (x : UpNode) (r : Request) (o : Option Presidency) → oldest x.requests ≡ Some r → x.presidency ≡ o → G x (cuts.asking_of_course c me x r o)
-  asking_of_so x r None first is = request_to_so x r (coordinator_of x)
-  asking_of_so x r (Some p) first is = arriving_so x p (own_arrival me r) (λ k. first_read (version_of c) x.requests.waiting r first k.waiting_read) is
-
-  asking_for_so : (x : UpNode) (o : Option Request) → oldest x.requests ≡ o → G x (cuts.asking_for_course c me x o)
-  asking_for_so x None first = tt
-  asking_for_so x (Some r) first = asking_of_so x r x.presidency first refl
-
-  asking_so : (x : UpNode) → G x (cuts.asking_course c me x)
-  asking_so x = asking_for_so x (oldest x.requests) refl
-
-  asking_if_so : (alone : Bool) (x : UpNode) → G x (cuts.asking_if_course alone c me x)
-  asking_if_so alone x = either_so x alone _ _ (asking_so x) tt
-
-  -- A command that came: what the node answers by itself, and the request that waits.
-
-  replying_so : (x : UpNode) (number : ℕ) (told : Answer) → ReplySo word number told → G x (cuts.replying_course me number told)
-  replying_so x number told so = ((λ r. ((refl, so), tt)), tt)
-
-  waiting_so : (x : UpNode) (number : ℕ) (text : List ℕ) → (is_full x.requests ≡ true → word number answer.QueueFull) → IsRead (version_of c) text → G x (cuts.waiting_course c me x number text)
-  waiting_so x number text full read =
-      if_with (λ z. G x z) (is_full x.requests) (is_full x.requests) _ _ refl (λ is. replying_so x number answer.QueueFull (inr (full is))) (λ is. (
-        (λ r. record {
-          waiting_read = all_and (RequestRead (version_of c)) x.requests.waiting (record { number = number; text = text; told = true; second = x.second }) r.waiting_read read;
-          office_read = r.office_read;
-        }),
-        asking_if_so (is_idle x.requests.waiting) (waiting_with x number text),
-      ))
-
-  elsewhere_so : (x : UpNode) (number : ℕ) (o : Option ℕ) → ((president : ℕ) → o ≡ Some president → word number (answer.Ask president)) → G x (cuts.elsewhere_course me number o)
-  elsewhere_so x number None other = tt
-  elsewhere_so x number (Some president) other = replying_so x number (answer.Ask president) (inr (other president refl))
-
-  telling_so : (x : UpNode) (number : ℕ) (lines : List StatusEntry) → G x (cuts.telling_course me number lines)
-  telling_so x number lines = ((λ r. lines_so me word lines), replying_so x number answer.Ok (inl refl))
-
-  query_so : (x : UpNode) (p : Presidency) (number : ℕ) (s : ConfigState) (r : Result Accepted CheckError) → G x (cuts.query_course me x p number s r)
-  query_so x p number s (Ok (accepted.Query q)) = telling_so x number (query_lines x p s q)
-  query_so x p number s (Ok (accepted.Change u)) = tt
-  query_so x p number s (Ok (accepted.Act ask)) = tt
-  query_so x p number s (Err (because.Refused r)) = replying_so x number (answer.Refused r) (inl refl)
-  query_so x p number s (Err because.NoMemory) = tt
-
-  -- what the node answers by itself to this command has a cause
-  abbrev Causes : UpNode → ℕ → List ℕ → Type 0
-  Causes x number words = (reply : Answer) → OwnCause (version_of c) x.seat x.presidency x.requests.waiting words reply → word number reply
-
-  queried_so : (x : UpNode) (number : ℕ) (words : List ℕ) (question : AdminCommand) (o : Option Presidency) → x.presidency ≡ o → command_of (version_of c) words ≡ Ok question
-      → is_asked question ≡ true → is_member x.seat ≡ true → Causes x number words → G x (cuts.queried_course c me x number question o)
-  queried_so x number words question None is read asks here own =
-      elsewhere_so x number (coordinator_of x) (λ president at. own (answer.Ask president) (inr (inr (inl (record {
-        command = question;
-        read = read;
-        seated = here;
-        query = asks;
-        none = is;
-        president = president;
-        at = at;
-        is = refl;
-      })))))
-  queried_so x number words question (Some p) is read asks here own =
-      if_with (λ z. G x z) (is_full x.requests) (is_full x.requests) _ _ refl
-      (λ full. replying_so x number answer.QueueFull (inr (own answer.QueueFull (inr (inr (inr (record { command = question; read = read; seated = here; query = λ q. ap is_some is; full = full; is = refl })))))))
-      (λ full. query_so x p number (in_force c x) (checked c x p question))
-
-  commanded_so : (x : UpNode) (number : ℕ) (words : List ℕ) (o : AdminCommand) → command_of (version_of c) words ≡ Ok o → is_member x.seat ≡ true → Causes x number words
-      → ((text : List ℕ) → text_of o ≡ Some text → IsRead (version_of c) text) → G x (cuts.commanded_course c me x number o)
-  commanded_so x number words (wish.Change u) read here own reads =
-      waiting_so x number (words_of u) (λ full. own answer.QueueFull (inr (inr (inr (record { command = wish.Change u; read = read; seated = here; query = λ q. absurd (false_true q); full = full; is = refl })))))
-      (reads (words_of u) refl)
-  commanded_so x number words (wish.Act a) read here own reads =
-      waiting_so x number (ask_words_of a) (λ full. own answer.QueueFull (inr (inr (inr (record { command = wish.Act a; read = read; seated = here; query = λ q. absurd (false_true q); full = full; is = refl })))))
-      (reads (ask_words_of a) refl)
-  commanded_so x number words (wish.Status q) read here own reads = queried_so x number words (wish.Status q) x.presidency refl read refl here own
-  commanded_so x number words (wish.Rows table) read here own reads = queried_so x number words (wish.Rows table) x.presidency refl read refl here own
-
-  pub worded_so : (x : UpNode) (number : ℕ) (words : List ℕ) (r : Result AdminCommand WordError) → command_of (version_of c) words ≡ r → Causes x number words
-      → G x (cuts.worded_course c me x number r)
-  worded_so x number words (Err e) read own = replying_so x number (word_answer e) (inr (own (word_answer e) (inl (record { error = e; read = read; is = refl }))))
-  worded_so x number words (Ok command) read own =
-      if_with (λ z. G x z) (is_member x.seat) (is_member x.seat) _ _ refl
-      (λ here. commanded_so x number words command read here own (λ text asks. command_read (version_of c) words command text read asks))
-      (λ away. replying_so x number answer.NotMember (inr (own answer.NotMember (inr (inl (record { command = command; read = read; seated = away; is = refl }))))))
 
   -- The president's answer.
 
@@ -475,7 +95,7 @@ module _ (c : Cluster) (me : ℕ) (low : me ≤ 32) (came : Input) (fine : CameS
     (λ k. own_line_so me word told (Some r) loud),
     (
       (λ k. record { waiting_read = answered_read (version_of c) x.requests number k.waiting_read; office_read = k.office_read }),
-      asking_so (record x { requests = queue.answered x.requests number }),
+      asking_so c me came word (record x { requests = queue.answered x.requests number }),
     ),
   )
 
@@ -484,7 +104,7 @@ module _ (c : Cluster) (me : ℕ) (low : me ≤ 32) (came : Input) (fine : CameS
   replied_so x number (Some told) loud = replied_to_so x number told (found x.requests.waiting number) loud
 
   reply_so : (x : UpNode) (e number : ℕ) (text : List ℕ) → IsPresidents text → G x (cuts.reply_course c me x e number (answer_in text))
-  reply_so x e number text loud = either_so x (is_member x.seat && is_in x e) _ _ (replied_so x number (answer_in text) loud) tt
+  reply_so x e number text loud = either_so c me came word x (is_member x.seat && is_in x e) _ _ (replied_so x number (answer_in text) loud) tt
 
   preparing_so : (x : UpNode) (from e place : ℕ) (s : NodeState) (text : List ℕ) (o : Prepared) → G x (cuts.preparing_course from e place s text o)
   preparing_so x from e place s text Taken = ((λ r. tt), ((λ r. tt), tt))
@@ -493,10 +113,10 @@ module _ (c : Cluster) (me : ℕ) (low : me ≤ 32) (came : Input) (fine : CameS
 
   prepare_so : (x : UpNode) (from e place : ℕ) (text : List ℕ) (seat : Seat) → G x (cuts.prepare_course x from e place text seat)
   prepare_so x from e place text (Forming s) = tt
-  prepare_so x from e place text (Member s) = either_so x (is_in x e) _ _ (preparing_so x from e place s text (answer_for (length (texts_of s.saved.entries)) place)) tt
+  prepare_so x from e place text (Member s) = either_so c me came word x (is_in x e) _ _ (preparing_so x from e place s text (answer_for (length (texts_of s.saved.entries)) place)) tt
 
   prepared_all_so : (x : UpNode) (p : Presidency) → G x (cuts.prepared_all_course c me x p)
-  prepared_all_so x p = either_so x (is_prepared p.proposals) _ _ (then_so x _ _ (acknowledging_so x) (λ z. handling_so z)) tt
+  prepared_all_so x p = either_so c me came word x (is_prepared p.proposals) _ _ (then_so c me came word x _ _ (acknowledging_so c me came word x) (λ z. handling_so c me came word z)) tt
 
   prepared_at_so : (x : UpNode) (from place : ℕ) (o : Option Presidency) → x.presidency ≡ o → G x (cuts.prepared_at_course c me x from place o)
   prepared_at_so x from place None is = tt
@@ -505,24 +125,24 @@ module _ (c : Cluster) (me : ℕ) (low : me ≤ 32) (came : Input) (fine : CameS
       ((λ r. same_reads (version_of c) x x.requests.waiting p _ is refl refl refl r), prepared_all_so (with_proposals x p s) (record p { proposals = s }))
 
   prepared_so : (x : UpNode) (from e place : ℕ) → G x (cuts.prepared_course c me x from e place)
-  prepared_so x from e place = either_so x (is_of_member x from e) _ _ (prepared_at_so x from place x.presidency refl) tt
+  prepared_so x from e place = either_so c me came word x (is_of_member x from e) _ _ (prepared_at_so x from place x.presidency refl) tt
 
   commit_so : (x : UpNode) (e place : ℕ) (seat : Seat) → G x (cuts.commit_course x e place seat)
   commit_so x e place (Forming s) = tt
-  commit_so x e place (Member s) = either_so x (is_in x e && commits_now s place) _ _ ((λ r. tt), tt) tt
+  commit_so x e place (Member s) = either_so c me came word x (is_in x e && commits_now s place) _ _ ((λ r. tt), tt) tt
 
   done_at_so : (x : UpNode) (from number : ℕ) (outcome : Outcome) (o : Option Presidency) → x.presidency ≡ o → G x (cuts.done_at_course c me x from number outcome o)
   done_at_so x from number outcome None is = tt
   done_at_so x from number outcome (Some p) is =
       let y : UpNode = record x { presidency = Some (with_ended c x p from number outcome) } in
-      either_so x (order.is_due p.groups.view from number) _ _
-      ((λ r. same_reads (version_of c) x x.requests.waiting p _ is refl refl refl r), then_so y _ _ (deciding_so y) (λ z. handling_so z)) tt
+      either_so c me came word x (order.is_due p.groups.view from number) _ _
+      ((λ r. same_reads (version_of c) x x.requests.waiting p _ is refl refl refl r), then_so c me came word y _ _ (deciding_so c me came word y) (λ z. handling_so c me came word z)) tt
 
   done_so : (x : UpNode) (from e number : ℕ) (outcome : Outcome) → G x (cuts.done_course c me x from e number outcome)
-  done_so x from e number outcome = either_so x (is_of_member x from e) _ _ (done_at_so x from number outcome x.presidency refl) tt
+  done_so x from e number outcome = either_so c me came word x (is_of_member x from e) _ _ (done_at_so x from number outcome x.presidency refl) tt
 
   carrying_so : (x : UpNode) (o : Order) (how : Carried) → G x (cuts.carrying_course c me x o how)
-  carrying_so x o how = ((λ r. order_so_told me word o how), either_so x (is_last c x o how) _ _ tt ((λ r. tt), tt))
+  carrying_so x o how = ((λ r. order_so_told me word o how), either_so c me came word x (is_last c x o how) _ _ tt ((λ r. tt), tt))
 
   order_answered_so : (from : ℕ) (o : Order) (how : Carried) (x : UpNode) → G x (cuts.order_answered_course from o how x)
   order_answered_so from o carried.Old x = tt
@@ -531,17 +151,17 @@ module _ (c : Cluster) (me : ℕ) (low : me ≤ 32) (came : Input) (fine : CameS
   order_answered_so from o (carried.Kept outcome) x = ((λ r. tt), tt)
 
   obeying_so : (x : UpNode) (from : ℕ) (o : Order) (how : Carried) → G x (cuts.obeying_course c me x from o how)
-  obeying_so x from o how = then_so x (cuts.carrying_course c me x o how) _ (carrying_so x o how) (λ z. order_answered_so from o how z)
+  obeying_so x from o how = then_so c me came word x (cuts.carrying_course c me x o how) _ (carrying_so x o how) (λ z. order_answered_so from o how z)
 
   order_so : (outcome : Outcome) (x : UpNode) (from : ℕ) (o : Order) → G x (cuts.order_course c me outcome x from o)
-  order_so outcome x from o = either_so x (is_member x.seat && is_in x o.epoch) _ _ (obeying_so x from o (answer_to x.worker o outcome)) tt
+  order_so outcome x from o = either_so c me came word x (is_member x.seat && is_in x o.epoch) _ _ (obeying_so x from o (answer_to x.worker o outcome)) tt
 
   own_done_so : (o : Order) (how : Carried) (x : UpNode) → G x (cuts.own_done_course c me o how x)
   own_done_so o how x = done_at_so x me o.number (outcome_in how) x.presidency refl
 
   own_turn_so : (outcome : Outcome) (x : UpNode) (o : Option Order) → G x (cuts.own_turn_course c me outcome x o)
   own_turn_so outcome x None = tt
-  own_turn_so outcome x (Some o) = then_so x (cuts.carrying_course c me x o (answer_to x.worker o outcome)) _ (carrying_so x o (answer_to x.worker o outcome)) (λ z. own_done_so o (answer_to x.worker o outcome) z)
+  own_turn_so outcome x (Some o) = then_so c me came word x (cuts.carrying_course c me x o (answer_to x.worker o outcome)) _ (carrying_so x o (answer_to x.worker o outcome)) (λ z. own_done_so o (answer_to x.worker o outcome) z)
 
   prepares_so : (before x : UpNode) (o : Option Proposed) (text : Option (List ℕ)) (rest : Course) → G x rest → G x (cuts.prepares_course before o text rest)
   prepares_so before x (Some p) (Some text) rest k = ((λ r. tt), k)
@@ -550,16 +170,16 @@ module _ (c : Cluster) (me : ℕ) (low : me ≤ 32) (came : Input) (fine : CameS
 
   prepares_again_so : (before x : UpNode) (o : Option Presidency) (rest : Course) → G x rest → G x (cuts.prepares_again_course before o rest)
   prepares_again_so before x None rest k = k
-  prepares_again_so before x (Some p) rest k = either_so x (goes_again p.proposals) _ _ (prepares_so before x p.proposals.proposed (record_of before).entries.pending rest k) k
+  prepares_again_so before x (Some p) rest k = either_so c me came word x (goes_again p.proposals) _ _ (prepares_so before x p.proposals.proposed (record_of before).entries.pending rest k) k
 
   going_again_so : (before x : UpNode) → G x (cuts.going_again_course c me before x)
-  going_again_so before x = prepares_again_so before x before.presidency (Acts (Gives (orders_again before x)) (cuts.deciding_course c me x)) ((λ r. again_so me word before.presidency x.presidency), deciding_so x)
+  going_again_so before x = prepares_again_so before x before.presidency (Acts (Gives (orders_again before x)) (cuts.deciding_course c me x)) ((λ r. again_so me word before.presidency x.presidency), deciding_so c me came word x)
 
   governing_so : (outcome : Outcome) (before x : UpNode) → G x (cuts.governing_course c me outcome before x)
-  governing_so outcome before x = then_so x _ _ (own_turn_so outcome x (own_order me x)) (λ z. going_again_so before z)
+  governing_so outcome before x = then_so c me came word x _ _ (own_turn_so outcome x (own_order me x)) (λ z. going_again_so before z)
 
   tick_so : (outcome : Outcome) (x : UpNode) → G x (cuts.tick_course c me outcome x)
-  tick_so outcome x = ((λ r. tt), then_so (later c x) _ _ (governing_so outcome x (later c x)) (λ y. ticked_so y y.attempt))
+  tick_so outcome x = ((λ r. tt), then_so c me came word (later c x) _ _ (governing_so outcome x (later c x)) (λ y. ticked_so c me came word low y y.attempt))
 
   serving_so : (x : UpNode) (p : Presidency) (name : List ℕ) (client port : ℕ) (o : serving.Outcome) → x.presidency ≡ Some p → G x (cuts.serving_course x p name client port o)
   serving_so x p name client port o is = ((λ r. served_so me word name client port o), ((λ r. same_reads (version_of c) x x.requests.waiting p _ is refl refl refl r), tt))
@@ -578,24 +198,24 @@ module _ (c : Cluster) (me : ℕ) (low : me ≤ 32) (came : Input) (fine : CameS
 
   answer_so : (x : UpNode) (from : ℕ) (m : Message) (o : Option AttemptState) → G x (cuts.answer_course c me x from m o)
   answer_so x from m None = tt
-  answer_so x from m (Some a) = going_so x a (Take from m) tt
+  answer_so x from m (Some a) = going_so c me came word x a (Take from m) tt
 
   body_so : (outcome : Outcome) (x : UpNode) (from : ℕ) (m : Message) (b : Body) → came ≡ Packet from m → m.body ≡ b → NotForeign (version_of c) b → G x (cuts.body_course c me outcome x from m b)
-  body_so outcome x from m (body.Heartbeat promised session member) at is known = heartbeat_so x from session member
-  body_so outcome x from m (body.Collect e members) at is known = collect_so x from e (collects_so came from m e members at is)
+  body_so outcome x from m (body.Heartbeat promised session member) at is known = heartbeat_so c me came word x from session member
+  body_so outcome x from m (body.Collect e members) at is known = collect_so c me came word x from e (collects_so came from m e members at is)
   body_so outcome x from m (body.Promise e installed members valid flagged committed pending) at is known = answer_so x from m x.attempt
   body_so outcome x from m (body.Nack e promised) at is known = answer_so x from m x.attempt
-  body_so outcome x from m (body.SeizeQuorum e members d) at is known = seizing_so x from Vote e members d
-  body_so outcome x from m (body.SeizeData e members d) at is known = seizing_so x from Plain e members d
+  body_so outcome x from m (body.SeizeQuorum e members d) at is known = seizing_so c me came word x from Vote e members d
+  body_so outcome x from m (body.SeizeData e members d) at is known = seizing_so c me came word x from Plain e members d
   body_so outcome x from m (body.Seized e d ended) at is known = answer_so x from m x.attempt
-  body_so outcome x from m (body.Install i) at is known = install_so x from i
+  body_so outcome x from m (body.Install i) at is known = install_so c me came word x from i
   body_so outcome x from m (body.Ready e joined_devices report) at is known = answer_so x from m x.attempt
-  body_so outcome x from m (body.Start e) at is known = start_so x e x.seat
-  body_so outcome x from m (body.Excluded e newest) at is known = notice_so x e newest
+  body_so outcome x from m (body.Start e) at is known = start_so c me came word x e x.seat
+  body_so outcome x from m (body.Excluded e newest) at is known = notice_so c me came word x e newest
   body_so outcome x from m (body.Prepare e place text) at is known = prepare_so x from e place text x.seat
   body_so outcome x from m (body.Prepared e place) at is known = prepared_so x from e place
   body_so outcome x from m (body.Commit e place) at is known = commit_so x e place x.seat
-  body_so outcome x from m (body.Request e number text) at is known = asked_so x from e number text known
+  body_so outcome x from m (body.Request e number text) at is known = asked_so c me came word x from e number text known
   body_so outcome x from m (body.Answer e number text) at is known = reply_so x e number text (reply_fine came from m e number text at is fine)
   body_so outcome x from m (body.Order o) at is known = order_so outcome x from o
   body_so outcome x from m (body.Done e number ended) at is known = done_so x from e number ended
@@ -607,19 +227,19 @@ module _ (c : Cluster) (me : ℕ) (low : me ≤ 32) (came : Input) (fine : CameS
 
   distrusting_so : (x : UpNode) (o : Option ℕ) → G x (cuts.distrusting_course x o)
   distrusting_so x None = tt
-  distrusting_so x (Some d) = either_so x (has (record_of x).valid d) _ _ ((λ r. tt), tt) tt
+  distrusting_so x (Some d) = either_so c me came word x (has (record_of x).valid d) _ _ ((λ r. tt), tt) tt
 
   own_seized_so : (x : UpNode) (d : ℕ) (result : SeizeResult) (o : Option AttemptState) → G x (cuts.own_seized_course c me x d result o)
   own_seized_so x d result None = tt
-  own_seized_so x d result (Some a) = going_so x a (Own_seized d result) tt
+  own_seized_so x d result (Some a) = going_so c me came word x a (Own_seized d result) tt
 
   seized_so : (x : UpNode) (d : ℕ) (result : SeizeResult) (o : Option ℕ) → G x (cuts.seized_course c me x d result o)
   seized_so x d result None = tt
-  seized_so x d result (Some coordinator) = either_so x (coordinator == me) _ _ (own_seized_so x d result x.attempt) ((λ r. tt), tt)
+  seized_so x d result (Some coordinator) = either_so c me came word x (coordinator == me) _ _ (own_seized_so x d result x.attempt) ((λ r. tt), tt)
 
   joined_so : (x : UpNode) (o : Option ℕ) → G x (cuts.joined_course c me x o)
   joined_so x None = tt
-  joined_so x (Some coordinator) = either_so x (coordinator == me) _ _ (own_ready_so x) (readying_so x coordinator)
+  joined_so x (Some coordinator) = either_so c me came word x (coordinator == me) _ _ (own_ready_so c me came word x) (readying_so c me came word x coordinator)
 
   joins_device_so : (x : UpNode) (at : ℕ) (command : PrCommand) (a : DeviceAnswer) (d : ℕ) (r : JoinResult) → G x (cuts.joining_course c me x at command a d r)
   joins_device_so x at command a d join.Joined = ((λ r. tt), joined_so (joining_so (answered_so x a) d) (coordinator_of (joining_so (answered_so x a) d)))
@@ -653,13 +273,13 @@ module _ (c : Cluster) (me : ℕ) (low : me ≤ 32) (came : Input) (fine : CameS
   asking_this_so : (x : UpNode) (o : Option Ask) → IfSome o IsMonitors → G x (cuts.asking_this_course c me x o)
   asking_this_so x None is = tt
   asking_this_so x (Some ask) is =
-      either_so x (is_member x.seat && not (is_full x.requests)) _ _ (
+      either_so c me came word x (is_member x.seat && not (is_full x.requests)) _ _ (
         (λ r. record {
           waiting_read = all_and (RequestRead (version_of c)) x.requests.waiting (record { number = next_number x.requests; text = ask_words_of ask; told = false; second = x.second }) r.waiting_read
               (monitor_read (version_of c) ask is);
           office_read = r.office_read;
         }),
-        asking_if_so (is_idle x.requests.waiting) (monitor_asked x ask),
+        asking_if_so c me came word (is_idle x.requests.waiting) (monitor_asked x ask),
       ) tt
 
   reporting_so : (x : UpNode) (r : List ℕ) (p : Probed) → MonitorsName r p → G x (cuts.reporting_course c me x r p)

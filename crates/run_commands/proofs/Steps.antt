@@ -54,7 +54,8 @@ use Rattle.run_requests.proofs.Counts.{next_low, passing_used, room_left, then_l
 use Rattle.run_commands.specs.Guards.Hand.{Free, Held}
 use Rattle.run_commands.specs.Answers.{AnswersWait}
 use Rattle.run_commands.proofs.Asides.{quiet_gives}
-use Rattle.run_commands.proofs.Courses.{IsNoCommand, asking_if_so, course_at_so, worded_so}
+use Rattle.run_commands.proofs.Courses.{IsNoCommand, course_at_so}
+use Rattle.run_commands.proofs.Requesting.{asking_if_so, worded_so}
 use Rattle.run_commands.proofs.Doings.{Was}
 use Rattle.run_commands.proofs.Numbers.{Numbers, apart_numbers, asked_numbered, asked_numbers, boot_numbers, monitor_numbers, passing_steady}
 use Rattle.run_commands.proofs.Owed.{is_untold, owed_added, owed_asked, owed_none, owed_stays}
