@@ -41,6 +41,7 @@ use Rattle.run_history.specs.Scenes.{Scene, dropped_so, passing, posting, sent_a
 use Rattle.run_downs.proofs.Packets.{IsNoPacket, told_came}
 use Rattle.run_downs.proofs.Proposed.{AreProposed, IsProposedLine, told_by}
 use Rattle.run_downs.proofs.Proposing.{SavesProposed, asked_p, done_p, order_p, reply_p}
+use Rattle.run_downs.proofs.Silent.{posted_ruled}
 use Rattle.run_downs.specs.Laws.{StopsByRule, asks_to_act}
 
 not_so : false ≡ true → ⊥
@@ -79,16 +80,6 @@ posted_event n from to m s =
     if_either (λ (z : Scene). SameEvent n s.moments z.moments) (is_sent s.links m) (sent_as from to m o s) s
     (dropped_event n o.sent.dropped (telling (entry.Packet (packet.Sent s.links.next from to (name_of m.body) (spelling m))) (with_links s o.after))) (refl, refl, refl)
 
-dropped_always : (S : Setting) (o : Option (ℕ × DropCause)) (s : Scene) → Always (StopsByRule S) s.moments → Always (StopsByRule S) (dropped_so o s).moments
-dropped_always S None s h = h
-dropped_always S (Some x) s h = (tt, h)
-
-posted_always : (S : Setting) (from to : ℕ) (m : Message) (s : Scene) → Always (StopsByRule S) s.moments → Always (StopsByRule S) (posting from to m s).moments
-posted_always S from to m s h =
-    let o : net.Outcome = sending s.links from to (spelling m) in
-    if_either (λ (z : Scene). Always (StopsByRule S) z.moments) (is_sent s.links m) (sent_as from to m o s) s
-    (dropped_always S o.sent.dropped (telling (entry.Packet (packet.Sent s.links.next from to (name_of m.body) (spelling m))) (with_links s o.after)) (tt, h)) h
-
 -- behind a proposal the rules let it save in this event
 abbrev pub IsRule : Setting → ℕ → Option Event → Option Letter → Type 0
 IsRule S n e a = (ms : List Moment) → under_way ms ≡ e → arrived ms ≡ a → proposes n ms ≡ true → may_save S n ms ≡ true
@@ -102,7 +93,7 @@ proposed_ruled S n e a t (Tells x ∷ os) s h packets rule said is here so =
 proposed_ruled S n e a t (Sends to b ∷ os) s h packets rule said is here so =
     let m : Message = record { sender = n; body = b } in
     let k : SameEvent n s.moments (posting n to m s).moments = posted_event n n to m s in
-    proposed_ruled S n e a t os (posting n to m s) h packets.1 rule (λ y. k.0 ∙ said y) (k.1 ∙ is) (k.2 ∙ here) (posted_always S n to m s so)
+    proposed_ruled S n e a t os (posting n to m s) h packets.1 rule (λ y. k.0 ∙ said y) (k.1 ∙ is) (k.2 ∙ here) (posted_ruled S n to m s so)
 
 -- ---- the messages
 

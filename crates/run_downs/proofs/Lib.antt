@@ -12,5 +12,6 @@ pub mod Promised
 pub mod Proposing
 pub mod Calm
 pub mod Proposed
+pub mod Silent
 pub mod Acting
 pub mod Ruled
