@@ -1,5 +1,5 @@
 -- At a command, a probe, a request, an answer, an order or a Done a node stops only behind a proposal of its own in the event.
-use Rattle.std.specs.Prelude.{ℕ, ◌==◌, ◌≡◌, ◌||◌, Bool, true, false, List, [], ◌∷◌, Option, None, Some}
+use Rattle.std.specs.Prelude.{ℕ, ◌==◌, ◌≡◌, ◌&&◌, ◌||◌, Bool, true, false, List, [], ◌∷◌, Option, None, Some, is_some}
 use Rattle.std.specs.List.{AllByRecursion}
 use Rattle.std.proofs.Common.{refl, sym, subst, ◌∙◌, arith}
 use Rattle.cl_base.specs.declared.method.Outcome as method
@@ -9,7 +9,8 @@ use Rattle.history.specs.Letters.{Letter, arrived}
 use Rattle.history.specs.Moment.{Moment, Told}
 use Rattle.history.specs.Names.{named}
 use Rattle.history.specs.Order.{Always, under_way}
-use Rattle.history.specs.Saves.{may_save, proposes, saves_at}
+use Rattle.history.specs.Member.{member_of}
+use Rattle.history.specs.Saves.{has_pending, may_save, proposes, saves_at}
 use Rattle.history.specs.Setting.{Setting, coordinator}
 use Rattle.interconnect.specs.Links as net
 use Rattle.interconnect.specs.Links.{sending}
@@ -42,7 +43,7 @@ use Rattle.run_downs.proofs.Packets.{IsNoPacket, told_came}
 use Rattle.run_downs.proofs.Proposed.{AreProposed, IsProposedLine, told_by}
 use Rattle.run_downs.proofs.Proposing.{SavesProposed, asked_p, done_p, order_p, reply_p}
 use Rattle.run_downs.proofs.Silent.{posted_ruled}
-use Rattle.run_downs.specs.Laws.{StopsByRule, asks_to_act}
+use Rattle.run_downs.specs.Laws.{StopsByRule, asks_to_acknowledge, asks_to_act}
 
 not_so : false ≡ true → ⊥
 not_so h = cc
@@ -65,6 +66,10 @@ proposed_line S n t _ ms h said rule = tt
 told_proposes : (n : ℕ) (t : Bool) (e : Entry) (ms : List Moment) → IsProposedLine n t e → (t ≡ true → proposes n ms ≡ true) → told_by t e ≡ true → proposes n (Told e ∷ ms) ≡ true
 told_proposes n t (entry.Update (update.Proposed e v words)) ms h said so = first_true (coordinator e == n) (proposes n ms) (same_number (coordinator e) n h)
 told_proposes n t _ ms h said so = said so
+
+second_true : (a b : Bool) → b ≡ true → (a || b) ≡ true
+second_true true b h = refl
+second_true false b h = h
 
 -- what is sent leaves what was told in the event
 abbrev SameEvent : ℕ → List Moment → List Moment → Type 0
@@ -120,3 +125,13 @@ acting_saves n l (body.Answer e number text) ms acts h = h
 acting_saves n l (body.Order o) ms acts h = h
 acting_saves n l (body.Done e number ended) ms acts h = h
 acting_saves n l _ ms acts h = absurd (not_so acts)
+
+-- at a Prepared: a member with an update pending, or behind a proposal
+pub acknowledging_saves : (n : ℕ) (l : Letter) (b : Body) (ms : List Moment) → asks_to_acknowledge (named (name_of b)) ≡ true → proposes n ms ≡ true → saves_at n l (named (name_of b)) ms ≡ true
+acknowledging_saves n l (body.Prepared e place) ms acks h = second_true (is_some (member_of n ms) && has_pending n ms) (proposes n ms) h
+acknowledging_saves n l _ ms acks h = absurd (not_so acks)
+
+pub pending_saves : (n : ℕ) (l : Letter) (b : Body) (ms : List Moment) → asks_to_acknowledge (named (name_of b)) ≡ true → (is_some (member_of n ms) && has_pending n ms) ≡ true
+    → saves_at n l (named (name_of b)) ms ≡ true
+pending_saves n l (body.Prepared e place) ms acks h = first_true (is_some (member_of n ms) && has_pending n ms) (proposes n ms) h
+pending_saves n l _ ms acks h = absurd (not_so acks)

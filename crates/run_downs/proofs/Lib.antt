@@ -12,6 +12,7 @@ pub mod Promised
 pub mod Proposing
 pub mod Calm
 pub mod Proposed
+pub mod Prepared
 pub mod Silent
 pub mod Acting
 pub mod Ruled

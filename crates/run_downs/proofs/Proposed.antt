@@ -56,12 +56,12 @@ use Rattle.run_downs.proofs.Proposing.{IsNoMake, SavesProposed}
 
 -- ---- small steps
 
-abbrev IsNoStopCause : DownCause → Type 0
+abbrev pub IsNoStopCause : DownCause → Type 0
 IsNoStopCause cause.Stopped = ⊥
 IsNoStopCause _ = Unit {0}
 
 -- each save, done or lost, is that of a proposal or comes behind one
-abbrev AllProposed : Bool → List Doing → Type 0
+abbrev pub AllProposed : Bool → List Doing → Type 0
 AllProposed told [] = Unit {0}
 AllProposed told (Does a ∷ ds) = IsNoMake a × AllProposed told ds
 AllProposed told (Saves (Proposes s p text) ∷ ds) = AllProposed true ds
@@ -80,7 +80,7 @@ own_fall : (why : DownCause) → IsOwnFall why → IsNoStopCause why
 own_fall cause.Stopped h = absurd h
 own_fall _ h = tt
 
-under_proposed : (t : Bool) (replies : List Reply) (k : Course) → SavesProposed t k → GoesFine true k → AllProposed t (under replies k)
+pub under_proposed : (t : Bool) (replies : List Reply) (k : Course) → SavesProposed t k → GoesFine true k → AllProposed t (under replies k)
 under_proposed t replies Stops h fine = tt
 under_proposed t replies (Acts a rest) h fine = (h.0, under_proposed t replies rest h.1 fine.1)
 under_proposed t [] (Keeps (Proposes s p text) rest) h fine = tt
@@ -172,7 +172,7 @@ one_output c M n told x (Forgets _ why) ds t more tied may small h rest = absurd
 one_output c M n told x (Goes_down why) ds t more tied may small h rest = gone_otherwise n t why more h.0 (rest t h.1)
 one_output c M n told x Comes_up ds t more tied may small h rest = (tt, rest t h)
 
-all_outputs : (c : Cluster) (M : Memberships) (n : ℕ) (told : Delivered) (x : Site) (ds : List Doing) (t : Bool) → All IsDevice c.attached → Holds (setting_of c) M → Known M told
+pub all_outputs : (c : Cluster) (M : Memberships) (n : ℕ) (told : Delivered) (x : Site) (ds : List Doing) (t : Bool) → All IsDevice c.attached → Holds (setting_of c) M → Known M told
     → SiteTied c M n x → MayAll c n told x ds → AllSmall ds → AllProposed t ds → AreProposed n t (given_all c n x ds)
 all_outputs c M n told x [] t fits holds known tied may small h = tt
 all_outputs c M n told x (d ∷ ds) t fits holds known tied may small h =

@@ -69,7 +69,7 @@ SavesProposed told (Keeps (Acks s p q left text) rest) = (told ≡ true) × Save
 SavesProposed told (Keeps _ rest) = ⊥
 SavesProposed told (Falls why) = Unit {0}
 
-any_p : (t : Bool) (c : Cluster) (me : ℕ) (x : UpNode) (k : Course) (next : UpNode → Course) → SavesProposed t k → ((y : UpNode) (u : Bool) → SavesProposed u (next y)) → SavesProposed t (joined c me x k next)
+pub any_p : (t : Bool) (c : Cluster) (me : ℕ) (x : UpNode) (k : Course) (next : UpNode → Course) → SavesProposed t k → ((y : UpNode) (u : Bool) → SavesProposed u (next y)) → SavesProposed t (joined c me x k next)
 any_p t c me x Stops next h f = f x t
 any_p t c me x (Acts a rest) next h f = (h.0, any_p t c me (acted c me x a) rest next h.1 f)
 any_p t c me x (Keeps (Proposes s p text) rest) next h f = any_p true c me (changed c me x (Proposes s p text)) rest next h f
@@ -81,7 +81,7 @@ deciding_by_p : (t : Bool) (c : Cluster) (me : ℕ) (x : UpNode) (o : Option Pre
 deciding_by_p t c me x None = tt
 deciding_by_p t c me x (Some p) = if_either (SavesProposed t) (may_order p.groups) _ Stops (tt, (tt, tt)) tt
 
-deciding_p : (t : Bool) (c : Cluster) (me : ℕ) (x : UpNode) → SavesProposed t (deciding_course c me x)
+pub deciding_p : (t : Bool) (c : Cluster) (me : ℕ) (x : UpNode) → SavesProposed t (deciding_course c me x)
 deciding_p t c me x = deciding_by_p t c me x x.presidency
 
 -- Requests at their president.
@@ -133,7 +133,7 @@ turns_p : (t : Bool) (c : Cluster) (me : ℕ) (x : UpNode) (k : ℕ) → SavesPr
 turns_p t c me x zero = tt
 turns_p t c me x (suc k) = any_p t c me x (turns_course c me x k) (one_turn_course c me) (turns_p t c me x k) (λ y u. turn_by_p u c me y y.presidency)
 
-handling_p : (t : Bool) (c : Cluster) (me : ℕ) (x : UpNode) → SavesProposed t (handling_course c me x)
+pub handling_p : (t : Bool) (c : Cluster) (me : ℕ) (x : UpNode) → SavesProposed t (handling_course c me x)
 handling_p t c me x = turns_p t c me x (requests_of x x.presidency)
 
 kept_again_p : (t : Bool) (x : UpNode) (from : ℕ) (o : Option Kept) → SavesProposed t (cuts.kept_again_course x from o)

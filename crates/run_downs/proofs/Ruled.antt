@@ -1,5 +1,6 @@
 -- In each run a node stops in a boot, or at a Start, a Prepare or a Commit, only where the rules let it save there.
-use Rattle.std.specs.Prelude.{ℕ, ◌-◌, ◌<◌, ◌==◌, ◌≡◌, ◌≤◌, ◌^◌, Bool, true, false, List, [], ◌∷◌, Option, None, Some, Ok, length, slice_get, ◌&&◌, ◌||◌, All}
+use Rattle.std.specs.Prelude.{ℕ, ◌-◌, ◌<◌, ◌==◌, ◌≡◌, ◌≤◌, ◌^◌, Bool, true, false, List, [], ◌∷◌, Option, None, Some, Ok, length, slice_get, ◌&&◌, ◌||◌, All, is_some}
+use Rattle.std.specs.List.{AllByRecursion}
 use Rattle.std.proofs.Common.{refl, sym, ap, subst, ◌∙◌, arith, inl, inr}
 use Rattle.cl_base.specs.declared.header.Header.{Header}
 use Rattle.cl_base.specs.declared.method.Outcome as method
@@ -10,7 +11,9 @@ use Rattle.history.specs.Letters.{Letter, arrived, says}
 use Rattle.history.specs.Moment.{Moment, Said, Told}
 use Rattle.history.specs.Names.{named}
 use Rattle.history.specs.Order.{Always, under_way}
-use Rattle.history.specs.Saves.{may_save, promise_of, proposes, saves_at, saves_in}
+use Rattle.history.specs.Member.{member_of}
+use Rattle.history.specs.Records.{record_of}
+use Rattle.history.specs.Saves.{has_pending, may_save, promise_of, proposes, saves_at, saves_in}
 use Rattle.history.specs.Setting.{Setting}
 use Rattle.interconnect.specs.Links as net
 use Rattle.interconnect.specs.Links.{Packet, sending}
@@ -62,7 +65,7 @@ use Rattle.run_history.specs.Happenings.{Arrives, Begins, Commands, Happening, I
 use Rattle.run_history.specs.Scenes.{Scene, adding, first_scene, passing, telling, with_links}
 use Rattle.run_history.proofs.LineSteps.{commands_are_told}
 use Rattle.run_history.proofs.MemberRuns.{first_fit}
-use Rattle.run_messages.specs.Laws.{AreSeated, IsSeated}
+use Rattle.run_messages.specs.Laws.{AreSeated, IsSeated, membership_in}
 use Rattle.run_messages.proofs.Reaching.{IsReached, holds_of_each}
 use Rattle.run_messages.proofs.Runs.{memberships_of_each_run}
 use Rattle.run_records.specs.Kept.{Came, KnownScene}
@@ -72,14 +75,15 @@ use Rattle.run_records.specs.Sound.{LetterSound}
 use Rattle.run_records.proofs.Letters.{letter_sound}
 use Rattle.run_downs.proofs.Promised.{PromisesHold, collect_number, known_at, run_promises}
 use Rattle.run_downs.proofs.Rules.{NoStops, StopsIf, none_stops}
-use Rattle.run_downs.proofs.Acting.{IsRule, acting_saves, message_proposes, proposed_ruled}
-use Rattle.run_downs.proofs.Packets.{no_packets}
+use Rattle.run_downs.proofs.Prepared.{AtOnceOr, Pends, step_first}
+use Rattle.run_downs.proofs.Acting.{IsRule, acknowledging_saves, acting_saves, message_proposes, pending_saves, proposed_ruled}
+use Rattle.run_downs.proofs.Packets.{IsNoPacket, no_packets}
 use Rattle.run_downs.proofs.Proposed.{step_proposed}
 use Rattle.run_downs.proofs.Proposing.{command_p, report_p}
 use Rattle.run_downs.proofs.Steps.{client_fine, command_fine, packet_fine, report_fine}
 use Rattle.run_downs.proofs.Silent.{IsOther, dropped_ruled, none_ruled, other_ruled, silent_ruled}
-use Rattle.run_downs.proofs.Updates.{AskedSo, IsDelivering, SavesAt, letter_saves, may_save_so, message_stops}
-use Rattle.run_downs.specs.Laws.{SettledStopsOfEachRun, StopsByRule, asks_to_act, is_settled, is_settled_by, is_settled_name, saves_at_once}
+use Rattle.run_downs.proofs.Updates.{AskedSo, IsDelivering, SavesAt, both_so, letter_saves, may_save_so, message_stops, pending_so}
+use Rattle.run_downs.specs.Laws.{SettledStopsOfEachRun, StopsByRule, asks_to_acknowledge, asks_to_act, is_settled, is_settled_by, is_settled_name, saves_at_once}
 
 not_so : false ≡ true → ⊥
 not_so h = cc
@@ -187,26 +191,39 @@ forming_disk c M n disk x seat same tied s at = (subst (λ z. SeatTied c M n dis
 sitting_disk : (c : Cluster) (M : Memberships) (n : ℕ) (disk : NodeRecord) (x : UpNode) (seat : Seat) → seat ≡ x.seat → NodeTied c M n disk (Up x) → (s : NodeState) → seat ≡ Member s → disk ≡ s.saved
 sitting_disk c M n disk x seat same tied s at = (subst (λ z. SeatTied c M n disk x.attempt z) (sym same ∙ at) tied.0).1
 
-neither : (a b : Bool) → a ≡ false → b ≡ false → (a || b) ≡ false
-neither false b h k = k
-neither true b h k = cc
+none_of : (a b d : Bool) → a ≡ false → b ≡ false → d ≡ false → (a || (b || d)) ≡ false
+none_of false false d h k l = l
+none_of true b d h k l = cc
+none_of false true d h k l = cc
+
+-- a member has its update pending, by its lines
+pends_so : (c : Cluster) (M : Memberships) (n : ℕ) (disk : NodeRecord) (x : UpNode) (ms : List Moment) → NodeTied c M n disk (Up x) → IsSeated ms n (Up x) → RecordIn ms n disk → Pends x
+    → (is_some (member_of n ms) && has_pending n ms) ≡ true
+pends_so c M n disk x ms tied seated record_so q =
+    both_so (is_some (member_of n ms)) (has_pending n ms) (ap (λ (o : Option ℕ). is_some o) (seated ∙ ap membership_in q.1))
+    (pending_so disk (record_of n ms) record_so (ap (λ (r : NodeRecord). is_some r.entries.pending) (sitting_disk c M n disk x x.seat refl tied q.0 q.1) ∙ q.2))
+
+once_ruled : (S : Setting) (n : ℕ) (Q : Type 0) (e : Option Event) (a : Option Letter) (os : List Output) (s : Scene) → AtOnceOr Q n os → AllByRecursion IsNoPacket os → IsRule S n e a → (Q → may_save S n s.moments ≡ true)
+    → under_way s.moments ≡ e → arrived s.moments ≡ a → Always (StopsByRule S) s.moments → Always (StopsByRule S) (passing n os s).moments
+once_ruled S n Q e a os s (inl h) packets rule first is here so = subst (λ z. Always (StopsByRule S) (passing n z s).moments) (sym h.1) ((λ settled. first h.0), so)
+once_ruled S n Q e a os s (inr h) packets rule first is here so = proposed_ruled S n e a false os s h packets rule (λ never. absurd (not_so never)) is here so
 
 message_ruled : (S : Setting) (c : Cluster) (M : Memberships) (n now : ℕ) (ends : method.Outcome) (from : ℕ) (m : Message) (node : Node) (disk : DiskState) (s : Scene) → NodeTied c M n disk.kept node
     → IsSeated s.moments n node → RecordIn s.moments n disk.kept → IsDelivering (under_way s.moments) → (came : Came s.moments n from m.body)
     → AskedSo came.letter m.body → promise_of n s.moments ≤ disk.kept.promised → n ≤ 32 → All IsDevice c.attached → Holds (setting_of c) M → IsTrue M (input.Packet from m)
-    → Stands c M n node disk.kept → (b d : Bool) → saves_at_once (named (name_of m.body)) ≡ b → asks_to_act (named (name_of m.body)) ≡ d
+    → Stands c M n node disk.kept → (b d g : Bool) → saves_at_once (named (name_of m.body)) ≡ b → asks_to_act (named (name_of m.body)) ≡ d → asks_to_acknowledge (named (name_of m.body)) ≡ g
     → Always (StopsByRule S) s.moments → Always (StopsByRule S) (passing n (stepped disk_rules c n now ends node disk (input.Packet from m)).given s).moments
-message_ruled S c M n now ends from m node disk s tied seated record_so is came asked low few fits holds told stands false false kind acts so =
+message_ruled S c M n now ends from m node disk s tied seated record_so is came asked low few fits holds told stands false false false kind acts acks so =
     silent_ruled S n (stepped disk_rules c n now ends node disk (input.Packet from m)).given s
     (packet_quiet n node from m _ (commands_are_told c n now ends node disk (input.Packet from m)))
-    (ap (λ a. is_settled (under_way s.moments) a) came.here ∙ other_kind (under_way s.moments) came.letter is (ap is_settled_name came.called ∙ neither (saves_at_once (named (name_of m.body))) (asks_to_act (named (name_of m.body))) kind acts)) so
-message_ruled S c M n now ends from m Down disk s tied seated record_so is came asked low few fits holds told stands b d kind acts so = so
-message_ruled S c M n now ends from m (Up x) disk s tied seated record_so is came asked low few fits holds told stands true d kind acts so =
+    (ap (λ a. is_settled (under_way s.moments) a) came.here ∙ other_kind (under_way s.moments) came.letter is (ap is_settled_name came.called ∙ none_of (saves_at_once (named (name_of m.body))) (asks_to_act (named (name_of m.body))) (asks_to_acknowledge (named (name_of m.body))) kind acts acks)) so
+message_ruled S c M n now ends from m Down disk s tied seated record_so is came asked low few fits holds told stands b d g kind acts acks so = so
+message_ruled S c M n now ends from m (Up x) disk s tied seated record_so is came asked low few fits holds told stands true d g kind acts acks so =
     stops_ruled S n (SavesAt m.body x.seat) (stepped disk_rules c n now ends (Up x) disk (input.Packet from m)).given s
     (subst (λ (o : Outcome DiskState). StopsIf (SavesAt m.body x.seat) n o.given) (sym ((step_of_node_is_its_course saving c n now ends x (input.Packet from m)).is [] disk)) (message_stops c n now ends x from m kind disk))
     (may_save_so S n came.letter m.body x.seat disk.kept s.moments is came.here came.receiver came.called asked low seated record_so (forming_disk c M n disk.kept x x.seat refl tied)
     (sitting_disk c M n disk.kept x x.seat refl tied)) so
-message_ruled S c M n now ends from m (Up x) disk s tied seated record_so is came asked low few fits holds told stands false true kind acts so =
+message_ruled S c M n now ends from m (Up x) disk s tied seated record_so is came asked low few fits holds told stands false true g kind acts acks so =
     let i : Input = input.Packet from m in
     let l : Letter = came.letter in
     proposed_ruled S n (under_way s.moments) (Some l) false (stepped disk_rules c n now ends (Up x) disk i).given s
@@ -214,6 +231,15 @@ message_ruled S c M n now ends from m (Up x) disk s tied seated record_so is cam
     (λ ms same here h. subst (λ z. saves_in S n z ms ≡ true) (sym same)
     (letter_saves S n (under_way s.moments) l ms is here came.receiver (subst (λ a. saves_at n l a ms ≡ true) (sym came.called) (acting_saves n l m.body ms acts h))))
     (λ never. absurd (not_so never)) refl came.here so
+message_ruled S c M n now ends from m (Up x) disk s tied seated record_so is came asked low few fits holds told stands false false true kind acts acks so =
+    let i : Input = input.Packet from m in
+    let l : Letter = came.letter in
+    once_ruled S n (Pends x) (under_way s.moments) (Some l) (stepped disk_rules c n now ends (Up x) disk i).given s
+    (step_first c M n now ends from m x disk few fits holds told stands acks (packet_fine c n now ends x from m)) (no_packets c n now ends (Up x) disk i)
+    (λ ms same here h. subst (λ z. saves_in S n z ms ≡ true) (sym same)
+    (letter_saves S n (under_way s.moments) l ms is here came.receiver (subst (λ a. saves_at n l a ms ≡ true) (sym came.called) (acknowledging_saves n l m.body ms acks h))))
+    (λ q. letter_saves S n (under_way s.moments) l s.moments is came.here came.receiver
+    (subst (λ a. saves_at n l a s.moments ≡ true) (sym came.called) (pending_saves n l m.body s.moments acks (pends_so c M n disk.kept x s.moments tied seated record_so q)))) refl came.here so
 
 -- ---- each thing that happens
 
@@ -254,7 +280,7 @@ happening_ruled S c s (Arrives number x m now ends) fits may k h =
     (k.known.stage.stands x.to).tied (k.seated x.to) (k.known.at x.to).record_so (delivering s.links.packets number (under_way s.moments) may.6) came
     (asked_so k.known.stage.machine came.letter m.body (letter_sound k.known.stage.machine number s.moments came.letter k.known.sound came.here) came.read) (k.promises x.to)
     may.3.1 fits k.known.stage.holds (true_of k.known.stage.machine x.from m.body s.nodes.sent may.4 k.known.stage.sent) (k.known.stage.stands x.to)
-    (saves_at_once (named (name_of m.body))) (asks_to_act (named (name_of m.body))) refl refl (tt, h)
+    (saves_at_once (named (name_of m.body))) (asks_to_act (named (name_of m.body))) (asks_to_acknowledge (named (name_of m.body))) refl refl refl (tt, h)
 happening_ruled S c s (Strays number x) fits may k h = (tt, h)
 happening_ruled S c s (Misses number x) fits may k h = (tt, h)
 happening_ruled S c s (Loses number x) fits may k h = (tt, h)

@@ -162,11 +162,11 @@ message_stops c n now ends x from m told =
 
 -- ---- the lines
 
-pending_so : (disk : NodeRecord) (o : Option history.NodeRecord) → IfSome o (λ r. r ≡ shown disk) → is_some disk.entries.pending ≡ true → may_be_pending o ≡ true
+pub pending_so : (disk : NodeRecord) (o : Option history.NodeRecord) → IfSome o (λ r. r ≡ shown disk) → is_some disk.entries.pending ≡ true → may_be_pending o ≡ true
 pending_so disk None h some = refl
 pending_so disk (Some r) h some = ap (λ (z : history.NodeRecord). z.pending) h ∙ some
 
-both_so : (a b : Bool) → a ≡ true → b ≡ true → (a && b) ≡ true
+pub both_so : (a b : Bool) → a ≡ true → b ≡ true → (a && b) ≡ true
 both_so true true h k = refl
 both_so false b h k = cc
 both_so true false h k = cc

@@ -90,11 +90,16 @@ asks_to_act (name.Order number) = true
 asks_to_act (name.Done number) = true
 asks_to_act _ = false
 
+-- a message at which a node acknowledges what is pending, and saves what it proposes
+abbrev pub asks_to_acknowledge : Name → Bool
+asks_to_acknowledge (name.Prepared v) = true
+asks_to_acknowledge _ = false
+
 abbrev pub saves_at_once : Name → Bool
 saves_at_once called = tells_update called || (asks_no_save called || asks_promise called)
 
 abbrev pub is_settled_name : Name → Bool
-is_settled_name called = saves_at_once called || asks_to_act called
+is_settled_name called = saves_at_once called || (asks_to_act called || asks_to_acknowledge called)
 
 abbrev pub is_settled_by : Letter → Bool
 is_settled_by l = is_settled_name l.name
