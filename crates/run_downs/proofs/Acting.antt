@@ -1,7 +1,7 @@
 -- At a command, a probe, a request, an answer, an order or a Done a node stops only behind a proposal of its own in the event.
 use Rattle.std.specs.Prelude.{ℕ, ◌==◌, ◌≡◌, ◌&&◌, ◌||◌, Bool, true, false, List, [], ◌∷◌, Option, None, Some, is_some}
 use Rattle.std.specs.List.{AllByRecursion}
-use Rattle.std.proofs.Common.{refl, sym, subst, ◌∙◌, arith}
+use Rattle.std.proofs.Common.{refl, sym, subst, ◌∙◌, arith, inl, inr}
 use Rattle.cl_base.specs.declared.method.Outcome as method
 use Rattle.cl_base.specs.declared.packet.DropCause.{DropCause}
 use Rattle.cmm_attempt.proofs.Basics.{if_either}
@@ -10,7 +10,7 @@ use Rattle.history.specs.Moment.{Moment, Told}
 use Rattle.history.specs.Names.{named}
 use Rattle.history.specs.Order.{Always, under_way}
 use Rattle.history.specs.Member.{member_of}
-use Rattle.history.specs.Saves.{has_pending, may_save, proposes, saves_at}
+use Rattle.history.specs.Saves.{has_pending, may_save, proposes, saves_at, saves_in}
 use Rattle.history.specs.Setting.{Setting, coordinator}
 use Rattle.interconnect.specs.Links as net
 use Rattle.interconnect.specs.Links.{sending}
@@ -40,6 +40,7 @@ use Rattle.answer_words.specs.Answers.{answer_in}
 use Rattle.world_model.specs.Sends.{is_sent, name_of}
 use Rattle.run_history.specs.Scenes.{Scene, dropped_so, passing, posting, sent_as, telling, with_links}
 use Rattle.run_downs.proofs.Packets.{IsNoPacket, told_came}
+use Rattle.run_downs.proofs.Prepared.{AtOnceOr}
 use Rattle.run_downs.proofs.Proposed.{AreProposed, IsProposedLine, told_by}
 use Rattle.run_downs.proofs.Proposing.{SavesProposed, asked_p, done_p, order_p, reply_p}
 use Rattle.run_downs.proofs.Silent.{posted_ruled}
@@ -99,6 +100,16 @@ proposed_ruled S n e a t (Sends to b ∷ os) s h packets rule said is here so =
     let m : Message = record { sender = n; body = b } in
     let k : SameEvent n s.moments (posting n to m s).moments = posted_event n n to m s in
     proposed_ruled S n e a t os (posting n to m s) h packets.1 rule (λ y. k.0 ∙ said y) (k.1 ∙ is) (k.2 ∙ here) (posted_ruled S n to m s so)
+
+-- it stops alone, where Q, or behind a proposal
+pub once_ruled : (S : Setting) (n : ℕ) (Q : Type 0) (e : Option Event) (a : Option Letter) (os : List Output) (s : Scene) → AtOnceOr Q n os → AllByRecursion IsNoPacket os → IsRule S n e a → (Q → may_save S n s.moments ≡ true)
+    → under_way s.moments ≡ e → arrived s.moments ≡ a → Always (StopsByRule S) s.moments → Always (StopsByRule S) (passing n os s).moments
+once_ruled S n Q e a os s (inl h) packets rule first is here so = subst (λ z. Always (StopsByRule S) (passing n z s).moments) (sym h.1) ((λ settled. first h.0), so)
+once_ruled S n Q e a os s (inr h) packets rule first is here so = proposed_ruled S n e a false os s h packets rule (λ never. absurd (not_so never)) is here so
+
+-- at a command and a probe: behind a proposal
+pub acting_rule : (S : Setting) (n : ℕ) (e : Event) (a : Option Letter) → ((ms : List Moment) → proposes n ms ≡ true → saves_in S n (Some e) ms ≡ true) → IsRule S n (Some e) a
+acting_rule S n e a rule ms is here h = subst (λ z. saves_in S n z ms ≡ true) (sym is) (rule ms h)
 
 -- ---- the messages
 

@@ -1,6 +1,5 @@
 -- In each run a node stops in a boot, or at a Start, a Prepare or a Commit, only where the rules let it save there.
 use Rattle.std.specs.Prelude.{ℕ, ◌-◌, ◌<◌, ◌==◌, ◌≡◌, ◌≤◌, ◌^◌, Bool, true, false, List, [], ◌∷◌, Option, None, Some, Ok, length, slice_get, ◌&&◌, ◌||◌, All, is_some}
-use Rattle.std.specs.List.{AllByRecursion}
 use Rattle.std.proofs.Common.{refl, sym, ap, subst, ◌∙◌, arith, inl, inr}
 use Rattle.cl_base.specs.declared.header.Header.{Header}
 use Rattle.cl_base.specs.declared.method.Outcome as method
@@ -75,9 +74,9 @@ use Rattle.run_records.specs.Sound.{LetterSound}
 use Rattle.run_records.proofs.Letters.{letter_sound}
 use Rattle.run_downs.proofs.Promised.{PromisesHold, collect_number, known_at, run_promises}
 use Rattle.run_downs.proofs.Rules.{NoStops, StopsIf, none_stops}
-use Rattle.run_downs.proofs.Prepared.{AtOnceOr, Pends, step_first}
-use Rattle.run_downs.proofs.Acting.{IsRule, acknowledging_saves, acting_saves, message_proposes, pending_saves, proposed_ruled}
-use Rattle.run_downs.proofs.Packets.{IsNoPacket, no_packets}
+use Rattle.run_downs.proofs.Prepared.{Pends, step_first}
+use Rattle.run_downs.proofs.Acting.{acknowledging_saves, acting_rule, acting_saves, message_proposes, once_ruled, pending_saves, proposed_ruled}
+use Rattle.run_downs.proofs.Packets.{no_packets}
 use Rattle.run_downs.proofs.Proposed.{step_proposed}
 use Rattle.run_downs.proofs.Proposing.{command_p, report_p}
 use Rattle.run_downs.proofs.Steps.{client_fine, command_fine, packet_fine, report_fine}
@@ -131,10 +130,6 @@ write_stops c n now ends (Up x) disk d value _ = (tt, (tt, tt))
 
 other_by : (ms : List Moment) (e : Event) → under_way ms ≡ Some e → ((a : Option Letter) → is_settled (Some e) a ≡ false) → IsOther ms
 other_by ms e is h a = ap (λ o. is_settled o a) is ∙ h a
-
--- at a command and a probe: behind a proposal
-acting_rule : (S : Setting) (n : ℕ) (e : Event) (a : Option Letter) → ((ms : List Moment) → proposes n ms ≡ true → saves_in S n (Some e) ms ≡ true) → IsRule S n (Some e) a
-acting_rule S n e a rule ms is here h = subst (λ z. saves_in S n z ms ≡ true) (sym is) (rule ms h)
 
 with_own : (n : ℕ) (b : Bool) → b ≡ true → ((n == n) && b) ≡ true
 with_own n b h = both_true (n == n) b (same_number n) h
@@ -202,11 +197,6 @@ pends_so : (c : Cluster) (M : Memberships) (n : ℕ) (disk : NodeRecord) (x : Up
 pends_so c M n disk x ms tied seated record_so q =
     both_so (is_some (member_of n ms)) (has_pending n ms) (ap (λ (o : Option ℕ). is_some o) (seated ∙ ap membership_in q.1))
     (pending_so disk (record_of n ms) record_so (ap (λ (r : NodeRecord). is_some r.entries.pending) (sitting_disk c M n disk x x.seat refl tied q.0 q.1) ∙ q.2))
-
-once_ruled : (S : Setting) (n : ℕ) (Q : Type 0) (e : Option Event) (a : Option Letter) (os : List Output) (s : Scene) → AtOnceOr Q n os → AllByRecursion IsNoPacket os → IsRule S n e a → (Q → may_save S n s.moments ≡ true)
-    → under_way s.moments ≡ e → arrived s.moments ≡ a → Always (StopsByRule S) s.moments → Always (StopsByRule S) (passing n os s).moments
-once_ruled S n Q e a os s (inl h) packets rule first is here so = subst (λ z. Always (StopsByRule S) (passing n z s).moments) (sym h.1) ((λ settled. first h.0), so)
-once_ruled S n Q e a os s (inr h) packets rule first is here so = proposed_ruled S n e a false os s h packets rule (λ never. absurd (not_so never)) is here so
 
 message_ruled : (S : Setting) (c : Cluster) (M : Memberships) (n now : ℕ) (ends : method.Outcome) (from : ℕ) (m : Message) (node : Node) (disk : DiskState) (s : Scene) → NodeTied c M n disk.kept node
     → IsSeated s.moments n node → RecordIn s.moments n disk.kept → IsDelivering (under_way s.moments) → (came : Came s.moments n from m.body)
