@@ -9,4 +9,10 @@ pub mod Packets
 pub mod Promises
 pub mod Collects
 pub mod Promised
+pub mod Proposing
+pub mod Calm
+pub mod Proposed
+pub mod Prepared
+pub mod Silent
+pub mod Acting
 pub mod Ruled

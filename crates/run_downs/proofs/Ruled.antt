@@ -1,20 +1,22 @@
 -- In each run a node stops in a boot, or at a Start, a Prepare or a Commit, only where the rules let it save there.
-use Rattle.std.specs.Prelude.{ℕ, ◌-◌, ◌<◌, ◌==◌, ◌≡◌, ◌≤◌, ◌^◌, Bool, true, false, List, [], ◌∷◌, Option, None, Some, Ok, length, slice_get}
+use Rattle.std.specs.Prelude.{ℕ, ◌-◌, ◌<◌, ◌==◌, ◌≡◌, ◌≤◌, ◌^◌, Bool, true, false, List, [], ◌∷◌, Option, None, Some, Ok, length, slice_get, ◌&&◌, ◌||◌, All, is_some}
 use Rattle.std.proofs.Common.{refl, sym, ap, subst, ◌∙◌, arith, inl, inr}
 use Rattle.cl_base.specs.declared.header.Header.{Header}
 use Rattle.cl_base.specs.declared.method.Outcome as method
-use Rattle.cl_base.specs.declared.packet.DropCause.{DropCause}
-use Rattle.cmm_attempt.proofs.Basics.{if_either}
+use Rattle.cmm_attempt.specs.Calls.{IsDevice}
 use Rattle.cmm_member.specs.Nodes.{NodeState}
 use Rattle.cmm_member.specs.Records.{NodeRecord}
 use Rattle.history.specs.Letters.{Letter, arrived, says}
 use Rattle.history.specs.Moment.{Moment, Said, Told}
 use Rattle.history.specs.Names.{named}
 use Rattle.history.specs.Order.{Always, under_way}
-use Rattle.history.specs.Saves.{may_save, promise_of, saves_in}
+use Rattle.history.specs.Member.{member_of}
+use Rattle.history.specs.Records.{record_of}
+use Rattle.history.specs.Saves.{has_pending, may_save, promise_of, proposes, saves_at, saves_in}
 use Rattle.history.specs.Setting.{Setting}
 use Rattle.interconnect.specs.Links as net
 use Rattle.interconnect.specs.Links.{Packet, sending}
+use Rattle.membership_machine.specs.Invariant.{Holds}
 use Rattle.membership_machine.specs.State.{Memberships}
 use Rattle.node_model.specs.Clusters.{first_valid_of}
 use Rattle.node_model.specs.declared.cluster.Cluster.{Cluster}
@@ -24,10 +26,10 @@ use Rattle.node_model.specs.declared.node.Node.{Node}
 use Rattle.node_model.specs.declared.node.Node.TheVariants.{Down, Up}
 use Rattle.node_model.specs.declared.node.UpNode.{UpNode}
 use Rattle.node_model.specs.declared.output.Output.{Output}
-use Rattle.node_model.specs.declared.output.Output.TheVariants.{Sends, Tells}
+use Rattle.node_model.specs.declared.output.Output.TheVariants.{Tells}
 use Rattle.node_model.specs.declared.seat.Seat.{Seat}
 use Rattle.node_model.specs.declared.seat.Seat.TheVariants.{Forming, Member}
-use Rattle.node_model.specs.Steps.{Outcome, booted_with, stepped}
+use Rattle.node_model.specs.Steps.{Outcome, at_second, booted_with, stepped}
 use Rattle.pgr_device.specs.Device.{Device}
 use Rattle.pgr_device.specs.declared.command.PrAnswer.TheVariants as given
 use Rattle.pgr_device.specs.declared.command.PrCommand.{PrCommand}
@@ -39,29 +41,30 @@ use Rattle.refinement.specs.Cuts.{course_at}
 use Rattle.refinement.specs.Runs.{moved}
 use Rattle.refinement.specs.Runs.Move.{Takes as Takes_in}
 use Rattle.refinement.specs.Steps.{disk_rules}
-use Rattle.refinement.specs.Ties.{NodeTied, SeatTied}
+use Rattle.refinement.specs.Ties.{NodeTied, SeatTied, setting_of}
+use Rattle.refinement.specs.Whole.{IsTrue, Stands}
+use Rattle.refinement.proofs.EveryRun.{true_of}
 use Rattle.refinement.proofs.Cuts.{step_of_node_is_its_course}
 use Rattle.schedule_text.specs.declared.event.Event.{Event}
 use Rattle.schedule_text.specs.declared.event.Event.TheVariants as event
 use Rattle.schedule_text.specs.declared.line.Line.TheVariants as line
 use Rattle.seize.specs.Answers.{Answer}
-use Rattle.status_report.specs.declared.entry.Entry.{Entry}
 use Rattle.status_report.specs.declared.entry.Entry.TheVariants as entry
 use Rattle.status_report.specs.declared.node_entry.DownCause.TheVariants as cause
 use Rattle.status_report.specs.declared.node_entry.NodeEntry.TheVariants as note
 use Rattle.status_report.specs.declared.packet_entry.PacketEntry.TheVariants as packet
-use Rattle.wire.specs.Spelling.{spelling}
 use Rattle.wire.specs.declared.message.Body.{Body}
 use Rattle.wire.specs.declared.message.Body.TheVariants as body
 use Rattle.wire.specs.declared.message.Message.{Message}
 use Rattle.world_model.specs.First.{first_cluster}
-use Rattle.world_model.specs.Sends.{is_sent, name_of}
+use Rattle.world_model.specs.Sends.{name_of}
 use Rattle.run_history.specs.Bringing.{IsBrought, IsDelivery}
-use Rattle.run_history.specs.CommandLines.{AllQuiet, IsQuiet, NodeTells}
+use Rattle.run_history.specs.CommandLines.{AllQuiet, NodeTells}
 use Rattle.run_history.specs.Happenings.{Arrives, Begins, Commands, Happening, IsPlain, Loses, MayHappen, Misses, Notes, Refuses, Repeats, Speaks, Strays, Takes, Writes, armed_by, commanded, commanded_at, given_by, happened, removed}
-use Rattle.run_history.specs.Scenes.{Scene, adding, dropped_so, first_scene, passing, posting, sent_as, telling, with_links}
+use Rattle.run_history.specs.Scenes.{Scene, adding, first_scene, passing, telling, with_links}
 use Rattle.run_history.proofs.LineSteps.{commands_are_told}
-use Rattle.run_messages.specs.Laws.{AreSeated, IsSeated}
+use Rattle.run_history.proofs.MemberRuns.{first_fit}
+use Rattle.run_messages.specs.Laws.{AreSeated, IsSeated, membership_in}
 use Rattle.run_messages.proofs.Reaching.{IsReached, holds_of_each}
 use Rattle.run_messages.proofs.Runs.{memberships_of_each_run}
 use Rattle.run_records.specs.Kept.{Came, KnownScene}
@@ -71,104 +74,18 @@ use Rattle.run_records.specs.Sound.{LetterSound}
 use Rattle.run_records.proofs.Letters.{letter_sound}
 use Rattle.run_downs.proofs.Promised.{PromisesHold, collect_number, known_at, run_promises}
 use Rattle.run_downs.proofs.Rules.{NoStops, StopsIf, none_stops}
-use Rattle.run_downs.proofs.Steps.{client_fine}
-use Rattle.run_downs.proofs.Updates.{AskedSo, IsDelivering, SavesAt, may_save_so, message_stops}
-use Rattle.run_downs.specs.Laws.{SettledStopsOfEachRun, StopsByRule, is_settled, is_settled_by, is_settled_name}
+use Rattle.run_downs.proofs.Prepared.{Pends, step_first}
+use Rattle.run_downs.proofs.Acting.{acknowledging_saves, acting_rule, acting_saves, message_proposes, once_ruled, pending_saves, proposed_ruled}
+use Rattle.run_downs.proofs.Packets.{no_packets}
+use Rattle.run_downs.proofs.Proposed.{step_proposed}
+use Rattle.run_downs.proofs.Proposing.{command_p, report_p}
+use Rattle.run_downs.proofs.Steps.{client_fine, command_fine, packet_fine, report_fine}
+use Rattle.run_downs.proofs.Silent.{IsOther, dropped_ruled, none_ruled, other_ruled, silent_ruled}
+use Rattle.run_downs.proofs.Updates.{AskedSo, IsDelivering, SavesAt, both_so, letter_saves, may_save_so, message_stops, pending_so}
+use Rattle.run_downs.specs.Laws.{SettledStopsOfEachRun, StopsByRule, asks_to_acknowledge, asks_to_act, is_settled, is_settled_by, is_settled_name, saves_at_once}
 
 not_so : false ≡ true → ⊥
 not_so h = cc
-
--- ---- a line, and a packet
-
-dropped_ruled : (S : Setting) (o : Option (ℕ × DropCause)) (s : Scene) → Always (StopsByRule S) s.moments → Always (StopsByRule S) (dropped_so o s).moments
-dropped_ruled S None s h = h
-dropped_ruled S (Some x) s h = (tt, h)
-
-posted_ruled : (S : Setting) (from to : ℕ) (m : Message) (s : Scene) → Always (StopsByRule S) s.moments → Always (StopsByRule S) (posting from to m s).moments
-posted_ruled S from to m s h =
-    let o : net.Outcome = sending s.links from to (spelling m) in
-    if_either (λ (z : Scene). Always (StopsByRule S) z.moments) (is_sent s.links m) (sent_as from to m o s) s
-    (dropped_ruled S o.sent.dropped (telling (entry.Packet (packet.Sent s.links.next from to (name_of m.body) (spelling m))) (with_links s o.after)) (tt, h)) h
-
--- ---- outputs without a stop
-
-no_stop_ruled : (S : Setting) (e : Entry) (ms : List Moment) → (let o : Output = Tells e in NoStops (o ∷ [])) → StopsByRule S ms (Told e)
-no_stop_ruled S (entry.Node m (note.Down cause.Stopped)) ms h = absurd h.0
-no_stop_ruled S _ ms h = tt
-
-none_ruled : (S : Setting) (n : ℕ) (os : List Output) (s : Scene) → NoStops os → Always (StopsByRule S) s.moments → Always (StopsByRule S) (passing n os s).moments
-none_ruled S n [] s h so = so
-none_ruled S n (Tells e ∷ os) s h so = none_ruled S n os (telling e s) h.1 (no_stop_ruled S e s.moments (h.0, tt), so)
-none_ruled S n (Sends to b ∷ os) s h so =
-    none_ruled S n os (posting n to (record { sender = n; body = b }) s) h.1 (posted_ruled S n to (record { sender = n; body = b }) s so)
-
--- ---- outputs in an event of another kind
-
--- what is told of packets here is that they were sent or dropped
-told_here : (e : Entry) (ms : List Moment) → IsQuiet e → arrived (Told e ∷ ms) ≡ arrived ms
-told_here (entry.Packet e) ms q = absurd q
-told_here (entry.Answered e) ms q = refl
-told_here entry.Powered ms q = refl
-told_here (entry.Node n e) ms q = refl
-told_here (entry.Device e) ms q = refl
-told_here (entry.Attempt e) ms q = refl
-told_here (entry.Start e) ms q = refl
-told_here (entry.Update e) ms q = refl
-told_here (entry.Schedule e) ms q = refl
-told_here (entry.Command e) ms q = refl
-told_here (entry.Call e) ms q = refl
-told_here (entry.Status e) ms q = refl
-told_here (entry.Address e) ms q = refl
-
--- the rule is silent in this event, whatever else is told in it
-abbrev IsSilent : List Moment → Type 0
-IsSilent ms = is_settled (under_way ms) (arrived ms) ≡ false
-
-silent_line : (S : Setting) (e : Entry) (ms : List Moment) → IsSilent ms → StopsByRule S ms (Told e)
-silent_line S (entry.Node m (note.Down cause.Stopped)) ms silent = λ so. absurd (not_so (sym silent ∙ so))
-silent_line S _ ms silent = tt
-
-silent_told : (e : Entry) (ms : List Moment) → IsQuiet e → IsSilent ms → IsSilent (Told e ∷ ms)
-silent_told e ms q silent = ap (λ a. is_settled (under_way ms) a) (told_here e ms q) ∙ silent
-
-silent_dropped : (o : Option (ℕ × DropCause)) (s : Scene) → IsSilent s.moments → IsSilent (dropped_so o s).moments
-silent_dropped None s h = h
-silent_dropped (Some x) s h = h
-
-silent_posted : (from to : ℕ) (m : Message) (s : Scene) → IsSilent s.moments → IsSilent (posting from to m s).moments
-silent_posted from to m s h =
-    let o : net.Outcome = sending s.links from to (spelling m) in
-    if_either (λ (z : Scene). IsSilent z.moments) (is_sent s.links m) (sent_as from to m o s) s
-    (silent_dropped o.sent.dropped (telling (entry.Packet (packet.Sent s.links.next from to (name_of m.body) (spelling m))) (with_links s o.after)) h) h
-
-silent_ruled : (S : Setting) (n : ℕ) (os : List Output) (s : Scene) → AllQuiet os → IsSilent s.moments → Always (StopsByRule S) s.moments → Always (StopsByRule S) (passing n os s).moments
-silent_ruled S n [] s q silent so = so
-silent_ruled S n (Tells e ∷ os) s q silent so =
-    silent_ruled S n os (telling e s) q.1 (silent_told e s.moments q.0 silent) (silent_line S e s.moments silent, so)
-silent_ruled S n (Sends to b ∷ os) s q silent so =
-    let m : Message = record { sender = n; body = b } in
-    silent_ruled S n os (posting n to m s) q.1 (silent_posted n to m s silent) (posted_ruled S n to m s so)
-
--- an event in which the rule is silent whatever has come
-abbrev IsOther : List Moment → Type 0
-IsOther ms = (a : Option Letter) → is_settled (under_way ms) a ≡ false
-
-other_dropped : (o : Option (ℕ × DropCause)) (s : Scene) → IsOther s.moments → IsOther (dropped_so o s).moments
-other_dropped None s h = h
-other_dropped (Some x) s h = h
-
-other_posted : (from to : ℕ) (m : Message) (s : Scene) → IsOther s.moments → IsOther (posting from to m s).moments
-other_posted from to m s h =
-    let o : net.Outcome = sending s.links from to (spelling m) in
-    if_either (λ (z : Scene). IsOther z.moments) (is_sent s.links m) (sent_as from to m o s) s
-    (other_dropped o.sent.dropped (telling (entry.Packet (packet.Sent s.links.next from to (name_of m.body) (spelling m))) (with_links s o.after)) h) h
-
-other_ruled : (S : Setting) (n : ℕ) (os : List Output) (s : Scene) → IsOther s.moments → Always (StopsByRule S) s.moments → Always (StopsByRule S) (passing n os s).moments
-other_ruled S n [] s other so = so
-other_ruled S n (Tells e ∷ os) s other so = other_ruled S n os (telling e s) other (silent_line S e s.moments (other (arrived s.moments)), so)
-other_ruled S n (Sends to b ∷ os) s other so =
-    let m : Message = record { sender = n; body = b } in
-    other_ruled S n os (posting n to m s) (other_posted n to m s other) (posted_ruled S n to m s so)
 
 -- ---- a boot
 
@@ -214,21 +131,37 @@ write_stops c n now ends (Up x) disk d value _ = (tt, (tt, tt))
 other_by : (ms : List Moment) (e : Event) → under_way ms ≡ Some e → ((a : Option Letter) → is_settled (Some e) a ≡ false) → IsOther ms
 other_by ms e is h a = ap (λ o. is_settled o a) is ∙ h a
 
-plain_ruled : (S : Setting) (c : Cluster) (n now : ℕ) (ends : method.Outcome) (i : Input) (node : Node) (disk : DiskState) (s : Scene) → IsPlain i → IsBrought (under_way s.moments) n i
+with_own : (n : ℕ) (b : Bool) → b ≡ true → ((n == n) && b) ≡ true
+with_own n b h = both_true (n == n) b (same_number n) h
+  where
+    both_true : (a d : Bool) → a ≡ true → d ≡ true → (a && d) ≡ true
+    both_true true d k l = l
+    both_true false d k l = cc
+
+plain_ruled : (S : Setting) (c : Cluster) (M : Memberships) (n now : ℕ) (ends : method.Outcome) (i : Input) (node : Node) (disk : DiskState) (s : Scene) → n ≤ 32 → All IsDevice c.attached → Holds (setting_of c) M
+    → Stands c M n node disk.kept → IsPlain i → IsBrought (under_way s.moments) n i
     → Always (StopsByRule S) s.moments → Always (StopsByRule S) (passing n (stepped disk_rules c n now ends node disk i).given s).moments
-plain_ruled S c n now ends input.Boot node disk s plain is so = up_ruled S c n now ends node disk s is so
-plain_ruled S c n now ends input.Crash Down disk s plain is so = so
-plain_ruled S c n now ends input.Crash (Up x) disk s plain is so = none_ruled S n (Tells (entry.Node n (note.Down cause.Crash)) ∷ []) s (tt, tt) so
-plain_ruled S c n now ends input.Tick node disk s plain is so = other_ruled S n (stepped disk_rules c n now ends node disk input.Tick).given s (other_by s.moments (event.Tick n) is (λ a. refl)) so
-plain_ruled S c n now ends input.CommandDue node disk s plain is so = other_ruled S n (stepped disk_rules c n now ends node disk input.CommandDue).given s (other_by s.moments (event.Disk n) is (λ a. refl)) so
-plain_ruled S c n now ends (input.Commanded words) node disk s plain is so = other_ruled S n (stepped disk_rules c n now ends node disk (input.Commanded words)).given s (other_by s.moments (event.Command n words) is (λ a. refl)) so
-plain_ruled S c n now ends (input.Reported r good) node disk s plain is so = other_ruled S n (stepped disk_rules c n now ends node disk (input.Reported r good)).given s (other_by s.moments (event.Probe n r good) is (λ a. refl)) so
-plain_ruled S c n now ends (input.Client address client port) Down disk s plain is so = so
-plain_ruled S c n now ends (input.Client address client port) (Up x) disk s plain is so =
+plain_ruled S c M n now ends input.Boot node disk s low fits holds stands plain is so = up_ruled S c n now ends node disk s is so
+plain_ruled S c M n now ends input.Crash Down disk s low fits holds stands plain is so = so
+plain_ruled S c M n now ends input.Crash (Up x) disk s low fits holds stands plain is so = none_ruled S n (Tells (entry.Node n (note.Down cause.Crash)) ∷ []) s (tt, tt) so
+plain_ruled S c M n now ends input.Tick node disk s low fits holds stands plain is so = other_ruled S n (stepped disk_rules c n now ends node disk input.Tick).given s (other_by s.moments (event.Tick n) is (λ a. refl)) so
+plain_ruled S c M n now ends input.CommandDue node disk s low fits holds stands plain is so = other_ruled S n (stepped disk_rules c n now ends node disk input.CommandDue).given s (other_by s.moments (event.Disk n) is (λ a. refl)) so
+plain_ruled S c M n now ends (input.Commanded words) Down disk s low fits holds stands plain is so = so
+plain_ruled S c M n now ends (input.Commanded words) (Up x) disk s low fits holds stands plain is so =
+    proposed_ruled S n (Some (event.Command n words)) (arrived s.moments) false (stepped disk_rules c n now ends (Up x) disk (input.Commanded words)).given s
+    (step_proposed c M n now ends (input.Commanded words) x disk low fits holds tt stands (tt, command_p false c n (at_second now x) words) (command_fine c n now ends x words)) (no_packets c n now ends (Up x) disk (input.Commanded words))
+    (acting_rule S n (event.Command n words) (arrived s.moments) (λ ms h. with_own n (proposes n ms) h)) (λ never. absurd (not_so never)) is refl so
+plain_ruled S c M n now ends (input.Reported r good) Down disk s low fits holds stands plain is so = so
+plain_ruled S c M n now ends (input.Reported r good) (Up x) disk s low fits holds stands plain is so =
+    proposed_ruled S n (Some (event.Probe n r good)) (arrived s.moments) false (stepped disk_rules c n now ends (Up x) disk (input.Reported r good)).given s
+    (step_proposed c M n now ends (input.Reported r good) x disk low fits holds tt stands (tt, report_p false c n (at_second now x) r good) (report_fine c n now ends x r good)) (no_packets c n now ends (Up x) disk (input.Reported r good))
+    (acting_rule S n (event.Probe n r good) (arrived s.moments) (λ ms h. with_own n (proposes n ms) h)) (λ never. absurd (not_so never)) is refl so
+plain_ruled S c M n now ends (input.Client address client port) Down disk s low fits holds stands plain is so = so
+plain_ruled S c M n now ends (input.Client address client port) (Up x) disk s low fits holds stands plain is so =
     stops_ruled S n ⊥ (stepped disk_rules c n now ends (Up x) disk (input.Client address client port)).given s (client_stops c n now ends x address client port disk) (λ never. absurd never) so
-plain_ruled S c n now ends (input.Packet from m) node disk s plain is so = absurd plain
-plain_ruled S c n now ends (input.Answered a) node disk s plain is so = absurd plain
-plain_ruled S c n now ends (input.Wrote d value a) node disk s plain is so = absurd plain
+plain_ruled S c M n now ends (input.Packet from m) node disk s low fits holds stands plain is so = absurd plain
+plain_ruled S c M n now ends (input.Answered a) node disk s low fits holds stands plain is so = absurd plain
+plain_ruled S c M n now ends (input.Wrote d value a) node disk s low fits holds stands plain is so = absurd plain
 
 -- ---- a message
 
@@ -253,20 +186,50 @@ forming_disk c M n disk x seat same tied s at = (subst (λ z. SeatTied c M n dis
 sitting_disk : (c : Cluster) (M : Memberships) (n : ℕ) (disk : NodeRecord) (x : UpNode) (seat : Seat) → seat ≡ x.seat → NodeTied c M n disk (Up x) → (s : NodeState) → seat ≡ Member s → disk ≡ s.saved
 sitting_disk c M n disk x seat same tied s at = (subst (λ z. SeatTied c M n disk x.attempt z) (sym same ∙ at) tied.0).1
 
+none_of : (a b d : Bool) → a ≡ false → b ≡ false → d ≡ false → (a || (b || d)) ≡ false
+none_of false false d h k l = l
+none_of true b d h k l = cc
+none_of false true d h k l = cc
+
+-- a member has its update pending, by its lines
+pends_so : (c : Cluster) (M : Memberships) (n : ℕ) (disk : NodeRecord) (x : UpNode) (ms : List Moment) → NodeTied c M n disk (Up x) → IsSeated ms n (Up x) → RecordIn ms n disk → Pends x
+    → (is_some (member_of n ms) && has_pending n ms) ≡ true
+pends_so c M n disk x ms tied seated record_so q =
+    both_so (is_some (member_of n ms)) (has_pending n ms) (ap (λ (o : Option ℕ). is_some o) (seated ∙ ap membership_in q.1))
+    (pending_so disk (record_of n ms) record_so (ap (λ (r : NodeRecord). is_some r.entries.pending) (sitting_disk c M n disk x x.seat refl tied q.0 q.1) ∙ q.2))
+
 message_ruled : (S : Setting) (c : Cluster) (M : Memberships) (n now : ℕ) (ends : method.Outcome) (from : ℕ) (m : Message) (node : Node) (disk : DiskState) (s : Scene) → NodeTied c M n disk.kept node
     → IsSeated s.moments n node → RecordIn s.moments n disk.kept → IsDelivering (under_way s.moments) → (came : Came s.moments n from m.body)
-    → AskedSo came.letter m.body → promise_of n s.moments ≤ disk.kept.promised → (b : Bool) → is_settled_name (named (name_of m.body)) ≡ b
+    → AskedSo came.letter m.body → promise_of n s.moments ≤ disk.kept.promised → n ≤ 32 → All IsDevice c.attached → Holds (setting_of c) M → IsTrue M (input.Packet from m)
+    → Stands c M n node disk.kept → (b d g : Bool) → saves_at_once (named (name_of m.body)) ≡ b → asks_to_act (named (name_of m.body)) ≡ d → asks_to_acknowledge (named (name_of m.body)) ≡ g
     → Always (StopsByRule S) s.moments → Always (StopsByRule S) (passing n (stepped disk_rules c n now ends node disk (input.Packet from m)).given s).moments
-message_ruled S c M n now ends from m node disk s tied seated record_so is came asked low false kind so =
+message_ruled S c M n now ends from m node disk s tied seated record_so is came asked low few fits holds told stands false false false kind acts acks so =
     silent_ruled S n (stepped disk_rules c n now ends node disk (input.Packet from m)).given s
     (packet_quiet n node from m _ (commands_are_told c n now ends node disk (input.Packet from m)))
-    (ap (λ a. is_settled (under_way s.moments) a) came.here ∙ other_kind (under_way s.moments) came.letter is (ap is_settled_name came.called ∙ kind)) so
-message_ruled S c M n now ends from m Down disk s tied seated record_so is came asked low true kind so = so
-message_ruled S c M n now ends from m (Up x) disk s tied seated record_so is came asked low true kind so =
+    (ap (λ a. is_settled (under_way s.moments) a) came.here ∙ other_kind (under_way s.moments) came.letter is (ap is_settled_name came.called ∙ none_of (saves_at_once (named (name_of m.body))) (asks_to_act (named (name_of m.body))) (asks_to_acknowledge (named (name_of m.body))) kind acts acks)) so
+message_ruled S c M n now ends from m Down disk s tied seated record_so is came asked low few fits holds told stands b d g kind acts acks so = so
+message_ruled S c M n now ends from m (Up x) disk s tied seated record_so is came asked low few fits holds told stands true d g kind acts acks so =
     stops_ruled S n (SavesAt m.body x.seat) (stepped disk_rules c n now ends (Up x) disk (input.Packet from m)).given s
     (subst (λ (o : Outcome DiskState). StopsIf (SavesAt m.body x.seat) n o.given) (sym ((step_of_node_is_its_course saving c n now ends x (input.Packet from m)).is [] disk)) (message_stops c n now ends x from m kind disk))
     (may_save_so S n came.letter m.body x.seat disk.kept s.moments is came.here came.receiver came.called asked low seated record_so (forming_disk c M n disk.kept x x.seat refl tied)
     (sitting_disk c M n disk.kept x x.seat refl tied)) so
+message_ruled S c M n now ends from m (Up x) disk s tied seated record_so is came asked low few fits holds told stands false true g kind acts acks so =
+    let i : Input = input.Packet from m in
+    let l : Letter = came.letter in
+    proposed_ruled S n (under_way s.moments) (Some l) false (stepped disk_rules c n now ends (Up x) disk i).given s
+    (step_proposed c M n now ends i x disk few fits holds told stands (message_proposes c n now ends x from m acts) (packet_fine c n now ends x from m)) (no_packets c n now ends (Up x) disk i)
+    (λ ms same here h. subst (λ z. saves_in S n z ms ≡ true) (sym same)
+    (letter_saves S n (under_way s.moments) l ms is here came.receiver (subst (λ a. saves_at n l a ms ≡ true) (sym came.called) (acting_saves n l m.body ms acts h))))
+    (λ never. absurd (not_so never)) refl came.here so
+message_ruled S c M n now ends from m (Up x) disk s tied seated record_so is came asked low few fits holds told stands false false true kind acts acks so =
+    let i : Input = input.Packet from m in
+    let l : Letter = came.letter in
+    once_ruled S n (Pends x) (under_way s.moments) (Some l) (stepped disk_rules c n now ends (Up x) disk i).given s
+    (step_first c M n now ends from m x disk few fits holds told stands acks (packet_fine c n now ends x from m)) (no_packets c n now ends (Up x) disk i)
+    (λ ms same here h. subst (λ z. saves_in S n z ms ≡ true) (sym same)
+    (letter_saves S n (under_way s.moments) l ms is here came.receiver (subst (λ a. saves_at n l a ms ≡ true) (sym came.called) (acknowledging_saves n l m.body ms acks h))))
+    (λ q. letter_saves S n (under_way s.moments) l s.moments is came.here came.receiver
+    (subst (λ a. saves_at n l a s.moments ≡ true) (sym came.called) (pending_saves n l m.body s.moments acks (pends_so c M n disk.kept x s.moments tied seated record_so q)))) refl came.here so
 
 -- ---- each thing that happens
 
@@ -293,40 +256,41 @@ speaks_ruled S c (event.CrashAt n calls choice) s h = (tt, h)
 speaks_ruled S c (event.Fault n d done) s h = (tt, h)
 speaks_ruled S c _ s h = (tt, h)
 
-happening_ruled : (S : Setting) (c : Cluster) (s : Scene) (x : Happening) → MayHappen c s x → Knows c s → Always (StopsByRule S) s.moments → Always (StopsByRule S) (happened c s x).moments
-happening_ruled S c s (Speaks e) may k h = speaks_ruled S c e s h
-happening_ruled S c s (Begins e) may k h = (tt, h)
-happening_ruled S c s (Notes e) may k h = (tt, h)
-happening_ruled S c s (Takes n now ends i) may k h =
-    plain_ruled S c n now ends i (s.nodes.node n) (s.nodes.disk n) (record s { nodes = moved c s.nodes (Takes_in n now ends i) }) may.1 may.5 h
-happening_ruled S c s (Arrives number x m now ends) may k h =
+happening_ruled : (S : Setting) (c : Cluster) (s : Scene) (x : Happening) → All IsDevice c.attached → MayHappen c s x → Knows c s → Always (StopsByRule S) s.moments → Always (StopsByRule S) (happened c s x).moments
+happening_ruled S c s (Speaks e) fits may k h = speaks_ruled S c e s h
+happening_ruled S c s (Begins e) fits may k h = (tt, h)
+happening_ruled S c s (Notes e) fits may k h = (tt, h)
+happening_ruled S c s (Takes n now ends i) fits may k h =
+    plain_ruled S c k.known.stage.machine n now ends i (s.nodes.node n) (s.nodes.disk n) (record s { nodes = moved c s.nodes (Takes_in n now ends i) }) may.0.1 fits k.known.stage.holds (k.known.stage.stands n) may.1 may.5 h
+happening_ruled S c s (Arrives number x m now ends) fits may k h =
     let t : Scene = telling (entry.Packet (packet.Delivered number x.from x.to)) (removed s number) in
     let i : Input = input.Packet x.from m in
     let came : Came t.moments x.to x.from m.body = arrived_kept c s number x m may.0 may.1 k.known in
     message_ruled S c k.known.stage.machine x.to now ends x.from m (s.nodes.node x.to) (s.nodes.disk x.to) (record t { nodes = moved c s.nodes (Takes_in x.to now ends i) })
     (k.known.stage.stands x.to).tied (k.seated x.to) (k.known.at x.to).record_so (delivering s.links.packets number (under_way s.moments) may.6) came
     (asked_so k.known.stage.machine came.letter m.body (letter_sound k.known.stage.machine number s.moments came.letter k.known.sound came.here) came.read) (k.promises x.to)
-    (is_settled_name (named (name_of m.body))) refl (tt, h)
-happening_ruled S c s (Strays number x) may k h = (tt, h)
-happening_ruled S c s (Misses number x) may k h = (tt, h)
-happening_ruled S c s (Loses number x) may k h = (tt, h)
-happening_ruled S c s (Repeats number x) may k h =
+    may.3.1 fits k.known.stage.holds (true_of k.known.stage.machine x.from m.body s.nodes.sent may.4 k.known.stage.sent) (k.known.stage.stands x.to)
+    (saves_at_once (named (name_of m.body))) (asks_to_act (named (name_of m.body))) (asks_to_acknowledge (named (name_of m.body))) refl refl refl (tt, h)
+happening_ruled S c s (Strays number x) fits may k h = (tt, h)
+happening_ruled S c s (Misses number x) fits may k h = (tt, h)
+happening_ruled S c s (Loses number x) fits may k h = (tt, h)
+happening_ruled S c s (Repeats number x) fits may k h =
     let o : net.Outcome = sending s.links x.from x.to x.bytes in
     dropped_ruled S o.sent.dropped (telling (entry.Packet (packet.Repeated number s.links.next)) (with_links s o.after)) (tt, h)
-happening_ruled S c s (Commands n d q now ends) may k h =
+happening_ruled S c s (Commands n d q now ends) fits may k h =
     let o : Option Device = slice_get s.devices (d - 1) in
     let z : Scene = (commanded s n d q).scene in
     let i : Input = input.Answered (commanded s n d q).answer in
     other_ruled S n (given_by c n now ends i z.nodes) (record z { nodes = moved c z.nodes (Takes_in n now ends i) })
     (commanded_other s n d o q (other_by s.moments (event.Disk n) may.5 (λ a. refl))) (commanded_ruled S s n d o q h)
-happening_ruled S c s (Writes n d value now ends) may k h =
+happening_ruled S c s (Writes n d value now ends) fits may k h =
     let o : Option Device = slice_get s.devices (d - 1) in
     let q : PrCommand = command.Write value in
     let z : Scene = (commanded s n d q).scene in
     let a : Answer = (commanded s n d q).answer in
     none_ruled S n (given_by c n now ends (input.Wrote d value a) z.nodes) (record z { nodes = moved c z.nodes (Takes_in n now ends (input.Wrote d value a)) })
     (write_stops c n now ends (z.nodes.node n) (z.nodes.disk n) d value a) (commanded_ruled S s n d o q h)
-happening_ruled S c s (Refuses n d value why) may k h = (tt, h)
+happening_ruled S c s (Refuses n d value why) fits may k h = (tt, h)
 
 -- ---- runs
 
@@ -344,4 +308,4 @@ first_ruled S h cells = tt
 pub settled_stops_of_each_run : SettledStopsOfEachRun
 settled_stops_of_each_run h cells hs few small may S =
     holds_of_each h cells (λ (s : Scene). Always (StopsByRule S) s.moments)
-    (λ s x now at more so. happening_ruled S (first_cluster h) s x now (knows_at h cells s few small at) so) (first_ruled S h cells) hs may
+    (λ s x now at more so. happening_ruled S (first_cluster h) s x (first_fit h few) now (knows_at h cells s few small at) so) (first_ruled S h cells) hs may

@@ -41,6 +41,7 @@ use Rattle.status_report.specs.declared.device_entry.WriteRefusal.TheVariants.{F
 use Rattle.status_report.specs.declared.entry.Entry.TheVariants as entry
 use Rattle.status_report.specs.declared.node_entry.DownCause.TheVariants as cause
 use Rattle.status_report.specs.declared.node_entry.NodeEntry.TheVariants as note
+use Rattle.wire.specs.declared.message.Message.{Message}
 use Rattle.run_history.specs.Names.{UpNames}
 use Rattle.run_history.specs.Scenes.{Scene, passing}
 use Rattle.run_history.proofs.Handlers.{distrusting_is, packet_is, progress_is, tick_is}
@@ -192,6 +193,16 @@ pub client_fine : (c : Cluster) (n now : ℕ) (ends : method.Outcome) (x : UpNod
 client_fine c n now ends x name client port =
     (tt, unsaved_fine Any (cuts.client_course c (at_second now x) name client port) (client_is Any c (at_second now x) name client port) (client_keeps c (at_second now x) name client port x.presidency))
 
+pub packet_fine : (c : Cluster) (n now : ℕ) (ends : method.Outcome) (x : UpNode) (from : ℕ) (m : Message) → GoesFine true (course_at c n now ends x (Packet from m))
+packet_fine c n now ends x from m =
+    (tt, ordinary_fine Any (cuts.packet_course c n ends (at_second now x) from m) (packet_is Any c n ends (at_second now x) from m (any_known c) (any_node (Up x))))
+
+pub command_fine : (c : Cluster) (n now : ℕ) (ends : method.Outcome) (x : UpNode) (words : List ℕ) → GoesFine true (course_at c n now ends x (Commanded words))
+command_fine c n now ends x words = (tt, ordinary_fine Any (cuts.command_course c n (at_second now x) words) (command_is Any c n (at_second now x) words))
+
+pub report_fine : (c : Cluster) (n now : ℕ) (ends : method.Outcome) (x : UpNode) (r : List ℕ) (good : Bool) → GoesFine true (course_at c n now ends x (Reported r good))
+report_fine c n now ends x r good = (tt, ordinary_fine Any (cuts.report_course c n (at_second now x) r good) (report_is Any c n (at_second now x) r good))
+
 pub step_passed : (c : Cluster) (n now : ℕ) (ends : method.Outcome) (i : Input) (node : Node) (disk : DiskState) (s : Scene) → AtEvent i n s.moments
     → calls_left n s.moments ≡ calls_in disk.stop → stop_due s.moments ≡ None → Always GoesSo s.moments
     → (let o : Outcome DiskState = stepped disk_rules c n now ends node disk i in Passed n (calls_in o.disk.stop) s.moments (passing n o.given s).moments)
@@ -208,16 +219,15 @@ step_passed c n now ends (Wrote d value a) (Up x) disk s at left due so = wrote_
 step_passed c n now ends Tick (Up x) disk s at left due so =
     course_passed c n now ends true Tick x disk s (tt, ordinary_fine Any (cuts.tick_course c n ends (at_second now x)) (tick_is Any c n ends (at_second now x) (any_known c) (any_node (Up x)))) (λ y. at.1) at.0 left due so
 step_passed c n now ends (Packet from m) (Up x) disk s at left due so =
-    course_passed c n now ends true (Packet from m) x disk s
-    (tt, ordinary_fine Any (cuts.packet_course c n ends (at_second now x) from m) (packet_is Any c n ends (at_second now x) from m (any_known c) (any_node (Up x)))) (λ y. at.1) at.0 left due so
+    course_passed c n now ends true (Packet from m) x disk s (packet_fine c n now ends x from m) (λ y. at.1) at.0 left due so
 step_passed c n now ends CommandDue (Up x) disk s at left due so =
     course_passed c n now ends true CommandDue x disk s
     (tt, ordinary_fine Any (cuts.distrusting_course (at_second now x) (begins_plainly x.tasks)) (distrusting_is Any (at_second now x) (begins_plainly x.tasks))) (λ y. at.1) at.0 left due so
 step_passed c n now ends (Answered a) (Up x) disk s at left due so =
     course_passed c n now ends true (Answered a) x disk s (tt, answered_fine c n (at_second now x) a (due_device x.tasks) (next_of x.tasks) (any_node (Up x))) (λ y. at.1) at.0 left due so
 step_passed c n now ends (Commanded words) (Up x) disk s at left due so =
-    course_passed c n now ends true (Commanded words) x disk s (tt, ordinary_fine Any (cuts.command_course c n (at_second now x) words) (command_is Any c n (at_second now x) words)) (λ y. at.1) at.0 left due so
+    course_passed c n now ends true (Commanded words) x disk s (command_fine c n now ends x words) (λ y. at.1) at.0 left due so
 step_passed c n now ends (Reported r good) (Up x) disk s at left due so =
-    course_passed c n now ends true (Reported r good) x disk s (tt, ordinary_fine Any (cuts.report_course c n (at_second now x) r good) (report_is Any c n (at_second now x) r good)) (λ y. at.1) at.0 left due so
+    course_passed c n now ends true (Reported r good) x disk s (report_fine c n now ends x r good) (λ y. at.1) at.0 left due so
 step_passed c n now ends (Client name client port) (Up x) disk s at left due so =
     course_passed c n now ends false (Client name client port) x disk s (client_fine c n now ends x name client port) (λ never. absurd (not_so never)) at left due so

@@ -49,7 +49,7 @@ use Rattle.run_messages.specs.Laws.{membership_in}
 use Rattle.run_records.specs.Shown.{shown}
 use Rattle.run_downs.proofs.Courses.{GoesFine, by_test}
 use Rattle.run_downs.proofs.Rules.{CourseStops, keep_stops, none_stops}
-use Rattle.run_downs.specs.Laws.{is_settled_name}
+use Rattle.run_downs.specs.Laws.{saves_at_once}
 
 not_so : false ≡ true → ⊥
 not_so h = cc
@@ -138,7 +138,7 @@ notice_stops c n x e newest =
 
 -- the message is one of these
 abbrev pub IsSettled : Body → Type 0
-IsSettled b = is_settled_name (named (name_of b)) ≡ true
+IsSettled b = saves_at_once (named (name_of b)) ≡ true
 
 update_stops : (c : Cluster) (n : ℕ) (ends : method.Outcome) (x : UpNode) (from : ℕ) (m : Message) (b : Body) → IsSettled b
     → CourseStops (SavesAt b x.seat) c n x (cuts.body_course c n ends x from m b)
@@ -162,11 +162,11 @@ message_stops c n now ends x from m told =
 
 -- ---- the lines
 
-pending_so : (disk : NodeRecord) (o : Option history.NodeRecord) → IfSome o (λ r. r ≡ shown disk) → is_some disk.entries.pending ≡ true → may_be_pending o ≡ true
+pub pending_so : (disk : NodeRecord) (o : Option history.NodeRecord) → IfSome o (λ r. r ≡ shown disk) → is_some disk.entries.pending ≡ true → may_be_pending o ≡ true
 pending_so disk None h some = refl
 pending_so disk (Some r) h some = ap (λ (z : history.NodeRecord). z.pending) h ∙ some
 
-both_so : (a b : Bool) → a ≡ true → b ≡ true → (a && b) ≡ true
+pub both_so : (a b : Bool) → a ≡ true → b ≡ true → (a && b) ≡ true
 both_so true true h k = refl
 both_so false b h k = cc
 both_so true false h k = cc
@@ -204,7 +204,7 @@ IsDelivering _ = ⊥
 same_number : (m n : ℕ) → m ≡ n → (m == n) ≡ true
 same_number m n e = grind arith
 
-letter_saves : (S : Setting) (n : ℕ) (e : Option Event) (l : Letter) (ms : List Moment) → IsDelivering e → arrived ms ≡ Some l → l.to ≡ n → saves_at n l l.name ms ≡ true → saves_in S n e ms ≡ true
+pub letter_saves : (S : Setting) (n : ℕ) (e : Option Event) (l : Letter) (ms : List Moment) → IsDelivering e → arrived ms ≡ Some l → l.to ≡ n → saves_at n l l.name ms ≡ true → saves_in S n e ms ≡ true
 letter_saves S n (Some (event.Deliver p)) l ms is here to saves = ap (λ o. saves_at_letter n o ms) here ∙ both_so (l.to == n) (saves_at n l l.name ms) (same_number l.to n to) saves
 letter_saves S n (Some (event.Next from at)) l ms is here to saves = ap (λ o. saves_at_letter n o ms) here ∙ both_so (l.to == n) (saves_at n l l.name ms) (same_number l.to n to) saves
 letter_saves S n _ l ms is here to saves = absurd is

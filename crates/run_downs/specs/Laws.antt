@@ -82,15 +82,34 @@ abbrev pub asks_promise : Name → Bool
 asks_promise name.Collect = true
 asks_promise _ = false
 
+-- a message at which a node saves what it proposes, and what it acknowledges behind that
+abbrev pub asks_to_act : Name → Bool
+asks_to_act (name.Request number) = true
+asks_to_act (name.Answer number) = true
+asks_to_act (name.Order number) = true
+asks_to_act (name.Done number) = true
+asks_to_act _ = false
+
+-- a message at which a node acknowledges what is pending, and saves what it proposes
+abbrev pub asks_to_acknowledge : Name → Bool
+asks_to_acknowledge (name.Prepared v) = true
+asks_to_acknowledge _ = false
+
+abbrev pub saves_at_once : Name → Bool
+saves_at_once called = tells_update called || (asks_no_save called || asks_promise called)
+
 abbrev pub is_settled_name : Name → Bool
-is_settled_name called = tells_update called || (asks_no_save called || asks_promise called)
+is_settled_name called = saves_at_once called || (asks_to_act called || asks_to_acknowledge called)
 
 abbrev pub is_settled_by : Letter → Bool
 is_settled_by l = is_settled_name l.name
 
--- the event is a boot, delivers a message of these kinds, or is one in which a node saves nothing: a crash, a write, a client's request
+-- the event is a boot, a command, a probe, delivers a message of these kinds, or is one in which a node saves nothing: a crash, a write, a client's
+-- request
 abbrev pub is_settled : Option Event → Option Letter → Bool
 is_settled (Some (event.Boot n)) came = true
+is_settled (Some (event.Command n words)) came = true
+is_settled (Some (event.Probe n resource good)) came = true
 is_settled (Some (event.Crash n)) came = true
 is_settled (Some (event.Write n d value)) came = true
 is_settled (Some (event.Client n address client port)) came = true

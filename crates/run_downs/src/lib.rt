@@ -32,9 +32,11 @@ pub fn saves_of_each_run()
     ensures { SavesOfEachRun }
 {}
 
-/// In a boot, and in the event of a Collect, a Start, a Prepare or a Commit, a node stops only where the rules let it save there: a Collect is of a greater
-/// number than it has promised, at a Prepare and a Commit it is a member, at a Start it is none yet, and at a Start and a Commit an update may be pending. In a crash, a write, a client's request, and at a Heartbeat,
-/// a request to seize or an Excluded it does not stop at all.
+/// In a boot, and in the event of a Collect, a Start, a Prepare or a Commit, a node stops only where the rules let it save there: a Collect is of a
+/// greater number than it has promised, at a Prepare and a Commit it is a member, at a Start it is none yet, and at a Start and a Commit an update may
+/// be pending. At a command, a probe, a Request, an Answer, an Order and a Done it has told of a proposal of its own in the event; at a Prepared it has,
+/// or it is a member and an update may be pending. In a crash, a write, a client's request, and at a Heartbeat, a request to seize or an Excluded it does
+/// not stop at all.
 pub fn settled_stops_of_each_run()
     ensures { SettledStopsOfEachRun }
 {}
