@@ -1,6 +1,6 @@
 -- Requests: which commands of members have come to their president, and what became of each; and that each update was asked for.
-use Rattle.std.specs.Prelude.{◌≡◌, ℕ, ◌==◌, ◌&&◌, Bool, true, false, if◌then◌else◌, List, [], ◌∷◌, ◌++◌, map, Option, Some, None}
-use Rattle.std.specs.List.{list_any}
+use Rattle.std.specs.Prelude.{◌≡◌, ◌<◌, ℕ, ◌==◌, ◌&&◌, Bool, true, false, if◌then◌else◌, List, [], ◌∷◌, ◌++◌, map, Option, Some, None}
+use Rattle.std.specs.List.{list_any, count_by}
 use Rattle.std.specs.Option.{option_and_then}
 use Rattle.status_report.specs.declared.command_entry.Answer.TheVariants as answer
 use Rattle.history.specs.Moment.{Moment}
@@ -95,10 +95,6 @@ pub record Request : Type 0 where
 abbrev pub is_request_of : ℕ → ℕ → Request → Bool
 is_request_of n q r = (r.node == n) && (r.number == q)
 
-abbrev pub is_waiting : List ℕ → Stage → List ℕ → Bool
-is_waiting words Waiting found = same_words words found
-is_waiting words _ found = false
-
 -- each once for a node and number
 abbrev pub with_request : ℕ → ℕ → Option (List ℕ) → List Request → List Request
 with_request n q None rs = rs
@@ -153,11 +149,17 @@ requests_of S e (sent p c m called bytes ∷ before) =
     if c == coordinator e then answered_by e before m (named called) (requests_of S e before) else requests_of S e before
 requests_of S e (_ ∷ before) = requests_of S e before
 
--- ---- each proposal was asked for: the request of the one before it is answered, and one that waits has its words
+-- ---- each proposal was asked for: so many requests with its words have come as updates with these words are proposed
 
+-- an update of e with these words that was proposed
+abbrev pub is_proposal_with : ℕ → List ℕ → Moment → Bool
+is_proposal_with e words (propose f v found) = (f == e) && same_words found words
+is_proposal_with e words _ = false
+
+-- fewer updates with these words were proposed before than requests with these words have come
 abbrev pub IsAskedFor : Setting → List Moment → Moment → Type 0
 IsAskedFor S before (propose e v words) =
-    (in_hand e before ≡ None) × (list_any (λ r. is_waiting words r.stage r.words) (requests_of S e before) ≡ true)
+    count_by (is_proposal_with e words) before < count_by (λ r. same_words r.words words) (requests_of S e before)
 IsAskedFor S before _ = Unit {0}
 
 abbrev pub Asked : Setting → List Moment → Type 0

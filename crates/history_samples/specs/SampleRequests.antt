@@ -44,11 +44,11 @@ all_answered =
     ∷ sent 5 1 2 (name.Answer 1) []
     ∷ second_acknowledged
 
--- ---- what may not be
+-- the words that two asked for are proposed twice; that the first of the two has its answer before is not asked
+abbrev pub proposed_again : List Moment
+proposed_again = propose 65 3 another ∷ second_acknowledged
 
--- an update is proposed while the request of the one before it is not answered
-abbrev pub proposed_unanswered : List Moment
-proposed_unanswered = propose 65 3 another ∷ second_acknowledged
+-- ---- what may not be
 
 -- one that is asked for once is proposed twice
 abbrev pub proposed_once_more : List Moment

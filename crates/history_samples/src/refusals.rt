@@ -167,7 +167,7 @@ pub fn contact()
     ensures proposed_unasked { OfNewest (requests.IsAskedFor pair) amnesia.proposed_unasked → ⊥ }
     ensures proposed_twice { OfNewest (requests.IsAskedFor pair) amnesia.proposed_twice → ⊥ }
     ensures answered_too_early { OfNewest (requests.IsAnswered pair) amnesia.answered_too_early → ⊥ }
-    ensures proposed_unanswered { OfNewest (requests.IsAskedFor pair) wanted.proposed_unanswered → ⊥ }
+    ensures proposed_again { OfNewest (requests.IsAskedFor pair) wanted.proposed_again }
     ensures proposed_once_more { OfNewest (requests.IsAskedFor pair) wanted.proposed_once_more → ⊥ }
     ensures answered_for_another { OfNewest (requests.IsAnswered pair) wanted.answered_for_another → ⊥ }
     ensures started_with_others { OfNewest contact.IsReady results.started_with_others → ⊥ }

@@ -49,7 +49,8 @@ use Rattle.run_requests.proofs.Reports.{Stepped}
 use Rattle.run_answers.specs.Steps.{Frame, NodeSo, ToldSo}
 use Rattle.run_answers.proofs.Acts.{CameHand, up_stays}
 use Rattle.run_answers.proofs.Frames.{passing_frame, unused_stays}
-use Rattle.run_answers.proofs.Steps.{Reads, down_left, up_left}
+use Rattle.run_answers.proofs.Commands.{Reads}
+use Rattle.run_answers.proofs.Steps.{down_left, up_left}
 use Rattle.run_answers.proofs.Walk.{Left}
 
 pub record Keeps (S : Setting) (c : Cluster) (v : Nodes) (ms : List Moment) : Type 0 where

@@ -26,7 +26,7 @@ use Rattle.world_model.specs.First.{first_cluster}
 use Rattle.run_requests.proofs.Laws as requests
 use Rattle.run_answers.specs.Laws.{AskedOfEachRun}
 use Rattle.run_answers.proofs.Runs.{asked_in_each}
-use Rattle.run_answers.proofs.Steps.{Reads}
+use Rattle.run_answers.proofs.Commands.{Reads}
 use Rattle.run_answers.proofs.Waiting.{ReadsUpdates}
 
 -- ---- what is read as an update is a command

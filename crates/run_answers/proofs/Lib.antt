@@ -10,7 +10,10 @@ pub mod Saying
 pub mod Moves
 pub mod Acts
 pub mod Changes
+pub mod Changing
 pub mod Walk
+pub mod Commands
+pub mod Reports
 pub mod Steps
 pub mod Kept
 pub mod Runs

@@ -79,7 +79,7 @@ use Rattle.run_answers.proofs.Askings.{letter_is}
 use Rattle.run_answers.proofs.Frames.{dropped_frame, packet_frame, part_frame, said_frame, told_frame}
 use Rattle.run_answers.proofs.Kept.{CameAt, Keeps, KeepsIn, moment_keeps, taking_keeps}
 use Rattle.run_answers.proofs.Requests.{other_comes}
-use Rattle.run_answers.proofs.Steps.{Reads}
+use Rattle.run_answers.proofs.Commands.{Reads}
 
 -- ---- a packet comes to a node
 
