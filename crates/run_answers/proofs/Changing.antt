@@ -1,72 +1,46 @@
 -- A change with its lines keeps what is known of requests.
-use Rattle.std.specs.Prelude.{ℕ, zero, suc, ◌+◌, ◌≡◌, ◌≢◌, ◌≤◌, ◌<◌, ◌⊎◌, ◌++◌, All, Bool, true, false, List, [], ◌∷◌, length, Option, None, Some, is_some}
-use Rattle.std.specs.List.{AllByRecursion}
+use Rattle.std.specs.Prelude.{ℕ, zero, suc, ◌+◌, ◌≡◌, ◌≤◌, ◌<◌, ◌⊎◌, ◌++◌, true, List, [], ◌∷◌, length, Option, None, Some, is_some}
 use Rattle.std.proofs.Common.{refl, sym, ap, subst, ◌∙◌, arith, inl, inr}
 use Rattle.ccr_commit.specs.Entries.{texts_of}
-use Rattle.cmm_attempt.specs.Attempts.{AttemptState}
-use Rattle.cmm_attempt.specs.Calls.{IsDevice}
-use Rattle.cmm_attempt.proofs.Basics.{none_some, same_some}
+use Rattle.cmm_attempt.proofs.Basics.{none_some}
 use Rattle.cmm_member.specs.Nodes.{NodeState}
 use Rattle.cmm_member.specs.Records.{NodeRecord}
 use Rattle.membership_machine.specs.Invariant.{Holds}
 use Rattle.membership_machine.specs.State.{Memberships}
-use Rattle.proposals.specs.declared.arrived.Arrived.{Arrived}
-use Rattle.status_report.specs.declared.entry.Entry.TheVariants as entry
-use Rattle.status_report.specs.declared.node_entry.DownCause.{DownCause}
-use Rattle.status_report.specs.declared.node_entry.NodeEntry.TheVariants as note
-use Rattle.status_report.specs.declared.update_entry.UpdateEntry.TheVariants as update
-use Rattle.history.specs.Member.{in_collect}
-use Rattle.history.specs.Moment.{Moment, Told}
-use Rattle.history.specs.Setting.{Setting, coordinator}
-use Rattle.node_model.specs.Seats.{promised_of, record_of, session_of, state_of}
+use Rattle.history.specs.Moment.{Moment}
+use Rattle.history.specs.Setting.{Setting}
+use Rattle.node_model.specs.Seats.{promised_of, session_of, state_of}
 use Rattle.node_model.specs.declared.cluster.Cluster.{Cluster}
 use Rattle.node_model.specs.declared.input.Input.{Input}
 use Rattle.node_model.specs.declared.input.Input.TheVariants.{Packet}
-use Rattle.node_model.specs.declared.node.Node.{Node}
-use Rattle.node_model.specs.declared.node.Node.TheVariants.{Down, Up}
+use Rattle.node_model.specs.declared.node.Node.TheVariants.{Up}
 use Rattle.node_model.specs.declared.node.UpNode.{UpNode}
 use Rattle.node_model.specs.declared.output.Output.{Output}
 use Rattle.node_model.specs.declared.output.Output.TheVariants.{Sends, Tells}
 use Rattle.node_model.specs.declared.presidency.Presidency.{Presidency}
 use Rattle.node_model.specs.declared.seat.Seat.{Seat}
 use Rattle.node_model.specs.declared.seat.Seat.TheVariants.{Forming, Member}
-use Rattle.refinement.proofs.Acts.{does_one}
 use Rattle.refinement.proofs.Changes.{Sees, sees}
-use Rattle.refinement.proofs.Handlers.{delivered_by}
-use Rattle.refinement.proofs.Ties.{known_stays}
-use Rattle.refinement.specs.Courses.{Course, Reply, under}
-use Rattle.refinement.specs.Courses.Course.{Acts, Falls, Keeps, Stops}
-use Rattle.refinement.specs.Courses.Reply.{Done, Lost_new, Lost_old}
-use Rattle.refinement.specs.Doings.{Act, Change, acted, after_all, changed, effect, first_lines, given_all, gone_line, last_lines, of_node, said, saved_lines, site}
-use Rattle.refinement.specs.Doings.Act.{Makes}
+use Rattle.refinement.specs.Doings.{Change, changed, first_lines}
 use Rattle.refinement.specs.Doings.Change.{Acks, Admits, Commits, Counts, Distrusts, Installs, Leads, Prepares, Promises, Proposes, Sits, Starts}
-use Rattle.refinement.specs.Doings.Doing.{Does, Saves}
-use Rattle.refinement.specs.Guards.{MayAct, MayAll, MayChange}
-use Rattle.refinement.specs.Ties.{Delivered, GoesOn, Known, NodeTied, PresidentTied, SeatTied, setting_of}
-use Rattle.run_history.proofs.Idle.{passing_append}
+use Rattle.refinement.specs.Guards.{MayChange}
+use Rattle.refinement.specs.Ties.{Delivered, NodeTied, PresidentTied, SeatTied, setting_of}
 use Rattle.run_history.proofs.Lists.{both}
-use Rattle.run_history.proofs.Small.{AllSmall, IsSmallAct}
-use Rattle.run_history.specs.Scenes.{Scene, passing, telling}
-use Rattle.run_messages.specs.Laws.{IsSeated, membership_in}
+use Rattle.run_history.specs.Scenes.{Scene, passing}
+use Rattle.run_messages.specs.Laws.{membership_in}
 use Rattle.run_messages.specs.Outputs.{AreGood}
-use Rattle.run_messages.specs.Steps.{AreCollected, Leads as Leads_so, collecting}
-use Rattle.run_messages.proofs.Doings.{collects_after, doing_leads, first_good, then_good}
-use Rattle.run_messages.proofs.Lines.{passing_arrived}
-use Rattle.run_requests.specs.Guards.{ActAsk, ChangeAsk, Command, GoesAsk, hand_act, hand_change}
-use Rattle.run_requests.proofs.Acts.{Before, NoMakes}
+use Rattle.run_requests.specs.Guards.{ChangeAsk, Command}
+use Rattle.run_requests.proofs.Acts.{Before}
 use Rattle.run_requests.proofs.Carried.{IsMute}
-use Rattle.run_requests.proofs.Causes.{PresidentAt, ReadsAnswers, came_stays, president_at}
-use Rattle.run_requests.proofs.Doings.{ActLeaves, act_leaves}
-use Rattle.run_requests.proofs.Leaving.{ChangeLeaves, change_leaves}
-use Rattle.run_requests.proofs.Mute.{AreMute, first_mute, last_mute}
-use Rattle.run_requests.proofs.Plain.{ArePlain, IsPlainOutput, IsSilent, first_plain, last_plain, plains_apart}
-use Rattle.run_requests.proofs.Walk.{Between, before_of, under_last}
-use Rattle.run_answers.specs.Guards.{ActHand, CauseOf, ChangeHand, GoesHand}
-use Rattle.run_answers.specs.Steps.{Frame, Hand, HandIn, NodeSo, ToldSo, Unused, UpSo}
-use Rattle.run_answers.proofs.Acts.{CameHand, Holding, act_holds, came_frame, cause_backed, up_stays}
-use Rattle.run_answers.proofs.Changes.{Bound, begun, promise_rises, takes_first, up_changes, up_proposes, within_begun}
-use Rattle.run_answers.proofs.Frames.{frame_then, passing_frame, told_frame, unused_stays}
-use Rattle.run_answers.proofs.Moves.{Cause, Takes, asked_for, cause_stays}
+use Rattle.run_requests.proofs.Causes.{PresidentAt}
+use Rattle.run_requests.proofs.Mute.{AreMute, first_mute}
+use Rattle.run_requests.proofs.Plain.{ArePlain, IsPlainOutput, IsSilent, first_plain, plains_apart}
+use Rattle.run_answers.specs.Guards.{ChangeHand}
+use Rattle.run_answers.specs.Steps.{Frame, Hand, HandIn, ToldSo, UpSo}
+use Rattle.run_answers.proofs.Acts.{CameHand, Holding, came_frame, cause_backed, up_stays}
+use Rattle.run_answers.proofs.Changes.{Bound, begun, takes_first, up_changes, up_proposes}
+use Rattle.run_answers.proofs.Frames.{passing_frame}
+use Rattle.run_answers.proofs.Moves.{asked_for, cause_stays}
 use Rattle.run_answers.proofs.Saying.{AllSay, passing_told}
 use Rattle.run_answers.proofs.Waiting.{ReadsUpdates}
 
@@ -217,7 +191,7 @@ change_holds S c n told i v o h promised x change rest s reads range may ask han
         let y : UpNode = changed c n x change in
         let first : UpSo S c n (begun s.moments change) (promised_of y) y =
         subst (λ (w : Change). UpSo S c n (begun s.moments w) (promised_of (changed c n x w)) (changed c n x w)) (sym it.is)
-            (up_proposes S c n told i v promised x it.state it.presidency it.text s.moments (subst (λ (w : Change). MayChange c n told x w) it.is may) (subst (λ (w : Change). ChangeHand c i n v x w) it.is hand) bound k.up) in
+        (up_proposes S c n told i v promised x it.state it.presidency it.text s.moments (subst (λ (w : Change). MayChange c n told x w) it.is may) (subst (λ (w : Change). ChangeHand c i n v x w) it.is hand) bound k.up) in
         record {
           up = up_stays S c n (promised_of y) y (begun s.moments change) ms president pass.frame first;
           told = pass.told (told_begun S c n told i v promised x change s.moments may hand k.up k.told);

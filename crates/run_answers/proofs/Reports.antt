@@ -1,89 +1,48 @@
 -- A monitor reports: what it asks waits with the next number, and is no update.
-use Rattle.std.specs.Prelude.{ℕ, ◌+◌, ◌-◌, ◌^◌, ◌≡◌, ◌≤◌, ◌<◌, ◌==◌, ◌&&◌, ◌||◌, ◌++◌, not, All, Bool, true, false, if◌then◌else◌, List, [], ◌∷◌, Option, None, Some, Ok, is_some, slice_get}
-use Rattle.std.specs.List.{AllByRecursion}
-use Rattle.std.proofs.Common.{refl, sym, ap, subst, ◌∙◌, arith}
-use Rattle.admin_words.specs.Commands.{command_of, request_of}
+use Rattle.std.specs.Prelude.{ℕ, ◌+◌, ◌-◌, ◌^◌, ◌≡◌, ◌≤◌, ◌<◌, ◌&&◌, not, All, Bool, true, false, if◌then◌else◌, List, [], ◌∷◌, Option, None, Some, Ok}
+use Rattle.std.proofs.Common.{refl}
+use Rattle.admin_words.specs.Commands.{request_of}
 use Rattle.admin_words.specs.declared.request.Request.TheVariants as wish
 use Rattle.ccr_tables.specs.declared.update.Update.{Update}
 use Rattle.cl_base.specs.declared.command.Ask.{Ask}
-use Rattle.cl_base.specs.declared.method.Outcome as method
 use Rattle.cmm_attempt.specs.Calls.{IsDevice}
-use Rattle.cmm_attempt.proofs.Basics.{and_cases, none_some, same_some}
+use Rattle.cmm_attempt.proofs.Basics.{and_cases}
 use Rattle.cmm_member.specs.Records.{NodeRecord}
-use Rattle.restart_policy.specs.declared.policy.ProbeAction.{ProbeAction}
-use Rattle.request_queue.specs.Queue.{Queue, is_full, next_number, with_number}
-use Rattle.request_queue.specs.declared.request.Request.{Request}
-use Rattle.rgm_member.specs.Probes.{after_probe, probed}
+use Rattle.request_queue.specs.Queue.{is_full, next_number}
+use Rattle.rgm_member.specs.Probes.{after_probe}
 use Rattle.rgm_member.specs.declared.probed.Probed.{Probed}
 use Rattle.rgm_member.specs.declared.probed.Probed.TheVariants as probe
-use Rattle.status_report.specs.declared.command_entry.CommandEntry.TheVariants as command
-use Rattle.status_report.specs.declared.entry.Entry.TheVariants as entry
-use Rattle.status_report.specs.declared.node_entry.DownCause.{DownCause}
-use Rattle.status_report.specs.declared.node_entry.DownCause.TheVariants as down
-use Rattle.status_report.specs.declared.node_entry.NodeEntry.TheVariants as note
 use Rattle.update_words.specs.Words.{ask_words_of}
-use Rattle.history.specs.Contents.{CarriedUpdates}
-use Rattle.history.specs.Member.{member_of}
-use Rattle.history.specs.Moment.{Moment, Told}
-use Rattle.history.specs.Seizing.{is_number}
-use Rattle.history.specs.Setting.{Setting, coordinator}
-use Rattle.history.specs.Trace.{gives as gives_line}
-use Rattle.node_model.specs.Clusters.{first_valid_of}
+use Rattle.history.specs.Moment.{Moment}
+use Rattle.history.specs.Setting.{Setting}
 use Rattle.node_model.specs.Configurations.{own_config}
 use Rattle.node_model.specs.Groups.{asked_by, monitor_asked, report_told, reported, result_of}
-use Rattle.node_model.specs.Requests.{is_idle, numbered}
-use Rattle.node_model.specs.Seats.{is_member, promised_of, session_of, up_with, version_of}
-use Rattle.node_model.specs.Steps.{at_second}
+use Rattle.node_model.specs.Requests.{is_idle}
+use Rattle.node_model.specs.Seats.{is_member, version_of}
 use Rattle.node_model.specs.declared.cluster.Cluster.{Cluster}
 use Rattle.node_model.specs.declared.input.Input.{Input}
-use Rattle.node_model.specs.declared.input.Input.TheVariants as input
-use Rattle.node_model.specs.declared.node.Node.{Node}
-use Rattle.node_model.specs.declared.node.Node.TheVariants.{Down, Up}
+use Rattle.node_model.specs.declared.node.Node.TheVariants.{Up}
 use Rattle.node_model.specs.declared.node.UpNode.{UpNode}
-use Rattle.node_model.specs.declared.output.Output.{Output}
-use Rattle.node_model.specs.declared.seat.Seat.{Seat}
-use Rattle.node_model.specs.declared.seat.Seat.TheVariants.{Forming, Member}
-use Rattle.node_model.specs.declared.output.Output.TheVariants.{Sends, Tells}
 use Rattle.refinement.proofs.Handlers.{delivered_by}
 use Rattle.refinement.specs.Courses.{Course, Reply, under}
 use Rattle.refinement.specs.Courses.Course.{Acts, Stops}
-use Rattle.refinement.specs.Courses.Reply.{Done, Lost_new, Lost_old}
 use Rattle.refinement.specs.Cuts as cuts
 use Rattle.refinement.specs.Cuts.{course_at, down_doings}
-use Rattle.refinement.specs.Doings.{Act, Doing, acted, after_all, given_all, gone_line, of_node, said, site}
-use Rattle.refinement.specs.Doings.Act.{Dates, Gives, Minds, Works}
+use Rattle.refinement.specs.Doings.{Act, after_all, given_all, site}
+use Rattle.refinement.specs.Doings.Act.{Gives, Minds, Works}
 use Rattle.refinement.specs.Doings.Doing.{Does}
 use Rattle.run_history.proofs.Lists.{all_and}
-use Rattle.run_history.specs.Happenings.{IsSaid}
 use Rattle.run_history.specs.Scenes.{Scene, passing}
-use Rattle.run_messages.specs.Laws.{IsSeated, membership_in}
-use Rattle.run_messages.specs.Outputs.{AreGood}
-use Rattle.run_messages.proofs.Doings.{first_good, then_good}
-use Rattle.run_requests.specs.Guards.{ActAsk, Command, GoesAsk, hand_act}
-use Rattle.run_requests.specs.Steps.{Counted}
 use Rattle.run_requests.proofs.Acting.{Goes, Ready, goes_act, ready_act}
-use Rattle.run_requests.proofs.Acts.{NoMakes}
-use Rattle.run_requests.proofs.Boots.{at_first}
-use Rattle.run_requests.proofs.Causes.{CameSo, PresidentAt, ReadsAnswers, president_at}
 use Rattle.run_requests.proofs.Changes.{Changed}
-use Rattle.run_requests.proofs.Commands.{ReadsRequests, command_at, next_is, numbered_so, read_text}
-use Rattle.run_requests.proofs.Counts.{room_left}
+use Rattle.run_requests.proofs.Commands.{next_is}
 use Rattle.run_requests.proofs.Courses as asks
-use Rattle.run_requests.proofs.Leaving as leaving
 use Rattle.run_requests.proofs.Reports.{added_so}
-use Rattle.run_requests.proofs.Walk.{Between, before_of}
-use Rattle.run_answers.specs.Askings.{asked_as}
-use Rattle.run_answers.specs.Guards.{ActHand, GoesHand}
-use Rattle.run_answers.specs.Steps.{Frame, HandIn, IsQuiet, NodeSo, ToldSo, Unused, UpSo}
-use Rattle.run_answers.proofs.Acts.{Holding, act_holds, came_frame}
-use Rattle.run_answers.proofs.Changes.{Bound}
+use Rattle.run_requests.proofs.Walk.{Between}
+use Rattle.run_answers.specs.Steps.{IsQuiet}
+use Rattle.run_answers.proofs.Acts.{Holding}
 use Rattle.run_answers.proofs.Courses as hands
-use Rattle.run_answers.proofs.Frames.{frame_then, hand_more, passing_frame, up_frame, unused_stays}
-use Rattle.run_answers.proofs.Requests.{requests_grow}
-use Rattle.run_answers.proofs.Saying.{passing_told}
-use Rattle.run_answers.proofs.Waiting.{ReadsUpdates}
-use Rattle.run_answers.proofs.Changing.{bound_of}
-use Rattle.run_answers.proofs.Walk.{Left, then_left, walk_left}
+use Rattle.run_answers.proofs.Walk.{Left, then_left}
 use Rattle.run_answers.proofs.Commands.{Reads, hold_act, less_next, walked}
 
 -- ---- a monitor's report

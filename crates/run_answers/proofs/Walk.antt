@@ -1,37 +1,22 @@
 -- A course of a node that is up keeps what is known of requests, under all replies of its disk.
-use Rattle.std.specs.Prelude.{ℕ, zero, suc, ◌+◌, ◌≡◌, ◌≢◌, ◌≤◌, ◌<◌, ◌⊎◌, ◌++◌, All, Bool, true, false, List, [], ◌∷◌, length, Option, None, Some, is_some}
-use Rattle.std.specs.List.{AllByRecursion}
+use Rattle.std.specs.Prelude.{ℕ, ◌≡◌, ◌≤◌, ◌<◌, ◌⊎◌, ◌++◌, All, true, List, [], ◌∷◌, Option, Some, is_some}
 use Rattle.std.proofs.Common.{refl, sym, ap, subst, ◌∙◌, arith, inl, inr}
-use Rattle.ccr_commit.specs.Entries.{texts_of}
-use Rattle.cmm_attempt.specs.Attempts.{AttemptState}
 use Rattle.cmm_attempt.specs.Calls.{IsDevice}
-use Rattle.cmm_attempt.proofs.Basics.{none_some, same_some}
-use Rattle.cmm_member.specs.Nodes.{NodeState}
 use Rattle.cmm_member.specs.Records.{NodeRecord}
 use Rattle.membership_machine.specs.Invariant.{Holds}
 use Rattle.membership_machine.specs.State.{Memberships}
-use Rattle.proposals.specs.declared.arrived.Arrived.{Arrived}
-use Rattle.status_report.specs.declared.entry.Entry.TheVariants as entry
 use Rattle.status_report.specs.declared.node_entry.DownCause.{DownCause}
 use Rattle.status_report.specs.declared.node_entry.NodeEntry.TheVariants as note
-use Rattle.status_report.specs.declared.update_entry.UpdateEntry.TheVariants as update
 use Rattle.history.specs.Member.{in_collect}
-use Rattle.history.specs.Moment.{Moment, Told}
-use Rattle.history.specs.Setting.{Setting, coordinator}
-use Rattle.node_model.specs.Seats.{promised_of, record_of, session_of, state_of}
+use Rattle.history.specs.Setting.{Setting}
+use Rattle.node_model.specs.Seats.{promised_of, record_of, session_of}
 use Rattle.node_model.specs.declared.cluster.Cluster.{Cluster}
 use Rattle.node_model.specs.declared.input.Input.{Input}
-use Rattle.node_model.specs.declared.input.Input.TheVariants.{Packet}
 use Rattle.node_model.specs.declared.node.Node.{Node}
 use Rattle.node_model.specs.declared.node.Node.TheVariants.{Down, Up}
 use Rattle.node_model.specs.declared.node.UpNode.{UpNode}
 use Rattle.node_model.specs.declared.output.Output.{Output}
-use Rattle.node_model.specs.declared.output.Output.TheVariants.{Sends, Tells}
-use Rattle.node_model.specs.declared.presidency.Presidency.{Presidency}
-use Rattle.node_model.specs.declared.seat.Seat.{Seat}
-use Rattle.node_model.specs.declared.seat.Seat.TheVariants.{Forming, Member}
 use Rattle.refinement.proofs.Acts.{does_one}
-use Rattle.refinement.proofs.Changes.{Sees, sees}
 use Rattle.refinement.proofs.Handlers.{delivered_by}
 use Rattle.refinement.proofs.Ties.{known_stays}
 use Rattle.refinement.specs.Courses.{Course, Reply, under}
@@ -39,14 +24,12 @@ use Rattle.refinement.specs.Courses.Course.{Acts, Falls, Keeps, Stops}
 use Rattle.refinement.specs.Courses.Reply.{Done, Lost_new, Lost_old}
 use Rattle.refinement.specs.Doings.{Act, Change, acted, after_all, changed, effect, first_lines, given_all, gone_line, last_lines, of_node, said, saved_lines, site}
 use Rattle.refinement.specs.Doings.Act.{Makes}
-use Rattle.refinement.specs.Doings.Change.{Acks, Admits, Commits, Counts, Distrusts, Installs, Leads, Prepares, Promises, Proposes, Sits, Starts}
 use Rattle.refinement.specs.Doings.Doing.{Does, Saves}
 use Rattle.refinement.specs.Guards.{MayAct, MayAll, MayChange}
-use Rattle.refinement.specs.Ties.{Delivered, GoesOn, Known, NodeTied, PresidentTied, SeatTied, setting_of}
+use Rattle.refinement.specs.Ties.{Delivered, GoesOn, Known, NodeTied, setting_of}
 use Rattle.run_history.proofs.Idle.{passing_append}
-use Rattle.run_history.proofs.Lists.{both}
 use Rattle.run_history.proofs.Small.{AllSmall, IsSmallAct}
-use Rattle.run_history.specs.Scenes.{Scene, passing, telling}
+use Rattle.run_history.specs.Scenes.{Scene, passing}
 use Rattle.run_messages.specs.Laws.{IsSeated, membership_in}
 use Rattle.run_messages.specs.Outputs.{AreGood}
 use Rattle.run_messages.specs.Steps.{AreCollected, Leads as Leads_so, collecting}
@@ -54,20 +37,18 @@ use Rattle.run_messages.proofs.Doings.{collects_after, doing_leads, first_good, 
 use Rattle.run_messages.proofs.Lines.{passing_arrived}
 use Rattle.run_requests.specs.Guards.{ActAsk, ChangeAsk, Command, GoesAsk, hand_act, hand_change}
 use Rattle.run_requests.proofs.Acts.{Before, NoMakes}
-use Rattle.run_requests.proofs.Carried.{IsMute}
 use Rattle.run_requests.proofs.Causes.{PresidentAt, ReadsAnswers, came_stays, president_at}
 use Rattle.run_requests.proofs.Doings.{ActLeaves, act_leaves}
 use Rattle.run_requests.proofs.Leaving.{ChangeLeaves, change_leaves}
-use Rattle.run_requests.proofs.Mute.{AreMute, first_mute, last_mute}
-use Rattle.run_requests.proofs.Plain.{ArePlain, IsPlainOutput, IsSilent, first_plain, last_plain, plains_apart}
+use Rattle.run_requests.proofs.Mute.{last_mute}
+use Rattle.run_requests.proofs.Plain.{last_plain}
 use Rattle.run_requests.proofs.Walk.{Between, before_of, under_last}
-use Rattle.run_answers.specs.Guards.{ActHand, CauseOf, ChangeHand, GoesHand}
-use Rattle.run_answers.specs.Steps.{Frame, Hand, HandIn, NodeSo, ToldSo, Unused, UpSo}
-use Rattle.run_answers.proofs.Acts.{CameHand, Holding, act_holds, came_frame, cause_backed, up_stays}
-use Rattle.run_answers.proofs.Changes.{Bound, begun, promise_rises, takes_first, up_changes, up_proposes, within_begun}
-use Rattle.run_answers.proofs.Frames.{frame_then, passing_frame, told_frame, unused_stays}
-use Rattle.run_answers.proofs.Moves.{Cause, Takes, asked_for, cause_stays}
-use Rattle.run_answers.proofs.Saying.{AllSay, passing_told}
+use Rattle.run_answers.specs.Guards.{ActHand, ChangeHand, GoesHand}
+use Rattle.run_answers.specs.Steps.{NodeSo, ToldSo, UpSo}
+use Rattle.run_answers.proofs.Acts.{Holding, act_holds}
+use Rattle.run_answers.proofs.Changes.{Bound, begun, promise_rises, within_begun}
+use Rattle.run_answers.proofs.Frames.{passing_frame, unused_stays}
+use Rattle.run_answers.proofs.Saying.{passing_told}
 use Rattle.run_answers.proofs.Waiting.{ReadsUpdates}
 use Rattle.run_answers.proofs.Changing.{Passed, bound_of, change_holds, member_some, passed, told_begun}
 
@@ -170,7 +151,7 @@ walk_left S c n i v o (Done ∷ replies) (Keeps change rest) M h last x disk s e
     change_leaves S c M n told i o h x disk change (of_node n note.Saved ∷ []) s holds known tied may.0 goes.0 (inr refl) before in
     let next : Holding S c n i v (promised_of y) y t.moments =
     change_holds S c n told i v o h disk.promised x change (saved_lines c n x change) s reads range may.0 goes.0 hand.0 (bound_of c M n x disk holds tied) (tt, last_plain c n x change) (tt, last_mute c n x change) here
-        (president_at g.machine n y g.tied.1) (member_some c g.machine n y (record_of y) g.holds g.tied) before k in
+    (president_at g.machine n y g.tied.1) (member_some c g.machine n y (record_of y) g.holds g.tied) before k in
     then_left S c n (after_all c n (effect c n (site (Up x) disk) (Saves change)) (under replies rest)).disk.promised (after_all c n (effect c n (site (Up x) disk) (Saves change)) (under replies rest)).node os more s
     (walk_left S c n i v o replies rest g.machine (hand_change x h change) last y (record_of y) t exact reads range fits g.holds (known_stays c M g.machine told holds g.grows known) g.tied may.1 small.1 calm.1
     (collects_after n os s here ∙ at) (then_good n os more good) seat.own goes.1 hand.1

@@ -1,10 +1,9 @@
 -- What a run keeps of requests: of each node, and of what was told.
-use Rattle.std.specs.Prelude.{ℕ, ◌≡◌, ◌≤◌, ◌<◌, ◌&&◌, true, false, List, [], ◌∷◌, Option, None, Some, Ok}
+use Rattle.std.specs.Prelude.{ℕ, ◌≡◌, ◌≤◌, ◌<◌, ◌&&◌, false, List, Option, None, Some, Ok}
 use Rattle.std.specs.List.{AllByRecursion}
 use Rattle.admin_words.specs.Commands.{request_of}
 use Rattle.admin_words.specs.declared.request.Request.TheVariants as wish
 use Rattle.ccr_tables.specs.declared.update.Update.{Update}
-use Rattle.cmm_member.specs.Records.{NodeRecord}
 use Rattle.proposals.specs.State.{State}
 use Rattle.request_queue.specs.declared.request.Request.{Request}
 use Rattle.update_words.specs.Words.{words_of}
