@@ -1,6 +1,8 @@
 pub mod Tally
 pub mod Askings
 pub mod Requests
+pub mod Granting
+pub mod Pending
 pub mod Hands
 pub mod Asides
 pub mod Courses

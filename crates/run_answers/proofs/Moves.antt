@@ -10,12 +10,11 @@ use Rattle.proposals.specs.State.{State, first_in}
 use Rattle.proposals.specs.declared.arrived.Arrived.{Arrived}
 use Rattle.update_words.specs.Words.{words_of}
 use Rattle.history.specs.Moment.{Moment}
-use Rattle.history.specs.Requests.{Request, requests_of, same_words}
+use Rattle.history.specs.Requests.{IsAskedFor, Request, is_proposal_with, requests_of, same_words}
 use Rattle.history.specs.Setting.{Setting}
 use Rattle.history.specs.Trace.{propose}
 use Rattle.node_model.specs.declared.cluster.Cluster.{Cluster}
 use Rattle.node_model.specs.Seats.{version_of}
-use Rattle.run_answers.specs.Asking.{IsAskedFor, is_proposal_with}
 use Rattle.run_answers.specs.Askings.{held, is_it, passes_test, proposals}
 use Rattle.run_answers.specs.Hands.{HandGoes, is_past}
 use Rattle.run_answers.specs.Steps.{Backed, Frame, Hand, past_with}

@@ -32,7 +32,7 @@ use Rattle.history.specs.Letters.{Letter, letter_of, says}
 use Rattle.history.specs.Member.{member_of}
 use Rattle.history.specs.Moment.{Moment, Part, Said, Told}
 use Rattle.history.specs.Names.{named}
-use Rattle.history.specs.Requests.{requests_of}
+use Rattle.history.specs.Requests.{Asked, requests_of}
 use Rattle.history.specs.Setting.{Setting, coordinator}
 use Rattle.history.specs.Trace.{delivered}
 use Rattle.node_model.specs.declared.cluster.Cluster.{Cluster}
@@ -61,7 +61,6 @@ use Rattle.run_requests.proofs.Causes.{ArrivedSo}
 use Rattle.run_requests.proofs.Flying.{arrived_so, flying_stays, removing_posted}
 use Rattle.run_requests.proofs.Kept.{CarriesIn, moment_carries}
 use Rattle.run_requests.proofs.Runs.{FewLines, carries_of, commanded_collects, commanded_knows, commanded_seats, few_before, knows, plain_came, plain_collects, plain_known, quiet_packet, seats_of, told_among}
-use Rattle.run_answers.specs.Asking.{Asked}
 use Rattle.run_answers.specs.Askings.{held, is_it}
 use Rattle.run_answers.specs.Steps.{Backed, LetterSo, NodeSo, ToldSo}
 use Rattle.run_answers.proofs.Askings.{letter_is}

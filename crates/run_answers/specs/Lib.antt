@@ -1,5 +1,4 @@
 -- what a reader must believe
-pub mod Asking
 pub mod Laws
 -- what only the proofs need
 pub mod Askings

@@ -10,7 +10,7 @@ use Rattle.update_words.specs.Words.{words_of}
 use Rattle.wire.specs.declared.message.Body.TheVariants as body
 use Rattle.history.specs.Letters.{Letter, says}
 use Rattle.history.specs.Moment.{Moment}
-use Rattle.history.specs.Requests.{asked_in, requests_of, same_words}
+use Rattle.history.specs.Requests.{Asked, asked_in, requests_of, same_words}
 use Rattle.history.specs.Setting.{Setting, coordinator}
 use Rattle.node_model.specs.declared.cluster.Cluster.{Cluster}
 use Rattle.node_model.specs.declared.node.Node.{Node}
@@ -19,7 +19,6 @@ use Rattle.node_model.specs.declared.node.UpNode.{UpNode}
 use Rattle.node_model.specs.declared.presidency.Presidency.{Presidency}
 use Rattle.node_model.specs.Seats.{session_of, version_of}
 use Rattle.run_messages.specs.Laws.{membership_in}
-use Rattle.run_answers.specs.Asking.{Asked}
 use Rattle.run_answers.specs.Askings.{AskedOnce, LettersAre, Test, asked_as, held, is_it, proposals}
 use Rattle.run_answers.specs.Hands.{Sound, is_past}
 

@@ -1,3 +1,0 @@
-pub mod Tally
-pub mod Askings
-pub mod Requests
