@@ -1,7 +1,7 @@
 -- What the president has in hand, by the lines: what it proposed stays until it is acknowledged, and is answered then.
-use Rattle.std.specs.Prelude.{ℕ, ◌≡◌, ◌≢◌, ◌==◌, ◌&&◌, ◌||◌, Bool, true, false, if◌then◌else◌, List, [], ◌∷◌, Option, None, Some}
+use Rattle.std.specs.Prelude.{ℕ, ◌≡◌, ◌≢◌, ◌==◌, ◌&&◌, ◌||◌, Bool, true, false, if◌then◌else◌, List, ◌∷◌, None, Some}
 use Rattle.std.specs.List.{list_any}
-use Rattle.std.proofs.Common.{refl, sym, ap, subst, ◌∙◌, arith}
+use Rattle.std.proofs.Common.{refl, sym, subst, ◌∙◌, arith}
 use Rattle.status_report.specs.declared.command_entry.CommandEntry.TheVariants as command
 use Rattle.status_report.specs.declared.entry.Entry.TheVariants as entry
 use Rattle.status_report.specs.declared.packet_entry.PacketEntry.TheVariants as packet
@@ -9,7 +9,7 @@ use Rattle.status_report.specs.declared.start_entry.StartEntry.TheVariants as st
 use Rattle.status_report.specs.declared.update_entry.UpdateEntry.TheVariants as update
 use Rattle.history.specs.Moment.{Moment, Told}
 use Rattle.history.specs.Names.{named}
-use Rattle.history.specs.Requests.{Proposal, in_hand, is_ack, is_answer, left_by_answer, same_words}
+use Rattle.history.specs.Requests.{Proposal, in_hand, is_ack, is_answer, left_by_answer}
 use Rattle.history.specs.Setting.{coordinator}
 use Rattle.history.specs.Trace.{ack, propose}
 use Rattle.run_answers.proofs.Askings.{is_equal, is_same, split_if, true_two, two_true}
