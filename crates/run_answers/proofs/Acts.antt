@@ -1,14 +1,11 @@
 -- Each act of a node keeps what is known of its requests.
-use Rattle.std.specs.Prelude.{ℕ, ◌≡◌, ◌≤◌, ◌<◌, ◌==◌, ◌++◌, Bool, true, false, if◌then◌else◌, List, [], ◌∷◌, Option, None, Some, Ok, is_some, option_map}
+use Rattle.std.specs.Prelude.{ℕ, ◌≡◌, ◌≤◌, ◌<◌, ◌==◌, true, false, List, [], ◌∷◌, Option, None, Some, Ok, is_some, option_map}
 use Rattle.std.specs.List.{AllByRecursion}
 use Rattle.std.proofs.Common.{refl, sym, ap, subst, ◌∙◌, inl, inr}
-use Rattle.admin_words.specs.Commands.{request_of}
-use Rattle.admin_words.specs.declared.request.Request.TheVariants as wish
-use Rattle.ccr_tables.specs.declared.update.Update.{Update}
 use Rattle.cl_base.specs.Limits.{most_nodes}
 use Rattle.cl_base.specs.Numbers.{numbers_to}
 use Rattle.cl_base.specs.Sets.{has}
-use Rattle.cmm_attempt.proofs.Basics.{and_cases, if_either, same_some}
+use Rattle.cmm_attempt.proofs.Basics.{if_either, same_some}
 use Rattle.device_queue.specs.Queue.{after_seize}
 use Rattle.heartbeats.specs.Views.{receivers_of}
 use Rattle.pgr_device.specs.declared.command.PrAnswer.TheVariants as given
@@ -23,13 +20,12 @@ use Rattle.seize.specs.Answers.{Answer}
 use Rattle.seize.specs.Seizing as seizing
 use Rattle.wire.specs.declared.message.Body.{Body}
 use Rattle.wire.specs.declared.message.Body.TheVariants as body
-use Rattle.history.specs.Member.{member_of}
 use Rattle.history.specs.Moment.{Moment}
 use Rattle.history.specs.Setting.{Setting, coordinator}
 use Rattle.node_model.specs.Configurations.{configured_at}
-use Rattle.node_model.specs.Presidents.{own_arrival, sent_to}
-use Rattle.node_model.specs.Seats.{coordinator_of, record_of, session_of, version_of}
-use Rattle.node_model.specs.Ticks.{heartbeat_of, heartbeats_to, later, ticked_output}
+use Rattle.node_model.specs.Presidents.{sent_to}
+use Rattle.node_model.specs.Seats.{coordinator_of, record_of, session_of}
+use Rattle.node_model.specs.Ticks.{heartbeat_of, heartbeats_to, later}
 use Rattle.node_model.specs.Updates.{later_presidency, request_again, request_again_by, request_again_to}
 use Rattle.node_model.specs.declared.cluster.Cluster.{Cluster}
 use Rattle.node_model.specs.declared.input.Input.{Input}
@@ -56,7 +52,7 @@ use Rattle.run_requests.proofs.Causes.{PresidentAt}
 use Rattle.run_requests.proofs.Doings.{plain_act}
 use Rattle.run_requests.proofs.Plain.{ArePlain, plains_apart}
 use Rattle.run_requests.proofs.Queues.{Queued}
-use Rattle.run_answers.specs.Guards.{ActHand, BodyHand, CauseOf, IsOwn, IsRequested, OutputHand, PresidencyGoes}
+use Rattle.run_answers.specs.Guards.{ActHand, BodyHand, CauseOf, OutputHand, PresidencyGoes}
 use Rattle.run_answers.specs.Steps.{Backed, Frame, Hand, HandIn, IsQuiet, ToldSo, Unused, UpSo}
 use Rattle.run_answers.proofs.Asides.{of_member}
 use Rattle.run_answers.proofs.Frames.{backed_stays, hand_stays, passing_frame, unused_stays}

@@ -3,7 +3,6 @@ use Rattle.std.specs.Prelude.{ℕ, ◌≡◌, ◌==◌, ◌&&◌, nat_le, Bool, 
 use Rattle.std.specs.List.{AllByRecursion}
 use Rattle.std.proofs.Common.{refl, sym, ap, subst, ◌∙◌, inl, inr}
 use Rattle.admin_commands.specs.Answers.{unless_refused}
-use Rattle.admin_commands.specs.declared.accepted.Accepted.{Accepted}
 use Rattle.admin_commands.specs.declared.accepted.Accepted.TheVariants as accepted
 use Rattle.admin_words.specs.declared.error.WordError.{WordError}
 use Rattle.ccr_tables.specs.State.{ConfigState}
@@ -16,8 +15,8 @@ use Rattle.cl_base.specs.declared.method.Method.{Method}
 use Rattle.cl_base.specs.declared.method.Outcome.{Outcome}
 use Rattle.cl_base.specs.declared.refusal.Refusal.{Refusal}
 use Rattle.cmm_attempt.proofs.Basics.{and_cases, if_either, same_number}
-use Rattle.proposals.specs.Arrivals.{after_kept, answered, arrival_of, with_arrival}
-use Rattle.proposals.specs.State.{State, kept_at}
+use Rattle.proposals.specs.Arrivals.{answered, arrival_of, with_arrival}
+use Rattle.proposals.specs.State.{State}
 use Rattle.proposals.specs.declared.arrived.Arrival.{Arrival}
 use Rattle.proposals.specs.declared.arrived.Arrival.TheVariants.{Answered, New, Past, Waits}
 use Rattle.proposals.specs.declared.arrived.Arrived.{Arrived}
@@ -48,11 +47,11 @@ use Rattle.node_model.specs.declared.output.Output.TheVariants.{Tells}
 use Rattle.node_model.specs.declared.presidency.Presidency.{Presidency}
 use Rattle.node_model.specs.declared.seat.Seat.{Seat}
 use Rattle.node_model.specs.declared.seat.Seat.TheVariants.{Forming, Member}
-use Rattle.refinement.specs.Cuts.{in_hand, left_by_answer}
+use Rattle.refinement.specs.Cuts.{left_by_answer}
 use Rattle.run_history.proofs.Lists.{both, mapped, of_each}
 use Rattle.run_messages.specs.Laws.{membership_in}
 use Rattle.run_requests.proofs.Asides.{IsOtherBody}
-use Rattle.run_answers.specs.Guards.{BodyHand, CauseOf, IsIn, IsOwn, OutputHand, PresidencyGoes}
+use Rattle.run_answers.specs.Guards.{BodyHand, CauseOf, IsIn, OutputHand, PresidencyGoes}
 use Rattle.run_answers.specs.Hands.{HandGoes, Stays_or_comes}
 
 abbrev pub AllHand : UpNode → List Output → Type 0

@@ -10,7 +10,7 @@ use Rattle.schedule_text.specs.declared.event.Event.TheVariants as event
 use Rattle.schedule_text.specs.declared.line.Line.TheVariants as line
 use Rattle.history.specs.Letters.{Letter, letter_of}
 use Rattle.history.specs.Member.{member_of}
-use Rattle.history.specs.Moment.{Moment, Part, Said, Told}
+use Rattle.history.specs.Moment.{Moment, Said, Told}
 use Rattle.history.specs.Names.{named}
 use Rattle.history.specs.Order.{before_last, since}
 use Rattle.history.specs.Requests.{asked_in, before_asking, command_before, is_asking, words_before}

@@ -1,17 +1,16 @@
 -- Each change of a node keeps what is known of its requests.
-use Rattle.std.specs.Prelude.{ℕ, ◌+◌, ◌≡◌, ◌≤◌, ◌<◌, ◌==◌, ◌&&◌, Bool, true, false, cond, List, [], ◌∷◌, ◌++◌, length, replicate, Option, None, Some, is_some}
+use Rattle.std.specs.Prelude.{ℕ, ◌+◌, ◌≡◌, ◌≤◌, ◌<◌, ◌==◌, ◌&&◌, Bool, true, false, cond, List, [], ◌∷◌, length, replicate, Option, None, Some, is_some}
 use Rattle.std.specs.List.{AllByRecursion}
 use Rattle.std.proofs.Common.{refl, sym, ap, subst, ◌∙◌, arith}
 use Rattle.std.proofs.lemmas.List.{length-replicate}
-use Rattle.ccr_commit.specs.Entries.{EntryList, all_committed, texts_of, with_next}
+use Rattle.ccr_commit.specs.Entries.{all_committed, texts_of, with_next}
 use Rattle.cl_base.specs.Sets.{set_without}
 use Rattle.cmm_attempt.specs.Attempts.{AttemptState}
 use Rattle.cmm_attempt.proofs.Basics.{none_some, same_some}
 use Rattle.cmm_member.specs.Nodes.{NodeState, with_entries, with_joined, with_valid}
-use Rattle.proposals.specs.State.{State, nothing_yet}
+use Rattle.proposals.specs.State.{nothing_yet}
 use Rattle.proposals.specs.declared.arrived.Arrived.{Arrived}
 use Rattle.proposals.specs.declared.arrived.Kept.{Kept}
-use Rattle.request_queue.specs.Queue.{Queue}
 use Rattle.history.specs.Moment.{Moment}
 use Rattle.history.specs.Requests.{requests_of, same_words}
 use Rattle.history.specs.Setting.{Setting, coordinator}
@@ -36,7 +35,7 @@ use Rattle.run_requests.proofs.Causes.{PresidentAt}
 use Rattle.run_requests.proofs.Changes.{state_with}
 use Rattle.run_requests.proofs.Plain.{IsSilent}
 use Rattle.run_answers.specs.Askings.{asked_as, held, proposals}
-use Rattle.run_answers.specs.Guards.{CauseOf, ChangeHand, IsOfFirst}
+use Rattle.run_answers.specs.Guards.{CauseOf, ChangeHand}
 use Rattle.run_answers.specs.Steps.{Hand, HandIn, IsQuiet, Unused, UpSo, past_with}
 use Rattle.run_answers.proofs.Acts.{queue_quiet}
 use Rattle.run_answers.proofs.Moves.{Cause, Takes, hand_goes, hand_proposes}

@@ -95,7 +95,6 @@ use Rattle.refinement.specs.Doings.{Change, acted, answered_so, changed, going}
 use Rattle.refinement.specs.Doings.Act.{Gives}
 use Rattle.refinement.specs.Doings.Change.{Counts, Installs, Leads, Sits, Starts}
 use Rattle.std.specs.List.{AllByRecursion}
-use Rattle.std.specs.Option.{option_map}
 use Rattle.cmm_attempt.specs.Calls.{May}
 use Rattle.node_model.specs.Attempts.{promise_of, resting}
 use Rattle.node_model.specs.Presidents.{orders_for}

@@ -19,22 +19,19 @@ use Rattle.wire.specs.Spelling.{spelling}
 use Rattle.wire.specs.declared.message.Message.{Message}
 use Rattle.history.specs.Member.{member_of}
 use Rattle.history.specs.Moment.{Moment, Part, Said, Told}
-use Rattle.history.specs.Requests.{requests_of, same_words}
+use Rattle.history.specs.Requests.{is_proposal_with, requests_of, same_words}
 use Rattle.history.specs.Seizing.{is_number}
 use Rattle.history.specs.Setting.{Setting, coordinator}
 use Rattle.node_model.specs.declared.cluster.Cluster.{Cluster}
-use Rattle.node_model.specs.declared.node.UpNode.{UpNode}
 use Rattle.node_model.specs.declared.output.Output.{Output}
 use Rattle.node_model.specs.declared.output.Output.TheVariants.{Sends, Tells}
 use Rattle.node_model.specs.declared.presidency.Presidency.{Presidency}
-use Rattle.node_model.specs.Seats.{session_of}
 use Rattle.proposals.specs.declared.arrived.Arrived.{Arrived}
 use Rattle.world_model.specs.Sends.{is_sent, name_of}
 use Rattle.run_history.specs.Scenes.{Scene, dropped_so, passing, posting, sent_as, telling, with_links}
 use Rattle.run_requests.proofs.Lines.{AreApart, IsApart}
-use Rattle.history.specs.Requests.{is_proposal_with}
 use Rattle.run_answers.specs.Askings.{Test, asked_as, held, proposals, tally}
-use Rattle.run_answers.specs.Steps.{Backed, Frame, Hand, HandIn, Unused, UpSo, past_with}
+use Rattle.run_answers.specs.Steps.{Backed, Frame, HandIn, Unused, past_with}
 use Rattle.run_answers.proofs.Requests.{requests_grow}
 use Rattle.run_answers.proofs.Tally.{le_same, le_then, tally_counts}
 

@@ -1,16 +1,15 @@
 -- What a president has in hand stays sound, and what is past stays past.
-use Rattle.std.specs.Prelude.{ℕ, ◌+◌, ◌-◌, ◌≡◌, ◌≢◌, ◌≤◌, ◌<◌, ◌⊎◌, ◌==◌, ◌&&◌, ◌||◌, nat_le, nat_lt, Bool, true, false, if◌then◌else◌, List, [], ◌∷◌, ◌++◌, length, Option, None, Some, is_some, slice_set, slice_index_or}
+use Rattle.std.specs.Prelude.{ℕ, ◌-◌, ◌≡◌, ◌≢◌, ◌≤◌, ◌<◌, ◌⊎◌, ◌==◌, ◌&&◌, ◌||◌, nat_le, nat_lt, Bool, true, false, if◌then◌else◌, List, [], ◌∷◌, ◌++◌, length, Option, None, Some, is_some, slice_set, slice_index_or}
 use Rattle.std.specs.List.{AllByRecursion, list_any}
 use Rattle.std.proofs.Common.{refl, sym, ap, subst, ◌∙◌, arith, inl, inr}
 use Rattle.std.proofs.lemmas.List.{get_or-set_other, get_or-set_same, length-set}
 use Rattle.proposals.specs.Arrivals.{after_kept, answer_first, answered, arrival_of, is_from, waits_or_is_new, with_arrival}
 use Rattle.proposals.specs.Proposing.{proposing}
 use Rattle.proposals.specs.State.{State, first_in, kept_at}
-use Rattle.proposals.specs.declared.arrived.Arrival.{Arrival}
 use Rattle.proposals.specs.declared.arrived.Arrival.TheVariants.{Answered as Answered_last, New, Past, Waits}
 use Rattle.proposals.specs.declared.arrived.Arrived.{Arrived}
 use Rattle.proposals.specs.declared.arrived.Kept.{Kept}
-use Rattle.run_answers.specs.Hands.{Answers, AreApart, Comes, HandGoes, IsLater, SameHand, Sound, Stays_or_comes, is_past, is_reached, is_taken}
+use Rattle.run_answers.specs.Hands.{AreApart, HandGoes, IsLater, SameHand, Sound, Stays_or_comes, is_past, is_reached, is_taken}
 use Rattle.run_answers.proofs.Askings.{is_equal, is_same, true_two, two_true}
 
 or_left : (a b : Bool) → a ≡ true → (a || b) ≡ true

@@ -1,11 +1,9 @@
 -- What is known of requests stays with each step of a node, and with each moment in which no node does anything.
-use Rattle.std.specs.Prelude.{ℕ, ◌≡◌, ◌≢◌, ◌≤◌, ◌<◌, ◌^◌, ◌⊎◌, ◌==◌, All, true, List, [], ◌∷◌, length, Option, None, Some, is_some}
-use Rattle.std.specs.List.{AllByRecursion}
-use Rattle.std.proofs.Common.{refl, sym, ap, subst, ◌∙◌, inl, inr}
+use Rattle.std.specs.Prelude.{ℕ, ◌≡◌, ◌≢◌, ◌≤◌, ◌<◌, ◌^◌, ◌⊎◌, All, List, [], length}
+use Rattle.std.proofs.Common.{sym, subst, inl, inr}
 use Rattle.cl_base.specs.declared.method.Outcome as method
 use Rattle.cmm_attempt.specs.Calls.{IsDevice}
 use Rattle.cmm_member.specs.Records.{NodeRecord}
-use Rattle.interconnect.specs.Links.{Links}
 use Rattle.machine_base.specs.Put.{put}
 use Rattle.machine_base.proofs.Puts.{put_here, put_there, same_or_not}
 use Rattle.membership_machine.specs.Invariant.{Holds}
@@ -18,8 +16,6 @@ use Rattle.node_model.specs.declared.cluster.Cluster.{Cluster}
 use Rattle.node_model.specs.declared.input.Input.{Input}
 use Rattle.node_model.specs.declared.node.Node.{Node}
 use Rattle.node_model.specs.declared.node.Node.TheVariants.{Down, Up}
-use Rattle.node_model.specs.declared.node.UpNode.{UpNode}
-use Rattle.node_model.specs.declared.output.Output.{Output}
 use Rattle.node_model.specs.Steps.{Outcome, stepped}
 use Rattle.record_disk.specs.Disks.{DiskState}
 use Rattle.refinement.specs.Courses.{Reply}
@@ -49,7 +45,8 @@ use Rattle.run_requests.proofs.Reports.{Stepped}
 use Rattle.run_answers.specs.Steps.{Frame, NodeSo, ToldSo}
 use Rattle.run_answers.proofs.Acts.{CameHand, up_stays}
 use Rattle.run_answers.proofs.Frames.{passing_frame, unused_stays}
-use Rattle.run_answers.proofs.Steps.{Reads, down_left, up_left}
+use Rattle.run_answers.proofs.Commands.{Reads}
+use Rattle.run_answers.proofs.Steps.{down_left, up_left}
 use Rattle.run_answers.proofs.Walk.{Left}
 
 pub record Keeps (S : Setting) (c : Cluster) (v : Nodes) (ms : List Moment) : Type 0 where

@@ -1,5 +1,5 @@
 -- The setting of a header reads updates as its nodes do, and a monitor asks for none, so the law holds of it.
-use Rattle.std.specs.Prelude.{ℕ, ◌≡◌, ◌∷◌, ◌++◌, Bool, true, false, if◌then◌else◌, List, [], Option, None, Some, Result, Ok, Err, codes}
+use Rattle.std.specs.Prelude.{ℕ, ◌≡◌, ◌∷◌, ◌++◌, Bool, true, false, if◌then◌else◌, List, [], Some, Result, Ok, Err, codes}
 use Rattle.std.specs.Str.{bytes_eq}
 use Rattle.std.proofs.Common.{refl, sym, ap, subst, ◌∙◌}
 use Rattle.admin_words.specs.Answers.{Spelled}
@@ -26,7 +26,7 @@ use Rattle.world_model.specs.First.{first_cluster}
 use Rattle.run_requests.proofs.Laws as requests
 use Rattle.run_answers.specs.Laws.{AskedOfEachRun}
 use Rattle.run_answers.proofs.Runs.{asked_in_each}
-use Rattle.run_answers.proofs.Steps.{Reads}
+use Rattle.run_answers.proofs.Commands.{Reads}
 use Rattle.run_answers.proofs.Waiting.{ReadsUpdates}
 
 -- ---- what is read as an update is a command

@@ -1,6 +1,8 @@
 pub mod Tally
 pub mod Askings
 pub mod Requests
+pub mod Granting
+pub mod Pending
 pub mod Hands
 pub mod Asides
 pub mod Courses
@@ -10,7 +12,10 @@ pub mod Saying
 pub mod Moves
 pub mod Acts
 pub mod Changes
+pub mod Changing
 pub mod Walk
+pub mod Commands
+pub mod Reports
 pub mod Steps
 pub mod Kept
 pub mod Runs

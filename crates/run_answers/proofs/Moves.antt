@@ -1,6 +1,6 @@
 -- A president's hand goes on, and an update is proposed.
-use Rattle.std.specs.Prelude.{ℕ, ◌+◌, ◌≡◌, ◌≤◌, ◌<◌, ◌==◌, ◌&&◌, Bool, true, false, cond, List, [], ◌∷◌, Option, None, Some, Ok}
-use Rattle.std.specs.List.{AllByRecursion, count_by}
+use Rattle.std.specs.Prelude.{ℕ, ◌+◌, ◌≡◌, ◌≤◌, ◌<◌, ◌==◌, ◌&&◌, Bool, true, false, cond, List, [], ◌∷◌, None, Some, Ok}
+use Rattle.std.specs.List.{count_by}
 use Rattle.std.proofs.Common.{refl, sym, ap, subst, ◌∙◌, arith}
 use Rattle.admin_words.specs.Commands.{request_of}
 use Rattle.admin_words.specs.declared.request.Request.TheVariants as wish
@@ -10,20 +10,19 @@ use Rattle.proposals.specs.State.{State, first_in}
 use Rattle.proposals.specs.declared.arrived.Arrived.{Arrived}
 use Rattle.update_words.specs.Words.{words_of}
 use Rattle.history.specs.Moment.{Moment}
-use Rattle.history.specs.Requests.{Request, requests_of, same_words}
+use Rattle.history.specs.Requests.{IsAskedFor, Request, is_proposal_with, requests_of, same_words}
 use Rattle.history.specs.Setting.{Setting}
 use Rattle.history.specs.Trace.{propose}
 use Rattle.node_model.specs.declared.cluster.Cluster.{Cluster}
 use Rattle.node_model.specs.Seats.{version_of}
-use Rattle.history.specs.Requests.{IsAskedFor, is_proposal_with}
-use Rattle.run_answers.specs.Askings.{held, is_it, passes_test, proposals, tally}
-use Rattle.run_answers.specs.Hands.{HandGoes, Sound, is_past}
+use Rattle.run_answers.specs.Askings.{held, is_it, passes_test, proposals}
+use Rattle.run_answers.specs.Hands.{HandGoes, is_past}
 use Rattle.run_answers.specs.Steps.{Backed, Frame, Hand, past_with}
 use Rattle.run_answers.proofs.Askings.{is_equal, is_same, true_two, two_true}
 use Rattle.run_answers.proofs.Frames.{backed_stays, count_proposals}
 use Rattle.run_answers.proofs.Hands.{InRange, first_of, first_taken, first_waits, goes_all, goes_past, goes_sound, proposing_past, proposing_sound}
 use Rattle.run_answers.proofs.Requests.{words_equal}
-use Rattle.run_answers.proofs.Tally.{le_same, le_then, tally_both, tally_counts, tally_wider}
+use Rattle.run_answers.proofs.Tally.{le_then, tally_both, tally_counts, tally_wider}
 
 -- what comes is backed, and from a node
 pub record Cause (S : Setting) (c : Cluster) (e : ℕ) (ms : List Moment) (a : Arrived) : Type 0 where
@@ -72,7 +71,7 @@ proposed_counts S c e place missing text ms s w takes h true is =
     let same : words_of takes.update ≡ w = sym takes.words ∙ words_equal text w (two_true (e == e) (same_words text w) is).1 in
     let one : 1 ≤ held (is_it a.from a.number w) (requests_of S e ms) =
     subst (λ z. 1 ≤ held (is_it a.from a.number z) (requests_of S e ms)) same
-        (first_of (λ z. Backed S c e ms z.from z.number z.text) s a h.backed takes.first takes.update takes.read) in
+    (first_of (λ z. Backed S c e ms z.from z.number z.text) s a h.backed takes.first takes.update takes.read) in
     count_up (held (past_with s w) (requests_of S e ms)) (held (is_it a.from a.number w) (requests_of S e ms)) _
     (tally_both (passes_test (past_with s w)) (passes_test (is_it a.from a.number w)) (passes_test (past_with t w)) (requests_of S e ms)
     (λ (r : Request) so. let two : _ = two_true (is_past s r.node r.number) (same_words r.words w) so in

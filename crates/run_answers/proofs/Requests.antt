@@ -1,5 +1,5 @@
 -- Which requests have come: none is lost, each has the words of its command, and each that comes is among them.
-use Rattle.std.specs.Prelude.{ℕ, ◌+◌, ◌≡◌, ◌≤◌, ◌==◌, ◌&&◌, ◌||◌, Bool, true, false, if◌then◌else◌, cond, List, [], ◌∷◌, ◌++◌, Option, None, Some, map}
+use Rattle.std.specs.Prelude.{ℕ, ◌≡◌, ◌≤◌, ◌==◌, ◌&&◌, ◌||◌, Bool, true, false, if◌then◌else◌, List, [], ◌∷◌, ◌++◌, Option, None, Some}
 use Rattle.std.specs.List.{AllByRecursion, list_any}
 use Rattle.std.proofs.Common.{refl, sym, ap, subst, ◌∙◌, arith}
 use Rattle.status_report.specs.declared.command_entry.CommandEntry.TheVariants as command
@@ -7,14 +7,14 @@ use Rattle.status_report.specs.declared.entry.Entry.TheVariants as entry
 use Rattle.status_report.specs.declared.packet_entry.PacketEntry.TheVariants as packet
 use Rattle.history.specs.Letters.{Letter, letter_of}
 use Rattle.history.specs.Member.{member_of}
-use Rattle.history.specs.Moment.{Moment, Part, Said, Told}
+use Rattle.history.specs.Moment.{Moment, Told}
 use Rattle.history.specs.Names as name
 use Rattle.history.specs.Names.{Name, named}
-use Rattle.history.specs.Requests.{Answered, Granted, Request, Stage, Waiting, answered_by, answered_in, asked_in, closed, command_before, is_request_of, number_asked, requests_of, same_words, with_asked, with_letter, with_request}
+use Rattle.history.specs.Requests.{Request, Stage, Waiting, answered_by, answered_in, asked_in, closed, command_before, is_request_of, number_asked, requests_of, same_words, with_asked, with_letter, with_request}
 use Rattle.history.specs.Seizing.{is_number}
 use Rattle.history.specs.Setting.{Setting, coordinator}
 use Rattle.history.specs.Trace.{asked, delivered}
-use Rattle.run_answers.specs.Askings.{AskedOnce, Test, held, is_it, passes_test, tally, text_asked}
+use Rattle.run_answers.specs.Askings.{AskedOnce, Test, held, is_it, passes_test, text_asked}
 use Rattle.run_answers.proofs.Askings.{asked_text, is_equal, is_numbered, is_same, letter_text, split_if, text_stays, true_two, two_true}
 use Rattle.run_answers.proofs.Tally.{le_is, le_same, one_here, one_there, tally_map, tally_more}
 
@@ -143,7 +143,7 @@ worded S e (_ ∷ ms) once = worded S e ms once.1
 
 -- ---- each that comes is among them
 
-words_same : (w : List ℕ) → same_words w w ≡ true
+pub words_same : (w : List ℕ) → same_words w w ≡ true
 words_same [] = refl
 words_same (x ∷ xs) = true_two (x == x) (same_words xs xs) (is_same x) (words_same xs)
 
@@ -202,7 +202,7 @@ own_comes S n q e w (Told (entry.Command (command.Asked m r)) ∷ ms) once own h
         let by : r ≡ q = is_equal r q same.1 in
         let test : ((m == coordinator e) && is_number e (member_of m ms)) ≡ true =
         true_two (m == coordinator e) (is_number e (member_of m ms)) (ap (λ z. z == coordinator e) at ∙ (ap (λ z. z == coordinator e) own ∙ is_same (coordinator e)))
-            (ap (λ z. is_number e (member_of z ms)) at ∙ two.1) in
+        (ap (λ z. is_number e (member_of z ms)) at ∙ two.1) in
         among (texts S e (asked m r ∷ ms)) n q w (requests_of S e (asked m r ∷ ms)) all
         (subst (λ (z : List Request). list_any (is_request_of n q) z ≡ true)
         (sym (if_yes ((m == coordinator e) && is_number e (member_of m ms)) (with_request m r (command_before S ms) (requests_of S e ms)) (requests_of S e ms) test))

@@ -1,16 +1,12 @@
 -- Each thing that happens keeps what is known of requests; so does each run.
-use Rattle.std.specs.Prelude.{ℕ, ◌-◌, ◌≡◌, ◌≢◌, ◌≤◌, ◌<◌, ◌^◌, ◌⊎◌, ◌==◌, All, List, [], ◌∷◌, length, Option, None, Some, Ok, slice_get}
+use Rattle.std.specs.Prelude.{ℕ, ◌-◌, ◌≡◌, ◌≢◌, ◌≤◌, ◌⊎◌, ◌==◌, All, List, [], ◌∷◌, Option, None, Some, slice_get}
 use Rattle.std.specs.List.{AllByRecursion}
 use Rattle.std.proofs.Common.{refl, sym, ap, subst, ◌∙◌, inl, inr}
-use Rattle.admin_words.specs.Commands.{request_of}
-use Rattle.admin_words.specs.declared.request.Request.TheVariants as wish
-use Rattle.ccr_tables.specs.declared.update.Update.{Update}
 use Rattle.cl_base.specs.declared.header.Header.{Header}
-use Rattle.cl_base.specs.declared.method.Outcome as method
 use Rattle.cl_base.specs.declared.packet.DropCause.{DropCause}
 use Rattle.cl_base.specs.declared.packet.DropCause.TheVariants as drop
 use Rattle.cmm_attempt.specs.Calls.{IsDevice}
-use Rattle.cmm_attempt.proofs.Basics.{none_some, same_some}
+use Rattle.cmm_attempt.proofs.Basics.{same_some}
 use Rattle.interconnect.specs.Links as links
 use Rattle.interconnect.specs.Links.{Packet, packet_of, sending}
 use Rattle.machine_base.specs.Put.{put}
@@ -35,29 +31,24 @@ use Rattle.wire.specs.declared.message.Message.{Message}
 use Rattle.history.specs.Letters.{Letter, letter_of, says}
 use Rattle.history.specs.Member.{member_of}
 use Rattle.history.specs.Moment.{Moment, Part, Said, Told}
-use Rattle.history.specs.Names as name
 use Rattle.history.specs.Names.{named}
-use Rattle.history.specs.Requests.{requests_of}
+use Rattle.history.specs.Requests.{Asked, requests_of}
 use Rattle.history.specs.Setting.{Setting, coordinator}
 use Rattle.history.specs.Trace.{delivered}
-use Rattle.node_model.specs.Seats.{version_of}
 use Rattle.node_model.specs.declared.cluster.Cluster.{Cluster}
 use Rattle.node_model.specs.declared.input.Input.{Input}
 use Rattle.node_model.specs.declared.input.Input.TheVariants as input
 use Rattle.node_model.specs.declared.node.Node.{Node}
 use Rattle.node_model.specs.declared.node.Node.TheVariants.{Down, Up}
-use Rattle.node_model.specs.declared.node.UpNode.{UpNode}
-use Rattle.refinement.proofs.Handlers.{delivered_by}
 use Rattle.refinement.proofs.Worlds.{all_found}
-use Rattle.refinement.specs.Runs.{IsAmong, Letter as Sent, Nodes}
-use Rattle.refinement.specs.Ties.{Known}
+use Rattle.refinement.specs.Runs.{IsAmong, Letter as Sent}
 use Rattle.refinement.specs.Widths.{LetterFits}
 use Rattle.wire.specs.Spelling.{IsNode as IsSender}
 use Rattle.world_model.specs.First.{first_cluster}
 use Rattle.world_model.specs.Lines.{left_by}
 use Rattle.world_model.specs.Sends.{name_of}
 use Rattle.run_history.specs.Causes.{Posted}
-use Rattle.run_history.specs.Happenings.{Arrives, Begins, Commands, Happening, IsPlain, Loses, MayAllHappen, MayHappen, Misses, Notes, Refuses, Repeats, Speaks, Strays, Takes, Writes, all_happened, armed_by, commanded, commanded_at, happened, removed, taking}
+use Rattle.run_history.specs.Happenings.{Arrives, Begins, Commands, Happening, IsPlain, Loses, MayAllHappen, MayHappen, Misses, Notes, Refuses, Repeats, Speaks, Strays, Takes, Writes, all_happened, armed_by, commanded, commanded_at, happened, removed}
 use Rattle.run_history.specs.Scenes.{Scene, adding, dropped_so, first_scene, telling, with_links}
 use Rattle.run_history.specs.Stages.{Stage}
 use Rattle.run_history.proofs.ContactFlying.{number_found}
@@ -65,21 +56,18 @@ use Rattle.run_history.proofs.MemberRuns.{first_fit}
 use Rattle.run_messages.proofs.Collecting.{arrival_collects}
 use Rattle.run_messages.proofs.Reaching.{IsReached, IsSmall, holds_of_each, stage_of, taking_good}
 use Rattle.run_messages.proofs.Runs.{Knows}
-use Rattle.run_messages.specs.Laws.{AreSeated, IsSeated, membership_at, membership_in}
+use Rattle.run_messages.specs.Laws.{AreSeated, membership_at}
 use Rattle.run_requests.proofs.Causes.{ArrivedSo}
 use Rattle.run_requests.proofs.Flying.{arrived_so, flying_stays, removing_posted}
-use Rattle.run_requests.proofs.Kept.{Carries, CarriesIn, moment_carries}
+use Rattle.run_requests.proofs.Kept.{CarriesIn, moment_carries}
 use Rattle.run_requests.proofs.Runs.{FewLines, carries_of, commanded_collects, commanded_knows, commanded_seats, few_before, knows, plain_came, plain_collects, plain_known, quiet_packet, seats_of, told_among}
-use Rattle.run_requests.proofs.Steps as requests
-use Rattle.history.specs.Requests.{Asked}
 use Rattle.run_answers.specs.Askings.{held, is_it}
 use Rattle.run_answers.specs.Steps.{Backed, LetterSo, NodeSo, ToldSo}
-use Rattle.run_answers.proofs.Acts.{CameHand}
 use Rattle.run_answers.proofs.Askings.{letter_is}
 use Rattle.run_answers.proofs.Frames.{dropped_frame, packet_frame, part_frame, said_frame, told_frame}
-use Rattle.run_answers.proofs.Kept.{CameAt, Keeps, KeepsIn, moment_keeps, taking_keeps}
+use Rattle.run_answers.proofs.Kept.{CameAt, KeepsIn, moment_keeps, taking_keeps}
 use Rattle.run_answers.proofs.Requests.{other_comes}
-use Rattle.run_answers.proofs.Steps.{Reads}
+use Rattle.run_answers.proofs.Commands.{Reads}
 
 -- ---- a packet comes to a node
 
@@ -188,7 +176,7 @@ happening_keeps S c s (Arrives number x m now ends) reads fits may before b seat
     let came : ArrivedSo (delivered number x.from x.to ∷ s.moments) x.to x.from m = arrived_so s.moments s.links number x m may.0 may.1 carries.flying in
     let after : CarriesIn S t =
     moment_carries S c s.nodes (Told (entry.Packet e)) s.moments s.links (links.removing s.links number) k (λ j. quiet_packet S j e s.moments) tt
-        (flying_stays s.moments (Told (entry.Packet e)) (links.removing s.links number) (λ p. refl) (removing_posted s.moments s.links number carries.flying)) carries in
+    (flying_stays s.moments (Told (entry.Packet e)) (links.removing s.links number) (λ p. refl) (removing_posted s.moments s.links number carries.flying)) carries in
     taking_keeps S c t x.to now ends (input.Packet x.from m) reads may.3 fits k (told_among k.machine x.from m.body s.nodes.sent may.4 before.sent) (arrival_collects c s number x m may.0 may.1 before)
     (taking_good c t x.to now ends (input.Packet x.from m) b) (seated x.to) tt came few (after.nodes x.to) after.carried
     (came_hand S c s number x m (s.nodes.node x.to) (brought c s number x m may.0 may.1 before came) (sender_fits x.from m.body s.nodes.sent may.4 before.fits.sent) h.told (seated x.to))

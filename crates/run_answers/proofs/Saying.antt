@@ -1,5 +1,5 @@
 -- What a node gives keeps it that its Requests were asked for.
-use Rattle.std.specs.Prelude.{ℕ, ◌≡◌, ◌≤◌, nat_le, Bool, true, false, if◌then◌else◌, List, [], ◌∷◌, length, Option, None, Some, Ok, option_map}
+use Rattle.std.specs.Prelude.{ℕ, ◌≡◌, ◌≤◌, nat_le, true, if◌then◌else◌, List, [], ◌∷◌, length, Option, None, Some, Ok, option_map}
 use Rattle.std.specs.List.{AllByRecursion}
 use Rattle.std.proofs.Common.{refl, sym, ap, subst, ◌∙◌, arith}
 use Rattle.admin_words.specs.Commands.{request_of}
@@ -22,7 +22,6 @@ use Rattle.wire.specs.Spelling.{Fits, spelling}
 use Rattle.wire.specs.declared.message.Body.{Body}
 use Rattle.wire.specs.declared.message.Body.TheVariants as body
 use Rattle.wire.specs.declared.message.Message.{Message}
-use Rattle.history.specs.Letters.{Letter, says}
 use Rattle.history.specs.Member.{member_of}
 use Rattle.history.specs.Moment.{Moment, Told}
 use Rattle.history.specs.Names.{named}

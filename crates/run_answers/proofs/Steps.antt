@@ -1,267 +1,50 @@
 -- A whole step of a node keeps what is known of requests, whatever comes to it.
-use Rattle.std.specs.Prelude.{ℕ, ◌+◌, ◌-◌, ◌^◌, ◌≡◌, ◌≤◌, ◌<◌, ◌==◌, ◌&&◌, ◌||◌, ◌++◌, not, All, Bool, true, false, if◌then◌else◌, List, [], ◌∷◌, Option, None, Some, Ok, is_some, slice_get}
-use Rattle.std.specs.List.{AllByRecursion}
-use Rattle.std.proofs.Common.{refl, sym, ap, subst, ◌∙◌, arith}
-use Rattle.admin_words.specs.Commands.{command_of, request_of}
-use Rattle.admin_words.specs.declared.request.Request.TheVariants as wish
-use Rattle.ccr_tables.specs.declared.update.Update.{Update}
-use Rattle.cl_base.specs.declared.command.Ask.{Ask}
+use Rattle.std.specs.Prelude.{ℕ, ◌≤◌, ◌<◌, All, List, [], ◌∷◌, Option, None}
+use Rattle.std.proofs.Common.{refl, arith}
 use Rattle.cl_base.specs.declared.method.Outcome as method
 use Rattle.cmm_attempt.specs.Calls.{IsDevice}
-use Rattle.cmm_attempt.proofs.Basics.{and_cases, none_some, same_some}
+use Rattle.cmm_attempt.proofs.Basics.{none_some}
 use Rattle.cmm_member.specs.Records.{NodeRecord}
-use Rattle.restart_policy.specs.declared.policy.ProbeAction.{ProbeAction}
-use Rattle.request_queue.specs.Queue.{Queue, is_full, next_number, with_number}
-use Rattle.request_queue.specs.declared.request.Request.{Request}
-use Rattle.rgm_member.specs.Probes.{after_probe, probed}
-use Rattle.rgm_member.specs.declared.probed.Probed.{Probed}
-use Rattle.rgm_member.specs.declared.probed.Probed.TheVariants as probe
-use Rattle.status_report.specs.declared.command_entry.CommandEntry.TheVariants as command
+use Rattle.rgm_member.specs.Probes.{probed}
 use Rattle.status_report.specs.declared.entry.Entry.TheVariants as entry
 use Rattle.status_report.specs.declared.node_entry.DownCause.{DownCause}
 use Rattle.status_report.specs.declared.node_entry.DownCause.TheVariants as down
 use Rattle.status_report.specs.declared.node_entry.NodeEntry.TheVariants as note
-use Rattle.update_words.specs.Words.{ask_words_of}
 use Rattle.history.specs.Contents.{CarriedUpdates}
-use Rattle.history.specs.Member.{member_of}
 use Rattle.history.specs.Moment.{Moment, Told}
-use Rattle.history.specs.Seizing.{is_number}
-use Rattle.history.specs.Setting.{Setting, coordinator}
-use Rattle.history.specs.Trace.{gives as gives_line}
-use Rattle.node_model.specs.Clusters.{first_valid_of}
+use Rattle.history.specs.Setting.{Setting}
 use Rattle.node_model.specs.Configurations.{own_config}
-use Rattle.node_model.specs.Groups.{asked_by, monitor_asked, report_told, reported, result_of}
-use Rattle.node_model.specs.Requests.{is_idle, numbered}
-use Rattle.node_model.specs.Seats.{is_member, promised_of, session_of, up_with, version_of}
 use Rattle.node_model.specs.Steps.{at_second}
 use Rattle.node_model.specs.declared.cluster.Cluster.{Cluster}
 use Rattle.node_model.specs.declared.input.Input.{Input}
 use Rattle.node_model.specs.declared.input.Input.TheVariants as input
-use Rattle.node_model.specs.declared.node.Node.{Node}
 use Rattle.node_model.specs.declared.node.Node.TheVariants.{Down, Up}
 use Rattle.node_model.specs.declared.node.UpNode.{UpNode}
-use Rattle.node_model.specs.declared.output.Output.{Output}
-use Rattle.node_model.specs.declared.seat.Seat.{Seat}
-use Rattle.node_model.specs.declared.seat.Seat.TheVariants.{Forming, Member}
-use Rattle.node_model.specs.declared.output.Output.TheVariants.{Sends, Tells}
 use Rattle.refinement.proofs.Handlers.{delivered_by}
-use Rattle.refinement.specs.Courses.{Course, Reply, under}
-use Rattle.refinement.specs.Courses.Course.{Acts, Stops}
+use Rattle.refinement.specs.Courses.{Reply, under}
 use Rattle.refinement.specs.Courses.Reply.{Done, Lost_new, Lost_old}
 use Rattle.refinement.specs.Cuts as cuts
 use Rattle.refinement.specs.Cuts.{course_at, down_doings}
-use Rattle.refinement.specs.Doings.{Act, Doing, acted, after_all, given_all, gone_line, of_node, said, site}
-use Rattle.refinement.specs.Doings.Act.{Dates, Gives, Minds, Works}
-use Rattle.refinement.specs.Doings.Doing.{Does}
-use Rattle.run_history.proofs.Lists.{all_and}
+use Rattle.refinement.specs.Doings.{after_all, given_all, gone_line, of_node, said, site}
+use Rattle.refinement.specs.Doings.Act.{Dates}
 use Rattle.run_history.specs.Happenings.{IsSaid}
-use Rattle.run_history.specs.Scenes.{Scene, passing}
-use Rattle.run_messages.specs.Laws.{IsSeated, membership_in}
-use Rattle.run_messages.specs.Outputs.{AreGood}
-use Rattle.run_messages.proofs.Doings.{first_good, then_good}
-use Rattle.run_requests.specs.Guards.{ActAsk, Command, GoesAsk, hand_act}
+use Rattle.run_history.specs.Scenes.{Scene}
+use Rattle.run_messages.specs.Laws.{membership_in}
 use Rattle.run_requests.specs.Steps.{Counted}
-use Rattle.run_requests.proofs.Acting.{Goes, Ready, goes_act, ready_act}
-use Rattle.run_requests.proofs.Acts.{NoMakes}
+use Rattle.run_requests.proofs.Acting.{Ready, ready_act}
 use Rattle.run_requests.proofs.Boots.{at_first}
-use Rattle.run_requests.proofs.Causes.{CameSo, PresidentAt, ReadsAnswers, president_at}
-use Rattle.run_requests.proofs.Changes.{Changed}
-use Rattle.run_requests.proofs.Commands.{ReadsRequests, command_at, next_is, numbered_so, read_text}
+use Rattle.run_requests.proofs.Causes.{CameSo}
 use Rattle.run_requests.proofs.Counts.{room_left}
 use Rattle.run_requests.proofs.Courses as asks
 use Rattle.run_requests.proofs.Leaving as leaving
-use Rattle.run_requests.proofs.Reports.{added_so}
-use Rattle.run_requests.proofs.Walk.{Between, before_of}
-use Rattle.run_answers.specs.Askings.{asked_as}
-use Rattle.run_answers.specs.Guards.{ActHand, GoesHand}
-use Rattle.run_answers.specs.Steps.{Frame, HandIn, IsQuiet, NodeSo, ToldSo, Unused, UpSo}
-use Rattle.run_answers.proofs.Acts.{Holding, act_holds, came_frame}
-use Rattle.run_answers.proofs.Changes.{Bound}
+use Rattle.run_answers.specs.Steps.{ToldSo, Unused}
+use Rattle.run_answers.proofs.Acts.{Holding}
 use Rattle.run_answers.proofs.Courses as hands
-use Rattle.run_answers.proofs.Frames.{frame_then, hand_more, passing_frame, up_frame, unused_stays}
-use Rattle.run_answers.proofs.Requests.{requests_grow}
+use Rattle.run_answers.proofs.Frames.{frame_then, passing_frame, up_frame, unused_stays}
 use Rattle.run_answers.proofs.Saying.{passing_told}
-use Rattle.run_answers.proofs.Waiting.{ReadsUpdates}
-use Rattle.run_answers.proofs.Walk.{Left, bound_of, then_left, walk_left}
-
--- a setting that reads words and answers as the nodes do
-pub record Reads (c : Cluster) (S : Setting) : Type 0 where
-  pub answers : ReadsAnswers S
-  pub requests : ReadsRequests c S
-  pub updates : ReadsUpdates c S
-  -- what a monitor asks is no update
-  pub monitors : (a : ProbeAction) (r : List ℕ) (ask : Ask) (u : Update) → asked_by a r ≡ Some ask → request_of (version_of c) (ask_words_of ask) ≡ Ok (wish.Change u) → ⊥
-
--- ---- the rest of a course, and one act of it
-
-walked : (S : Setting) (c : Cluster) (n : ℕ) (i : Input) (v : Option ℕ) (o : Option Command) (replies : List Reply) (k : Course) (h : Option ℕ) (last : ℕ) (x : UpNode) (disk : NodeRecord) (s : Scene) → Reads c S
-    → (1 ≤ n) × (n ≤ 32) → All IsDevice c.attached → Ready c n (delivered_by i) x disk (under replies k) s → GoesAsk c n i o h x k → GoesHand c i n v x k → Between S n i o h last x s
-    → Holding S c n i v disk.promised x s.moments
-    → Left S c n (after_all c n (site (Up x) disk) (under replies k)).disk.promised (after_all c n (site (Up x) disk) (under replies k)).node (given_all c n (site (Up x) disk) (under replies k)) s
-walked S c n i v o replies k h last x disk s reads range fits r goes hand b held_so =
-    walk_left S c n i v o replies k r.machine h last x disk s reads.answers reads.updates range fits r.holds r.known r.tied r.may r.small r.calm r.at r.good r.seated goes hand b held_so
-
-hold_act : (S : Setting) (c : Cluster) (n : ℕ) (i : Input) (v : Option ℕ) (o : Option Command) (h : Option ℕ) (x : UpNode) (disk : NodeRecord) (a : Act) (ds : List Doing) (s : Scene) → Reads c S → (1 ≤ n) × (n ≤ 32) → NoMakes a
-    → Ready c n (delivered_by i) x disk (Does a ∷ ds) s → ActAsk n i o h x a → ActHand c i n v x a → Between S n i o h x.requests.asked x s → Holding S c n i v disk.promised x s.moments
-    → Holding S c n i v disk.promised (acted c n x a) (passing n (said c n x a) s).moments
-hold_act S c n i v o h x disk a ds s reads range nm r ask hand b k =
-    act_holds S c n (delivered_by i) i v o h disk.promised x a s reads.updates range nm r.may.0 r.small.0 ask hand (first_good n (said c n x a) (given_all c n (site (Up (acted c n x a)) disk) ds) r.good)
-    (before_of S c r.machine n i o h x.requests.asked x disk s r.tied b) k
-
--- ---- a command
-
-no_or : (a b : Bool) → a ≡ false → (a || b) ≡ b
-no_or true b h = cc
-no_or false b h = refl
-
-no_left : (a b : Bool) → a ≡ false → (a && b) ≡ false
-no_left true b h = cc
-no_left false b h = refl
-
-no_right : (a b : Bool) → b ≡ false → (a && b) ≡ false
-no_right true b h = h
-no_right false b h = refl
-
-not_above : (q r : ℕ) → q < r → (q == r) ≡ false
-not_above q r h = grind arith
-
-other_number : (a p e : ℕ) → a ≤ p → p < e → (a == e) ≡ false
-other_number a p e h k = grind (arith, h, k)
-
-less_next : (a q r : ℕ) → q ≡ a + 1 → q < r → a < r
-less_next a q r is h = omega (arith, is, h)
-
-next_less : (a q : ℕ) → q ≡ a + 1 → a < q
-next_less a q is = omega (arith, is)
-
-abbrev asked_line : ℕ → ℕ → Moment
-asked_line n q = Told (entry.Command (command.Asked n q))
-
--- a membership that the node is not of
-other_member : (e : ℕ) (o : Option ℕ) → ((f : ℕ) → o ≡ Some f → (f == e) ≡ false) → is_number e o ≡ false
-other_member e None h = refl
-other_member e (Some f) h = h f refl
-
-unused_asked : (n q e : ℕ) (ms : List Moment) → is_number e (member_of n ms) ≡ false → Unused n e ms → Unused n e (asked_line n q ∷ ms)
-unused_asked n q e ms other h = record {
-  asked = λ r. no_or (((n == n) && (q == r)) && is_number e (member_of n ms)) (asked_as n r e ms) (no_right ((n == n) && (q == r)) (is_number e (member_of n ms)) other) ∙ h.asked r;
-  proposed = h.proposed;
-}
-
-seat_session : (x : UpNode) (f : ℕ) → membership_in x.seat ≡ Some f → f ≡ session_of x
-seat_session x f is = by x.seat refl is
-  where
-    by : (seat : Seat) → x.seat ≡ seat → membership_in seat ≡ Some f → f ≡ session_of x
-    by (Forming s) same at = absurd (none_some f at)
-    by (Member s) same at = sym (same_some s.session f at) ∙ sym (ap (λ (z : Seat). session_of (record x { seat = z })) same)
-
--- the command has its line, and its number
-numbered_holds : (S : Setting) (c : Cluster) (n : ℕ) (words : List ℕ) (promised : ℕ) (x : UpNode) (ms : List Moment) → next_number x.requests ≡ x.requests.asked + 1 → member_of n ms ≡ membership_in x.seat → Bound promised x
-    → Holding S c n (input.Commanded words) (membership_in x.seat) promised x ms
-    → Holding S c n (input.Commanded words) (membership_in x.seat) promised (numbered x) (asked_line n (next_number x.requests) ∷ ms)
-numbered_holds S c n words promised x ms is seated bound k =
-    let q : ℕ = next_number x.requests in
-    let after : List Moment = asked_line n q ∷ ms in
-    record {
-      up = record {
-        within = λ e above. unused_asked n q e ms
-            (other_member e (member_of n ms) (λ f at. ap (λ z. z == e) (seat_session x f (sym seated ∙ at)) ∙ other_number (session_of x) (promised_of x) e bound.session (subst (λ z. z < e) bound.promise above))) (k.up.within e above);
-        forming = λ none some. unused_asked n q (session_of x) ms (ap (λ z. is_number (session_of x) z) (seated ∙ none)) (k.up.forming none some);
-        member = λ e r at above. no_or (((n == n) && (q == r)) && is_number e (member_of n ms)) (asked_as n r e ms)
-            (no_left ((n == n) && (q == r)) (is_number e (member_of n ms)) (no_right (n == n) (q == r) (not_above q r above))) ∙ k.up.member e r at (less_next x.requests.asked q r is above);
-        quiet = k.up.quiet;
-        hand = hand_more S c (session_of x) ms after x.presidency (λ T. requests_grow S T (session_of x) (asked_line n q) ms) (λ so w. refl) k.up.hand;
-      };
-      told = record { once = (λ e at. k.up.member e q (sym seated ∙ at) (next_less x.requests.asked q is), k.told.once); letters = (tt, k.told.letters); asked = (tt, k.told.asked) };
-      came = tt;
-    }
-
-command_left : (S : Setting) (c : Cluster) (n : ℕ) (replies : List Reply) (x : UpNode) (disk : NodeRecord) (words : List ℕ) (s : Scene) → Reads c S → (1 ≤ n) × (n ≤ 32) → All IsDevice c.attached
-    → Ready c n None x disk (under replies (cuts.command_course c n x words)) s → x.requests.asked < 2 ^ 64 - 1 → slice_get s.moments 0 ≡ Some (gives_line n words) → leaving.UpSo S n x.requests.asked x s.moments
-    → CarriedUpdates S s.moments → Holding S c n (input.Commanded words) (membership_in x.seat) disk.promised x s.moments
-    → Left S c n (after_all c n (site (Up x) disk) (under replies (cuts.command_course c n x words))).disk.promised (after_all c n (site (Up x) disk) (under replies (cuts.command_course c n x words))).node
-    (given_all c n (site (Up x) disk) (under replies (cuts.command_course c n x words))) s
-command_left S c n replies x disk words s reads range fits r room first known carried k =
-    let i : Input = input.Commanded words in
-    let q : ℕ = next_number x.requests in
-    let o : Command = command_at c x words in
-    let tell : Act = Gives (Tells (entry.Command (command.Asked n q)) ∷ []) in
-    let mind : Act = Minds (with_number x.requests) x.presidency in
-    let y : UpNode = numbered x in
-    let rest : Course = cuts.worded_course c n y q (command_of (version_of c) words) in
-    let t : Scene = passing n (Tells (entry.Command (command.Asked n q)) ∷ []) s in
-    let second : Ready c n None x disk (Does mind ∷ under replies rest) t = ready_act c n None x disk tell (Does mind ∷ under replies rest) s fits r in
-    let third : Ready c n None y disk (under replies rest) t = ready_act c n None x disk mind (under replies rest) t fits second in
-    let next : Holding S c n i (membership_in x.seat) disk.promised y t.moments =
-    numbered_holds S c n words disk.promised x s.moments (next_is x.requests.asked x refl room) r.seated (bound_of c r.machine n x disk r.holds r.tied) k in
-    then_left S c n _ _ (Tells (entry.Command (command.Asked n q)) ∷ []) (given_all c n (site (Up y) disk) (under replies rest)) s
-    (walked S c n i (membership_in x.seat) (Some o) replies rest None q y disk t reads range fits third
-    (asks.worded_so c n i (Some o) None y q (command_of (version_of c) words) (record { command = o; is = refl; number = refl; session = refl }) (λ a text is so. ap read_text is ∙ so))
-    (hands.worded_so c n i (membership_in x.seat) y q (command_of (version_of c) words))
-    (record { so = numbered_so S c n x words s.moments reads.requests room first r.seated known.queued known.pending; carried = (tt, carried); came = tt }) next)
-
--- ---- a monitor's report
-
--- what a monitor asks waits with the next number
-asked_holds : (S : Setting) (c : Cluster) (n : ℕ) (i : Input) (v : Option ℕ) (promised : ℕ) (x : UpNode) (ask : Ask) (ms : List Moment) → next_number x.requests ≡ x.requests.asked + 1
-    → ((u : Update) → request_of (version_of c) (ask_words_of ask) ≡ Ok (wish.Change u) → ⊥) → Holding S c n i v promised x ms → Holding S c n i v promised (monitor_asked x ask) ms
-asked_holds S c n i v promised x ask ms is calm k = record {
-  up = record {
-    within = k.up.within;
-    forming = k.up.forming;
-    member = λ e r at above. k.up.member e r at (less_next x.requests.asked (next_number x.requests) r is above);
-    quiet = all_and (IsQuiet c) x.requests.waiting (record { number = next_number x.requests; text = ask_words_of ask; told = false; second = x.second }) k.up.quiet (λ untold. calm);
-    hand = k.up.hand;
-  };
-  told = k.told;
-  came = k.came;
-}
-
-asking_when : (S : Setting) (c : Cluster) (n : ℕ) (i : Input) (v : Option ℕ) (replies : List Reply) (x : UpNode) (disk : NodeRecord) (ask : Ask) (s : Scene) (b : Bool) → (is_member x.seat && not (is_full x.requests)) ≡ b
-    → Reads c S → (1 ≤ n) × (n ≤ 32) → All IsDevice c.attached → x.requests.asked < 2 ^ 64 - 1 → ((u : Update) → request_of (version_of c) (ask_words_of ask) ≡ Ok (wish.Change u) → ⊥)
-    → (let k : Course = if b then Acts (Minds (monitor_asked x ask).requests x.presidency) (cuts.asking_if_course (is_idle x.requests.waiting) c n (monitor_asked x ask)) else Stops in
-    Ready c n (delivered_by i) x disk (under replies k) s → Between S n i None None x.requests.asked x s → Holding S c n i v disk.promised x s.moments
-    → Left S c n (after_all c n (site (Up x) disk) (under replies k)).disk.promised (after_all c n (site (Up x) disk) (under replies k)).node (given_all c n (site (Up x) disk) (under replies k)) s)
-asking_when S c n i v replies x disk ask s false is reads range fits room calm rd b k = walked S c n i v None replies Stops None x.requests.asked x disk s reads range fits rd tt tt b k
-asking_when S c n i v replies x disk ask s true is reads range fits room calm rd b k =
-    let y : UpNode = monitor_asked x ask in
-    let q : ℕ = next_number x.requests in
-    let rest : Course = cuts.asking_if_course (is_idle x.requests.waiting) c n y in
-    let more : Ready c n (delivered_by i) y disk (under replies rest) s = ready_act c n (delivered_by i) x disk (Minds y.requests x.presidency) (under replies rest) s fits rd in
-    let so : Changed S n None None q y s.moments = added_so S n x ask s.moments room (and_cases _ _ is).0 b.so.queued b.so.pending in
-    walked S c n i v None replies rest None q y disk s reads range fits more (asks.asking_if_so c n i None None (is_idle x.requests.waiting) y) (hands.asking_if_so c n i v (is_idle x.requests.waiting) y)
-    (record { so = so; carried = b.carried; came = b.came }) (asked_holds S c n i v disk.promised x ask s.moments (next_is x.requests.asked x refl room) calm k)
-
-asking_this : (S : Setting) (c : Cluster) (n : ℕ) (i : Input) (v : Option ℕ) (replies : List Reply) (x : UpNode) (disk : NodeRecord) (o : Option Ask) (s : Scene) → Reads c S → (1 ≤ n) × (n ≤ 32) → All IsDevice c.attached
-    → x.requests.asked < 2 ^ 64 - 1 → ((ask : Ask) (u : Update) → o ≡ Some ask → request_of (version_of c) (ask_words_of ask) ≡ Ok (wish.Change u) → ⊥) → Ready c n (delivered_by i) x disk (under replies (cuts.asking_this_course c n x o)) s
-    → Between S n i None None x.requests.asked x s → Holding S c n i v disk.promised x s.moments
-    → Left S c n (after_all c n (site (Up x) disk) (under replies (cuts.asking_this_course c n x o))).disk.promised (after_all c n (site (Up x) disk) (under replies (cuts.asking_this_course c n x o))).node
-    (given_all c n (site (Up x) disk) (under replies (cuts.asking_this_course c n x o))) s
-asking_this S c n i v replies x disk None s reads range fits room calm rd b k = walked S c n i v None replies Stops None x.requests.asked x disk s reads range fits rd tt tt b k
-asking_this S c n i v replies x disk (Some ask) s reads range fits room calm rd b k =
-    asking_when S c n i v replies x disk ask s (is_member x.seat && not (is_full x.requests)) refl reads range fits room (λ u. calm ask u refl) rd b k
-
-reporting_left : (S : Setting) (c : Cluster) (n : ℕ) (i : Input) (v : Option ℕ) (replies : List Reply) (x : UpNode) (disk : NodeRecord) (r : List ℕ) (p : Probed) (s : Scene) → Reads c S → (1 ≤ n) × (n ≤ 32) → All IsDevice c.attached
-    → x.requests.asked < 2 ^ 64 - 1 → Ready c n (delivered_by i) x disk (under replies (cuts.reporting_course c n x r p)) s → Between S n i None None x.requests.asked x s → Holding S c n i v disk.promised x s.moments
-    → Left S c n (after_all c n (site (Up x) disk) (under replies (cuts.reporting_course c n x r p))).disk.promised (after_all c n (site (Up x) disk) (under replies (cuts.reporting_course c n x r p))).node
-    (given_all c n (site (Up x) disk) (under replies (cuts.reporting_course c n x r p))) s
-reporting_left S c n i v replies x disk r probe.NoMonitor s reads range fits room rd b k = walked S c n i v None replies Stops None x.requests.asked x disk s reads range fits rd tt tt b k
-reporting_left S c n i v replies x disk r probe.Good s reads range fits room rd b k =
-    walked S c n i v None replies (cuts.reporting_course c n x r probe.Good) None x.requests.asked x disk s reads range fits rd ((tt, tt), (tt, tt)) ((tt, tt), (tt, tt)) b k
-reporting_left S c n i v replies x disk r (probe.Failed a) s reads range fits room rd b k =
-    let tell : Act = Gives (report_told n r (result_of a) ∷ []) in
-    let works : Act = Works (after_probe x.worker (own_config c x) r x.second (probe.Failed a)) in
-    let y : UpNode = reported x c r (probe.Failed a) in
-    let rest : Course = cuts.asking_this_course c n y (asked_by a r) in
-    let t : Scene = passing n (report_told n r (result_of a) ∷ []) s in
-    let first : Goes S n i None None x.requests.asked x (report_told n r (result_of a) ∷ []) s = goes_act S c n i None None x disk tell (Does works ∷ under replies rest) s reads.answers rd (tt, tt) b in
-    let behind : Ready c n (delivered_by i) x disk (Does works ∷ under replies rest) t = ready_act c n (delivered_by i) x disk tell (Does works ∷ under replies rest) s fits rd in
-    let second : Goes S n i None None x.requests.asked y [] t = goes_act S c n i None None x disk works (under replies rest) t reads.answers behind tt first.between in
-    let after : Ready c n (delivered_by i) y disk (under replies rest) t = ready_act c n (delivered_by i) x disk works (under replies rest) t fits behind in
-    let one : Holding S c n i v disk.promised x t.moments = hold_act S c n i v None None x disk tell (Does works ∷ under replies rest) s reads range tt rd (tt, tt) (tt, tt) b k in
-    let two : Holding S c n i v disk.promised y t.moments = hold_act S c n i v None None x disk works (under replies rest) t reads range tt behind tt tt first.between one in
-    then_left S c n _ _ (report_told n r (result_of a) ∷ []) (given_all c n (site (Up y) disk) (under replies rest)) s
-    (asking_this S c n i v replies y disk (asked_by a r) t reads range fits room (λ ask u is. reads.monitors a r ask u is) after second.between two)
+use Rattle.run_answers.proofs.Walk.{Left}
+use Rattle.run_answers.proofs.Commands.{Reads, command_left, walked}
+use Rattle.run_answers.proofs.Reports.{reporting_left}
 
 -- ---- a node that is up
 

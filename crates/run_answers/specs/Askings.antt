@@ -1,5 +1,5 @@
 -- Which commands a node asked as a member of a membership, and what is done in it.
-use Rattle.std.specs.Prelude.{ℕ, ◌≡◌, ◌==◌, ◌&&◌, ◌||◌, Bool, true, false, if◌then◌else◌, List, [], ◌∷◌, Option, None, Some, cond, ◌+◌}
+use Rattle.std.specs.Prelude.{ℕ, ◌≡◌, ◌==◌, ◌&&◌, ◌||◌, Bool, false, if◌then◌else◌, List, [], ◌∷◌, Option, None, Some, cond, ◌+◌}
 use Rattle.history.specs.Letters.{Letter}
 use Rattle.history.specs.Member.{member_of}
 use Rattle.history.specs.Moment.{Moment}

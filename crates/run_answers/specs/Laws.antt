@@ -1,8 +1,8 @@
 -- What is proved of each run of the world, as things that happen: that each update was asked for.
 use Rattle.std.specs.Prelude.{◌<◌, ◌^◌, length}
 use Rattle.history.specs.Moment.{lines_of}
-use Rattle.history_setting.specs.Laws.{OfEachRunIn}
 use Rattle.history.specs.Requests.{Asked}
+use Rattle.history_setting.specs.Laws.{OfEachRunIn}
 
 -- While fewer than 2^63 lines are said, which number the commands: each update that is proposed has a request of its own, with its words, that has
 -- come to the president.

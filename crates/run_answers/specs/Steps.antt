@@ -1,17 +1,16 @@
 -- What a run keeps of requests: of each node, and of what was told.
-use Rattle.std.specs.Prelude.{ℕ, ◌≡◌, ◌≤◌, ◌<◌, ◌&&◌, true, false, List, [], ◌∷◌, Option, None, Some, Ok}
+use Rattle.std.specs.Prelude.{ℕ, ◌≡◌, ◌≤◌, ◌<◌, ◌&&◌, false, List, Option, None, Some, Ok}
 use Rattle.std.specs.List.{AllByRecursion}
 use Rattle.admin_words.specs.Commands.{request_of}
 use Rattle.admin_words.specs.declared.request.Request.TheVariants as wish
 use Rattle.ccr_tables.specs.declared.update.Update.{Update}
-use Rattle.cmm_member.specs.Records.{NodeRecord}
 use Rattle.proposals.specs.State.{State}
 use Rattle.request_queue.specs.declared.request.Request.{Request}
 use Rattle.update_words.specs.Words.{words_of}
 use Rattle.wire.specs.declared.message.Body.TheVariants as body
 use Rattle.history.specs.Letters.{Letter, says}
 use Rattle.history.specs.Moment.{Moment}
-use Rattle.history.specs.Requests.{asked_in, requests_of, same_words}
+use Rattle.history.specs.Requests.{Asked, asked_in, requests_of, same_words}
 use Rattle.history.specs.Setting.{Setting, coordinator}
 use Rattle.node_model.specs.declared.cluster.Cluster.{Cluster}
 use Rattle.node_model.specs.declared.node.Node.{Node}
@@ -20,7 +19,6 @@ use Rattle.node_model.specs.declared.node.UpNode.{UpNode}
 use Rattle.node_model.specs.declared.presidency.Presidency.{Presidency}
 use Rattle.node_model.specs.Seats.{session_of, version_of}
 use Rattle.run_messages.specs.Laws.{membership_in}
-use Rattle.history.specs.Requests.{Asked}
 use Rattle.run_answers.specs.Askings.{AskedOnce, LettersAre, Test, asked_as, held, is_it, proposals}
 use Rattle.run_answers.specs.Hands.{Sound, is_past}
 
