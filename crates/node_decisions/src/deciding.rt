@@ -1,14 +1,15 @@
 // The president decides.
 ghost use Rattle.std.specs.Prelude.{◌≡◌, ◌++◌, Ok, OnOk, true};
+ghost use Rattle.config_cache.specs.InForce.{config_under};
 ghost use Rattle.node_model.specs.Deciding.{deciding, is_held_up, may_order, orders_sent, with_turn};
 ghost use Rattle.node_model.specs.Plans.{Gives};
+ghost use Rattle.node_model.specs.Seats.{state_of};
 ghost use Rattle.rgm_president.specs.Decisions.{decision};
 
-use crate::configurations::in_force;
 use crate::orders::send_orders;
-use ccr_tables::Config;
 use cl_base::NodeId;
-use node_model::{Cluster, Output, Presidency, UpNode};
+use config_cache::ConfigCache;
+use node_model::{Cluster, Output, Presidency, Seat, UpNode};
 use rgm_president::President;
 use std::alloc::{AllocError, Global};
 
@@ -28,34 +29,48 @@ pub fn decide(
     ensures plan { OnOk result (Gives (deciding cluster.now me up.old) out.old.items (Ok up.new) out.new.items) }
     ensures seat { up.new.seat ≡ up.old.seat }
 {
-    let Some(mut presidency) = up.presidency.take() else {
+    let Some(presidency) = &mut up.presidency else {
         return Ok(());
     };
     if !may_order(&presidency.groups) {
-        up.presidency = Some(presidency);
         return Ok(());
     }
-    let config = in_force(alloc, cluster, &mut up.made, &up.seat)?;
-    decide_under(alloc, config, me, up.second, &mut presidency, out)?;
-    up.presidency = Some(presidency);
-    Ok(())
+    decide_under(
+        alloc,
+        cluster,
+        &mut up.made,
+        &up.seat,
+        me,
+        up.second,
+        presidency,
+        out,
+    )
 }
 
-/// The same, where this is the configuration in force.
+/// The same, where the node has this seat.
 fn decide_under(
     alloc: Global,
-    config: &Config,
+    cluster: &Cluster,
+    made: &mut ConfigCache,
+    seat: &Seat,
     me: NodeId,
     now: u64,
     presidency: &mut Presidency,
     out: &mut Vec<Output>,
 ) -> Result<(), AllocError>
     requires number { may_order presidency.old.groups ≡ true }
-    ensures after { OnOk result (presidency.new ≡ with_turn me presidency.old (decision config.now now (is_held_up presidency.old) presidency.old.groups)) }
-    ensures told { OnOk result (out.new.items ≡ out.old.items ++ orders_sent me (decision config.now now (is_held_up presidency.old) presidency.old.groups).orders) }
+    ensures after { OnOk result (presidency.new ≡ with_turn me presidency.old (decision (config_under cluster.now.header (state_of seat.now).saved.entries.committed) now (is_held_up presidency.old) presidency.old.groups)) }
+    ensures told { OnOk result (out.new.items ≡ out.old.items ++ orders_sent me (decision (config_under cluster.now.header (state_of seat.now).saved.entries.committed) now (is_held_up presidency.old) presidency.old.groups).orders) }
 {
     let held_up = is_held_up(presidency);
-    match presidency.groups.decide(alloc, config, now, held_up) {
+    match presidency.groups.decide_in_force(
+        alloc,
+        made,
+        cluster.header.get(),
+        seat.entries(),
+        now,
+        held_up,
+    ) {
         Ok(orders) => send_orders(me, orders, &mut presidency.sent, out),
         Err(_) => Err(AllocError),
     }
