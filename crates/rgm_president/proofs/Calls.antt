@@ -1,5 +1,5 @@
 -- Which calls are allowed does not depend on the second.
-use Rattle.std.proofs.Common.{◌≡◌, ℕ, List, [], ◌∷◌, Option, fold, refl, ap, ◌∙◌}
+use Rattle.std.proofs.Common.{◌≡◌, ℕ, List, refl, ap, ◌∙◌}
 use Rattle.cl_base.specs.declared.method.Method.{Method}
 use Rattle.load_limits.specs.declared.limits.Limit.{Limit}
 use Rattle.placement.specs.Resources.{is_stop_failed}

@@ -1,12 +1,11 @@
 -- A decision that leaves the goals as they were, and ends no mark.
 use Rattle.std.proofs.Common.{◌≡◌, ℕ, Bool, true, false, ◌||◌, List, [], ◌∷◌, Option, None, Some, fold, refl, ap, sym, subst, ◌∙◌}
-use Rattle.std.specs.List.{find, list_any}
+use Rattle.std.specs.List.{find}
 use Rattle.std.specs.Prelude.{unwrap_or, if◌then◌else◌}
 use Rattle.ccr_tables.specs.State.{ConfigState}
 use Rattle.cl_base.specs.Limits.{most_nodes}
 use Rattle.cl_base.specs.Numbers.{numbers_to}
 use Rattle.cl_base.specs.Sets.{has}
-use Rattle.placement.specs.Decisions.{decided}
 use Rattle.rg_props.specs.declared.group.Resource.{Resource}
 use Rattle.rg_props.specs.Lookups.{named}
 use Rattle.rg_props.specs.Table.{GroupTable}
@@ -18,7 +17,7 @@ use Rattle.rg_view.specs.States.{is_state_of, state_of, states_with, unmarked}
 use Rattle.rgm_state.specs.Changes.{unfaulted}
 use Rattle.rgm_president.specs.Goals.{ended_for, ended_of, ended_outside, listed, with_decided, with_ended, with_goals, with_listed}
 use Rattle.rgm_president.specs.Steady.{is_any_faulted}
-use Rattle.rgm_president.proofs.Timeless.{decided_same, fold_same, still}
+use Rattle.rgm_president.proofs.Timeless.{decided_same}
 
 neither : (p q : Bool) → (p || q) ≡ false → (p ≡ false) × (q ≡ false)
 neither true q none = absurd (cc none)

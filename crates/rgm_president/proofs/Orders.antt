@@ -7,7 +7,7 @@ use Rattle.rg_view.specs.Orders.{order_of}
 use Rattle.rgm_president.specs.Decisions.{Turn, call_on, ordered, ordered_unless, with_turn}
 use Rattle.rgm_president.specs.State.{PresidentState}
 use Rattle.rgm_president.specs.Steady.{at_second}
-use Rattle.rgm_president.proofs.Calls.{call_same, later}
+use Rattle.rgm_president.proofs.Calls.{call_same}
 
 -- the turn at another second
 abbrev pub turn_at : ℕ → Turn → Turn

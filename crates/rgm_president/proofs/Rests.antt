@@ -6,7 +6,7 @@ use Rattle.config_cache.specs.InForce.{config_under}
 use Rattle.config_cache.specs.Lists.{UpdateList, these}
 use Rattle.rg_view.specs.declared.view.GroupView.{GroupView}
 use Rattle.wire.specs.declared.message.Order.{Order}
-use Rattle.rgm_president.specs.Decisions.{Turn, decision, goals_set, members_of, turns_unless, with_turns}
+use Rattle.rgm_president.specs.Decisions.{Turn, goals_set, members_of, turns_unless, with_turns}
 use Rattle.rgm_president.specs.Goals.{with_goals, with_listed}
 use Rattle.rgm_president.specs.Sequence.{groups_in_order, sequence}
 use Rattle.rgm_president.specs.State.{PresidentState}
