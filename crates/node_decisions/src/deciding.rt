@@ -16,6 +16,7 @@ use std::alloc::{AllocError, Global};
 /// Orders have numbers below this.
 const MOST_ORDERS: u64 = 1 << 63;
 
+#[tactic(auto, using(crate::proofs::Decided::decided_so, crate::proofs::Decided::left_so, crate::proofs::Decided::none_so))]
 /// A president decides at the second of its step: the goals anew, and then, unless a request waits or
 /// is being handled, an order to each member that has none and for which a call is allowed. Any other
 /// node decides nothing.
