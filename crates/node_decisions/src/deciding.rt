@@ -1,10 +1,9 @@
 // The president decides.
 ghost use Rattle.std.specs.Prelude.{◌≡◌, ◌++◌, Ok, OnOk, true};
-ghost use Rattle.config_cache.specs.InForce.{config_under};
-ghost use Rattle.node_model.specs.Deciding.{deciding, is_held_up, may_order, orders_sent, with_turn};
+ghost use Rattle.node_decisions.specs.Turns.{messages_after, presidency_after};
+ghost use Rattle.node_model.specs.Deciding.{deciding, is_held_up, may_order};
 ghost use Rattle.node_model.specs.Plans.{Gives};
 ghost use Rattle.node_model.specs.Seats.{state_of};
-ghost use Rattle.rgm_president.specs.Decisions.{decision};
 
 use crate::orders::send_orders;
 use cl_base::NodeId;
@@ -16,7 +15,7 @@ use std::alloc::{AllocError, Global};
 /// Orders have numbers below this.
 const MOST_ORDERS: u64 = 1 << 63;
 
-#[tactic(auto, using(crate::proofs::Decided::decided_so, crate::proofs::Decided::left_so, crate::proofs::Decided::none_so))]
+#[tactic(auto, using(crate::proofs::Decided::decided_so))]
 /// A president decides at the second of its step: the goals anew, and then, unless a request waits or
 /// is being handled, an order to each member that has none and for which a call is allowed. Any other
 /// node decides nothing.
@@ -33,10 +32,7 @@ pub fn decide(
     let Some(presidency) = &mut up.presidency else {
         return Ok(());
     };
-    if !may_order(&presidency.groups) {
-        return Ok(());
-    }
-    decide_under(
+    decide_in(
         alloc,
         cluster,
         &mut up.made,
@@ -48,7 +44,27 @@ pub fn decide(
     )
 }
 
-/// The same, where the node has this seat.
+/// The same, of this presidency of a node with this seat. Where no number is left nothing is decided.
+fn decide_in(
+    alloc: Global,
+    cluster: &Cluster,
+    made: &mut ConfigCache,
+    seat: &Seat,
+    me: NodeId,
+    now: u64,
+    presidency: &mut Presidency,
+    out: &mut Vec<Output>,
+) -> Result<(), AllocError>
+    ensures after { OnOk result (presidency.new ≡ presidency_after me cluster.now.header (state_of seat.now).saved.entries.committed now presidency.old) }
+    ensures told { OnOk result (out.new.items ≡ out.old.items ++ messages_after me cluster.now.header (state_of seat.now).saved.entries.committed now presidency.old) }
+{
+    if !may_order(&presidency.groups) {
+        return Ok(());
+    }
+    decide_under(alloc, cluster, made, seat, me, now, presidency, out)
+}
+
+/// The same, where a number is left.
 fn decide_under(
     alloc: Global,
     cluster: &Cluster,
@@ -60,8 +76,8 @@ fn decide_under(
     out: &mut Vec<Output>,
 ) -> Result<(), AllocError>
     requires number { may_order presidency.old.groups ≡ true }
-    ensures after { OnOk result (presidency.new ≡ with_turn me presidency.old (decision (config_under cluster.now.header (state_of seat.now).saved.entries.committed) now (is_held_up presidency.old) presidency.old.groups)) }
-    ensures told { OnOk result (out.new.items ≡ out.old.items ++ orders_sent me (decision (config_under cluster.now.header (state_of seat.now).saved.entries.committed) now (is_held_up presidency.old) presidency.old.groups).orders) }
+    ensures after { OnOk result (presidency.new ≡ presidency_after me cluster.now.header (state_of seat.now).saved.entries.committed now presidency.old) }
+    ensures told { OnOk result (out.new.items ≡ out.old.items ++ messages_after me cluster.now.header (state_of seat.now).saved.entries.committed now presidency.old) }
 {
     let held_up = is_held_up(presidency);
     match presidency.groups.decide_in_force(
