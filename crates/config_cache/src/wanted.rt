@@ -55,8 +55,8 @@ fn is_at(texts: &[Bytes], committed: &[Bytes], pending: Option<&Bytes>, place: u
 }
 
 /// Whether both are missing, or both say the same.
-fn is_same_text(a: Option<&Bytes>, b: Option<&Bytes>) -> bool
-    ensures { IsTrue result ↔ (option_copied a.entry ≡ option_copied b.entry) }
+pub fn is_same_text(a: Option<&Bytes>, b: Option<&Bytes>) -> bool
+    ensures value { IsTrue result ↔ (option_copied a.entry ≡ option_copied b.entry) }
 {
     match (a, b) {
         (Some(a), Some(b)) => a.items() == b.items(),

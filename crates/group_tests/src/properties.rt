@@ -1,3 +1,4 @@
+use Step::{Counts, Create, Delete, HasAffinity, HasPlace, HasScope, Manage, SetAffinities};
 use cl_base::{FailoverMode, Name, NodeId, Version};
 use rg_props::{Affinity, Flag, Group, Groups, Resource, Scope, SetError};
 use std::alloc::Global;
@@ -59,26 +60,24 @@ fn answer_word(error: Option<SetError>) -> &'static [u8] {
     }
 }
 
-fn create(groups: &mut Groups, r: Name, g: Name, node: u64) -> Result<(), Fail> {
-    let nodes = [NodeId::new(node)?];
+fn name(letter: u8) -> Result<Name, Fail> {
+    Ok(Name::new([letter].as_slice())?)
+}
+
+/// The resource in the group, which is made on this node where it is not there.
+fn create(groups: &mut Groups, r: u8, g: u8, node: u64) -> Result<(), Fail> {
+    let (r, g, nodes) = (name(r)?, name(g)?, [NodeId::new(node)?]);
     if groups.group(&g).is_none() {
         groups.create_group(g, nodes.as_slice())?;
     }
     if groups.resource(&r).is_none() {
-        groups.create_resource(r, g, Name::new(b"t")?)?;
+        groups.create_resource(r, g, name(b't')?)?;
     }
     Ok(())
 }
 
-/// One group `g` of node 1, with a resource `r` of type `t`.
-fn one_group(alloc: Global, version: Version) -> Result<Groups, Fail> {
-    let mut groups = Groups::new(alloc, version);
-    create(&mut groups, Name::new(b"r")?, Name::new(b"g")?, 1)?;
-    Ok(groups)
-}
-
 fn set_group(groups: &mut Groups, property: &[u8], value: &[u8]) -> Result<&'static [u8], Fail> {
-    let g = Name::new(b"g")?;
+    let g = name(b'g')?;
     if groups.group(&g).is_none() {
         return Err(Fail::new("no group"));
     }
@@ -86,11 +85,54 @@ fn set_group(groups: &mut Groups, property: &[u8], value: &[u8]) -> Result<&'sta
 }
 
 fn set_resource(groups: &mut Groups, property: &[u8], value: &[u8]) -> Result<&'static [u8], Fail> {
-    let r = Name::new(b"r")?;
+    let r = name(b'r')?;
     if groups.resource(&r).is_none() {
         return Err(Fail::new("no resource"));
     }
     Ok(answer_word(groups.set_resource(&r, property, value).err()))
+}
+
+/// The group `g` of node 1 with a resource `r`, of which one has the property set.
+fn set(
+    groups: &mut Groups,
+    is_group: bool,
+    property: &[u8],
+    value: &[u8],
+) -> Result<&'static [u8], Fail> {
+    create(groups, b'r', b'g', 1)?;
+    if is_group {
+        set_group(groups, property, value)
+    } else {
+        set_resource(groups, property, value)
+    }
+}
+
+fn answer(
+    alloc: Global,
+    version: Version,
+    is_group: bool,
+    property: &[u8],
+    value: &[u8],
+) -> Result<&'static [u8], Fail> {
+    let mut groups = Groups::new(alloc, version);
+    set(&mut groups, is_group, property, value)
+}
+
+fn check_values(
+    rt: &impl Abort,
+    alloc: Global,
+    version: Version,
+    is_group: bool,
+    words: &[&[u8]],
+) -> Result<(), Fail> {
+    let [property, wanted, values @ ..] = words else {
+        return Err(Fail::new("no line of a table"));
+    };
+    for value in values {
+        let answer = answer(alloc, version, is_group, property, value)?;
+        assert!(rt; answer == *wanted);
+    }
+    Ok(())
 }
 
 fn check_line(
@@ -101,19 +143,7 @@ fn check_line(
     line: &[u8],
 ) -> Result<(), Fail> {
     let words: Vec<&[u8]> = line.split(|b| *b == b' ').collect(alloc)?;
-    let [property, wanted, values @ ..] = words.as_slice() else {
-        return Err(Fail::new("no line of a table"));
-    };
-    for value in values {
-        let mut groups = one_group(alloc, version)?;
-        let answer = if is_group {
-            set_group(&mut groups, property, value)?
-        } else {
-            set_resource(&mut groups, property, value)?
-        };
-        assert_eq!(rt; answer == *wanted, true);
-    }
-    Ok(())
+    check_values(rt, alloc, version, is_group, &words)
 }
 
 fn check_table(
@@ -123,8 +153,7 @@ fn check_table(
     is_group: bool,
     table: &[u8],
 ) -> Result<(), Fail> {
-    let lines: Vec<&[u8]> = table.split(|b| *b == b'\n').collect(alloc)?;
-    for line in &lines {
+    for line in table.split(|b| *b == b'\n') {
         check_line(rt, alloc, version, is_group, line)?;
     }
     Ok(())
@@ -134,8 +163,7 @@ fn check_table(
 fn properties_have_their_values(rt: HostRuntime) -> Result<(), Fail> {
     check_table(&rt, rt.alloc(), Version::One, true, UNDER_ONE)?;
     check_table(&rt, rt.alloc(), Version::Two, true, UNDER_TWO)?;
-    check_table(&rt, rt.alloc(), Version::One, false, OF_RESOURCES)?;
-    Ok(())
+    check_table(&rt, rt.alloc(), Version::One, false, OF_RESOURCES)
 }
 
 fn check_new_group(rt: &impl Abort, g: &Group) {
@@ -145,85 +173,157 @@ fn check_new_group(rt: &impl Abort, g: &Group) {
         (g.maximum, g.desired, g.pingpong, g.priority),
         (1, 1, 3600, 500)
     );
-    assert_eq!(rt; g.failback || g.managed || g.wanted || g.suspended, false);
+    assert!(rt; !(g.failback || g.managed || g.wanted || g.suspended));
 }
 
 fn check_new_resource(rt: &impl Abort, r: &Resource) {
-    assert_eq!(rt; r.enabled && r.monitored, true);
+    assert!(rt; r.enabled && r.monitored);
     assert_eq!(rt;
         (r.mode, r.retry_count, r.retry_interval),
         (FailoverMode::None, 2, 300)
     );
 }
 
+fn check_new_ones(rt: &impl Abort, groups: &mut Groups) -> Result<(), Fail> {
+    create(groups, b'r', b'g', 1)?;
+    match (groups.group_at(0), groups.resource_at(0)) {
+        (Some((_, group)), Some((_, resource))) => {
+            check_new_group(rt, group);
+            check_new_resource(rt, resource);
+            Ok(())
+        }
+        _ => Err(Fail::new("not there")),
+    }
+}
+
 #[test]
 fn new_ones_have_defaults(rt: HostRuntime) -> Result<(), Fail> {
-    let groups = one_group(rt.alloc(), Version::Two)?;
-    let Some((_, group)) = groups.group_at(0) else {
-        return Err(Fail::new("no group"));
-    };
-    check_new_group(&rt, group);
-    let Some((_, resource)) = groups.resource_at(0) else {
-        return Err(Fail::new("no resource"));
-    };
-    check_new_resource(&rt, resource);
+    let mut groups = Groups::new(rt.alloc(), Version::Two);
+    check_new_ones(&rt, &mut groups)
+}
+
+/// What is done with groups, or holds of them. Groups and resources have names of one letter.
+#[derive(Clone, Copy)]
+enum Step {
+    /// The resource and its group come, on this node.
+    Create(u8, u8, u64),
+    /// The group is managed then.
+    Manage(u8),
+    /// The group goes.
+    Delete(u8),
+    /// The place of the group.
+    HasPlace(u8, Option<usize>),
+    /// How many groups there are.
+    Counts(usize),
+    /// The group `g` gets two affinities to `h`.
+    SetAffinities,
+    /// Between the resources.
+    HasScope(u8, u8, Scope),
+    /// Between the groups.
+    HasAffinity(u8, u8, Option<Affinity>),
+}
+
+fn manage(groups: &mut Groups, g: u8) -> Result<bool, Fail> {
+    let g = name(g)?;
+    if groups.group(&g).is_some() {
+        groups.set_flag(&g, Flag::Managed, true);
+    }
+    Ok(groups.group(&g).map(|g| g.managed) == Some(true))
+}
+
+fn delete(groups: &mut Groups, g: u8) -> Result<bool, Fail> {
+    let g = name(g)?;
+    if groups.group(&g).is_some() {
+        groups.delete_group(&g);
+    }
+    Ok(true)
+}
+
+fn has_place(groups: &Groups, g: u8, wanted: Option<usize>) -> Result<bool, Fail> {
+    Ok(groups.group_place(&name(g)?) == wanted)
+}
+
+fn has_scope(groups: &Groups, r: u8, s: u8, wanted: Scope) -> Result<bool, Fail> {
+    let (r, s) = (name(r)?, name(s)?);
+    if groups.resource(&r).is_some() && groups.resource(&s).is_some() {
+        Ok(groups.scope(&r, &s) == wanted)
+    } else {
+        Ok(false)
+    }
+}
+
+fn has_affinity(groups: &Groups, g: u8, h: u8, wanted: Option<Affinity>) -> Result<bool, Fail> {
+    let (g, h) = (name(g)?, name(h)?);
+    if groups.group(&g).is_some() {
+        Ok(groups.affinity(&g, &h) == wanted)
+    } else {
+        Ok(false)
+    }
+}
+
+fn set_affinities(groups: &mut Groups) -> Result<bool, Fail> {
+    Ok(set_group(groups, b"RG_affinities", b"-h,+++h")? == b"ok".as_slice())
+}
+
+/// Whether what the step says is so.
+fn holds(groups: &mut Groups, step: Step) -> Result<bool, Fail> {
+    match step {
+        Create(r, g, node) => {
+            create(groups, r, g, node)?;
+            Ok(true)
+        }
+        Manage(g) => manage(groups, g),
+        Delete(g) => delete(groups, g),
+        HasPlace(g, place) => has_place(groups, g, place),
+        Counts(count) => Ok(groups.group_count() == count),
+        SetAffinities => set_affinities(groups),
+        HasScope(r, s, scope) => has_scope(groups, r, s, scope),
+        HasAffinity(g, h, affinity) => has_affinity(groups, g, h, affinity),
+    }
+}
+
+fn take_all(rt: &impl Abort, groups: &mut Groups, steps: &[Step]) -> Result<(), Fail> {
+    for place in 0..steps.len() {
+        let holds = holds(groups, steps[place])?;
+        assert!(rt; holds, "step {place}");
+    }
     Ok(())
 }
 
-fn manage(groups: &mut Groups, g: &Name) -> Option<bool> {
-    if groups.group(g).is_some() {
-        groups.set_flag(g, Flag::Managed, true);
-    }
-    groups.group(g).map(|g| g.managed)
+/// The steps hold, one after the other.
+fn expect(rt: &impl Abort, alloc: Global, version: Version, steps: &[Step]) -> Result<(), Fail> {
+    let mut groups = Groups::new(alloc, version);
+    take_all(rt, &mut groups, steps)
 }
 
-fn delete(groups: &mut Groups, g: &Name) {
-    if groups.group(g).is_some() {
-        groups.delete_group(g);
-    }
-}
+const PLACES: &[Step] = &[
+    Create(b'r', b'g', 1),
+    Create(b'a', b'a', 2),
+    Manage(b'a'),
+    HasPlace(b'a', Some(1)),
+    Delete(b'g'),
+    HasPlace(b'g', None),
+    HasPlace(b'a', Some(0)),
+    Counts(1),
+];
 
 #[test]
 fn order_is_that_of_creation(rt: HostRuntime) -> Result<(), Fail> {
-    let (a, g) = (Name::new(b"a")?, Name::new(b"g")?);
-    let mut groups = one_group(rt.alloc(), Version::Two)?;
-    create(&mut groups, a, a, 2)?;
-    assert_eq!(rt; manage(&mut groups, &a), Some(true));
-    assert_eq!(rt; groups.group_place(&a), Some(1));
-    delete(&mut groups, &g);
-    assert_eq!(rt; groups.group_place(&g), None);
-    assert_eq!(rt; groups.group_place(&a), Some(0));
-    assert_eq!(rt; groups.group_count(), 1);
-    Ok(())
+    expect(&rt, rt.alloc(), Version::Two, PLACES)
 }
 
-fn scope(groups: &Groups, r: &Name, s: &Name) -> Option<Scope> {
-    if groups.resource(r).is_some() && groups.resource(s).is_some() {
-        Some(groups.scope(r, s))
-    } else {
-        None
-    }
-}
-
-fn affinity(groups: &Groups, g: &Name, h: &Name) -> Option<Affinity> {
-    if groups.group(g).is_some() {
-        groups.affinity(g, h)
-    } else {
-        None
-    }
-}
+const SCOPES: &[Step] = &[
+    Create(b'r', b'g', 1),
+    Create(b's', b'h', 2),
+    HasScope(b'r', b's', Scope::AnyMember),
+    HasAffinity(b'g', b'h', None),
+    SetAffinities,
+    HasScope(b'r', b's', Scope::SameNode),
+    HasScope(b's', b'r', Scope::AnyMember),
+    HasAffinity(b'g', b'h', Some(Affinity::Minus)),
+];
 
 #[test]
 fn affinities_give_the_scope(rt: HostRuntime) -> Result<(), Fail> {
-    let (g, h) = (Name::new(b"g")?, Name::new(b"h")?);
-    let (r, s) = (Name::new(b"r")?, Name::new(b"s")?);
-    let mut groups = one_group(rt.alloc(), Version::One)?;
-    create(&mut groups, s, h, 2)?;
-    assert_eq!(rt; scope(&groups, &r, &s), Some(Scope::AnyMember));
-    assert_eq!(rt; affinity(&groups, &g, &h), None);
-    set_group(&mut groups, b"RG_affinities", b"-h,+++h")?;
-    assert_eq!(rt; scope(&groups, &r, &s), Some(Scope::SameNode));
-    assert_eq!(rt; scope(&groups, &s, &r), Some(Scope::AnyMember));
-    assert_eq!(rt; affinity(&groups, &g, &h), Some(Affinity::Minus));
-    Ok(())
+    expect(&rt, rt.alloc(), Version::One, SCOPES)
 }

@@ -3,4 +3,4 @@
 
 mod limits;
 
-pub use limits::{Factor, Limit, Limits};
+pub use limits::{Factor, Limit, Limits, load_of};

@@ -138,8 +138,8 @@ fn brings_over(counted: &[Factor], own: &[Factor], name: &Name, bound: u64) -> b
 }
 
 #[tactic(auto, unfolding(crate::specs::Loads::load), using(crate::proofs::Sums::load_more))]
-/// The load of this name by all the factors.
-fn load_of(name: &Name, factors: &[Factor]) -> u64
+/// The load of this name by all the factors: a sum that would pass 2^63 - 1 stays there.
+pub fn load_of(name: &Name, factors: &[Factor]) -> u64
     ensures value { result ≡ load name.now factors.now }
     ensures most { result ≤ 2 ^ 63 - 1 }
 {

@@ -9,7 +9,8 @@ use Rattle.node_model.specs.declared.stop.Stop.TheVariants.{Down, NoMemory}
 use Rattle.node_model.specs.Members.{on_excluded}
 use Rattle.node_model.specs.Plans.{Gives, Plan}
 use Rattle.node_model.specs.Plans.Plan.{Stays, Falls, Says, Saves}
-use Rattle.node.specs.Handing.{Excludes, is_left_out, kept_so, left_so}
+use Rattle.node.specs.Handing.{Excludes, is_left_out, kept_so}
+use Rattle.node_model.specs.Left.{left_so}
 
 by_seat : {T : Type 0} → (x : UpNode) (e newest : ℕ) (given : List Output) (out : Bool) (done : Result T Stop)
     → is_left_out x.seat e ≡ out → Excludes x.seat e newest done → Gives (if out then Falls (down.Panic (panic.Excluded newest)) else Stays x) given (left_so x done) given

@@ -8,10 +8,6 @@ use Rattle.node_model.specs.declared.stop.Stop.{Stop}
 use Rattle.node_model.specs.declared.stop.Stop.TheVariants.{Down, NoMemory}
 use Rattle.node_model.specs.Seats.{state_of}
 
-abbrev pub left_so : {T : Type 0} → UpNode → Result T Stop → Result UpNode Stop
-left_so x (Ok t) = Ok x
-left_so x (Err stop) = Err stop
-
 -- without memory the run ends
 abbrev pub kept_so : {T E : Type 0} → UpNode → Result T E → Result UpNode Stop
 kept_so x (Ok t) = Ok x

@@ -8,13 +8,13 @@ ghost use Rattle.node.specs.Handing.{Excludes};
 ghost use Rattle.node.specs.Updates.{on_update, orders_name};
 ghost use Rattle.node_members.specs.Strangers.{names_strangers};
 
-use crate::handing::{hand_back, hand_over};
+use crate::handing::hand_back;
 use cl_base::{DevId, Epoch, NodeId, NodeSet, Outcome, Panic};
 use heartbeats::Beat;
 use node_attempts::go_on;
 use node_groups::{take_done, take_order};
 use node_members::{Request, collect, is_foreign, seize, take_install, take_start};
-use node_model::{Cluster, Output, Seat, Stop, UpNode};
+use node_model::{Cluster, Output, Seat, Stop, UpNode, hand_over};
 use node_presidents::take_request;
 use node_updates::{commit, prepare, take_prepared, take_reply};
 use record_disk::RecordDisk;

@@ -28,7 +28,8 @@ use Rattle.node_model.specs.Plans.{Plan, Follows, Gives, IsDone, KeepFails}
 use Rattle.node_model.specs.Plans.Plan.{Stays, Says, Saves}
 use Rattle.node_model.specs.Seats.{record_of}
 use Rattle.node_model.proofs.Plans.{done_then, follows_saves, follows_says, gives_follows}
-use Rattle.node_attempts.specs.Told.{asking_none, end_told, installed_in, left_so, membership_told, seated, settling, start_told, voted}
+use Rattle.node_attempts.specs.Told.{asking_none, end_told, installed_in, membership_told, seated, settling, start_told, voted}
+use Rattle.node_model.specs.Left.{left_so}
 
 -- memory has run out
 pub no_memory : {K : Type 0} → (saving : K → NodeRecord → Saving K) (plan : Plan) (given after : List Output) (disk left : K) (stop : Stop) → stop ≡ NoMemory → Follows saving plan given disk (Err stop) after left

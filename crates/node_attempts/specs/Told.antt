@@ -1,5 +1,5 @@
 -- What is saved and told on the way of an attempt, part by part.
-use Rattle.std.specs.Prelude.{ℕ, Bool, List, [], Option, None, Some, Result, Ok, Err, length, if◌then◌else◌}
+use Rattle.std.specs.Prelude.{ℕ, Bool, List, [], Option, None, Some, length, if◌then◌else◌}
 use Rattle.std.specs.Option.{unwrap_or}
 use Rattle.cmm_attempt.specs.declared.step.AttemptEnd.{AttemptEnd}
 use Rattle.cmm_attempt.specs.declared.step.Step.{Step}
@@ -12,7 +12,6 @@ use Rattle.wire.specs.declared.message.Install.{Install}
 use Rattle.node_model.specs.declared.cluster.Cluster.{Cluster}
 use Rattle.node_model.specs.declared.node.UpNode.{UpNode}
 use Rattle.node_model.specs.declared.seat.Seat.TheVariants.{Member}
-use Rattle.node_model.specs.declared.stop.Stop.{Stop}
 use Rattle.node_model.specs.Attempts.{adopted_of, base_lines, ended_entry, excluding, install_of, installed_so, is_choosing, joining_from, keeping_if, left_out_by, started_entry, under_way, votes_in}
 use Rattle.node_model.specs.Configurations.{in_force}
 use Rattle.node_model.specs.Entries.{telling, telling_of}
@@ -20,11 +19,6 @@ use Rattle.node_model.specs.Plans.{Plan}
 use Rattle.node_model.specs.Plans.Plan.{Stays, Says}
 use Rattle.node_model.specs.Presidents.{tidied}
 use Rattle.node_model.specs.Seats.{record_of, state_of}
-
--- what a call has come to that leaves the node so
-abbrev pub left_so : {T : Type 0} → UpNode → Result T Stop → Result UpNode Stop
-left_so x (Ok t) = Ok x
-left_so x (Err stop) = Err stop
 
 -- nobody waits for an answer any more
 abbrev pub asking_none : UpNode → UpNode

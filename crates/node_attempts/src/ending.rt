@@ -3,7 +3,8 @@ ghost use Rattle.std.specs.Prelude.{◌≡◌};
 ghost use Rattle.node_model.specs.declared.node.UpNode.{UpNode};
 ghost use Rattle.node_model.specs.Attempts.{ended_entry, ending, excluding, left_out_by};
 ghost use Rattle.node_model.specs.Plans.{Gives};
-ghost use Rattle.node_attempts.specs.Told.{end_told, left_so};
+ghost use Rattle.node_attempts.specs.Told.{end_told};
+ghost use Rattle.node_model.specs.Left.{left_so};
 
 use cl_base::{Epoch, NodeId, Panic};
 use cmm_attempt::{Attempt, AttemptEnd};

@@ -2,13 +2,13 @@
 ghost use Rattle.std.specs.Prelude.{◌≡◌, IfOk};
 ghost use Rattle.node_model.specs.Attempts.{changed_by, installing_here};
 ghost use Rattle.node_model.specs.Plans.{Follows};
-ghost use Rattle.node_attempts.specs.Told.{installed_in, left_so, settling};
+ghost use Rattle.node_attempts.specs.Told.{installed_in, settling};
+ghost use Rattle.node_model.specs.Left.{left_so};
 
-use crate::handing::hand_over;
 use cl_base::NodeId;
 use node_acts::{begin_joins, install, save_install};
 use node_decisions::tidy;
-use node_model::{Cluster, Output, Stop, UpNode};
+use node_model::{Cluster, Output, Stop, UpNode, hand_over};
 use record_disk::RecordDisk;
 use std::alloc::{AllocError, Global};
 use wire::Install;

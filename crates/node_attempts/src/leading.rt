@@ -13,12 +13,11 @@ ghost use Rattle.node_model.specs.Plans.{Follows, KeepFails};
 ghost use Rattle.node_model.specs.Seats.{record_of};
 ghost use Rattle.node_attempts.specs.Told.{asking_none};
 
-use crate::handing::hand_over;
 use crate::performing::go_on;
 use cl_base::{Epoch, NodeId, NodeSet};
 use cmm_attempt::{AttachedDevices, Attempt, Steps};
 use node_acts::{end_requests, promise_body};
-use node_model::{Cluster, Output, Seat, Slot, Stop, UpNode, keep, tell};
+use node_model::{Cluster, Output, Seat, Slot, Stop, UpNode, hand_over, keep, tell};
 use record_disk::RecordDisk;
 use status_report::{AttemptEntry, Entry};
 use std::alloc::{AllocError, Global};

@@ -3,7 +3,6 @@
 #![tactic(auto)]
 
 mod ending;
-mod handing;
 mod installing;
 mod leading;
 mod performing;

@@ -10,7 +10,6 @@ ghost use Rattle.node_attempts.specs.StartSteps.{is_start};
 ghost use Rattle.node_attempts.specs.Told.{readied, readied_steps, voted};
 
 use crate::ending::end_attempt;
-use crate::handing::hand_over;
 use crate::installing::install_here;
 use crate::starting::start_here;
 use crate::voting::newest_votes;
@@ -18,7 +17,7 @@ use cl_base::{DevId, NodeId};
 use cmm_attempt::{Attempt, Step, Steps};
 use device_queue::DeviceQueue;
 use node_decisions::decide;
-use node_model::{Cluster, Output, Stop, UpNode, send};
+use node_model::{Cluster, Output, Stop, UpNode, hand_over, send};
 use record_disk::RecordDisk;
 use seize::{Seize, SeizeKind};
 use std::alloc::{AllocError, Global};

@@ -7,15 +7,15 @@ ghost use Rattle.std.specs.Option.{option_map};
 ghost use Rattle.node_model.specs.declared.stop.Stop.TheVariants.{NoMemory};
 ghost use Rattle.node_model.specs.Attempts.{base_lines, entering, member_by, presiding, started_entry, starting_here, starting_with, under_way};
 ghost use Rattle.node_model.specs.Plans.{Follows, Gives};
-ghost use Rattle.node_attempts.specs.Told.{left_so, membership_told, seated, start_told};
+ghost use Rattle.node_attempts.specs.Told.{membership_told, seated, start_told};
+ghost use Rattle.node_model.specs.Left.{left_so};
 
-use crate::handing::hand_over;
 use cl_base::{Bytes, Epoch, NodeId};
 use cmm_attempt::Attempt;
 use cmm_member::Started;
 use node_acts::become_member;
 use node_adoption::{preside, tell_adopted};
-use node_model::{Cluster, Output, Presidency, Seat, Slot, Stop, UpNode, keep};
+use node_model::{Cluster, Output, Presidency, Seat, Slot, Stop, UpNode, hand_over, keep};
 use record_disk::RecordDisk;
 use status_report::{Entry, NodeEntry, StartEntry};
 use std::alloc::{AllocError, Global};

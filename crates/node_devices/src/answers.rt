@@ -7,13 +7,12 @@ ghost use Rattle.pgr_device.specs.Keys.{HasNoZeroKey};
 ghost use Rattle.node_model.specs.Devices.{joined_all, joined_here, on_answer_of_device, on_progress, seized_here};
 ghost use Rattle.node_model.specs.Plans.{Follows};
 
-use crate::handing::hand_over;
 use crate::told::{coordinator, greatest_of, told_answer, word_in};
 use cl_base::{DevId, Epoch, NodeId};
 use device_queue::Progress;
 use node_attempts::{go_on, own_ready};
 use node_members::{ready, send_seized};
-use node_model::{Cluster, Output, Stop, UpNode, keep, tell};
+use node_model::{Cluster, Output, Stop, UpNode, hand_over, keep, tell};
 use pgr_device::{Failed, PrAnswer};
 use record_disk::RecordDisk;
 use seize::{JoinResult, SeizeResult, told_result};

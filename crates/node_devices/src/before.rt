@@ -2,9 +2,8 @@
 ghost use Rattle.node_model.specs.Devices.{before_command};
 ghost use Rattle.node_model.specs.Plans.{Follows};
 
-use crate::handing::hand_over;
 use cl_base::NodeId;
-use node_model::{Output, Stop, UpNode, keep};
+use node_model::{Output, Stop, UpNode, hand_over, keep};
 use record_disk::RecordDisk;
 use std::alloc::Global;
 

@@ -4,7 +4,6 @@
 
 mod answers;
 mod before;
-mod handing;
 mod told;
 mod writes;
 

@@ -4,12 +4,11 @@ ghost use Rattle.status_report.specs.declared.device_entry.DeviceEntry.TheVarian
 ghost use Rattle.status_report.specs.declared.entry.Entry.TheVariants as trace;
 ghost use Rattle.node_model.specs.Devices.{may_write_as, write_ended, wrote};
 ghost use Rattle.node_model.specs.Plans.{Gives};
-ghost use Rattle.node_devices.specs.Left.{left_so};
+ghost use Rattle.node_model.specs.Left.{left_so};
 
-use crate::handing::hand_over;
 use crate::told::told_answer;
 use cl_base::{DevId, Epoch, NodeId, Panic};
-use node_model::{Cluster, Output, Seat, Stop, UpNode, tell};
+use node_model::{Cluster, Output, Seat, Stop, UpNode, hand_over, tell};
 use pgr_device::{Failed, PrAnswer, PrCommand};
 use status_report::{DeviceEntry, DownCause, Entry, WriteRefusal};
 

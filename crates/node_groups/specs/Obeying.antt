@@ -1,5 +1,5 @@
 -- An order is carried out, and what follows that. What stands here unfolds only where it is named, but for what is told.
-use Rattle.std.specs.Prelude.{ℕ, List, [], ◌∷◌, Result, Ok, Err}
+use Rattle.std.specs.Prelude.{ℕ, List, [], ◌∷◌}
 use Rattle.cl_base.specs.declared.method.Outcome.{Outcome}
 use Rattle.cl_base.specs.declared.method.Outcome.TheVariants.{Success}
 use Rattle.rgm_member.specs.Orders.{answer_to}
@@ -11,14 +11,8 @@ use Rattle.node_model.specs.declared.cluster.Cluster.{Cluster}
 use Rattle.node_model.specs.declared.node.UpNode.{UpNode}
 use Rattle.node_model.specs.declared.output.Output.{Output}
 use Rattle.node_model.specs.declared.output.Output.TheVariants.{Sends}
-use Rattle.node_model.specs.declared.stop.Stop.{Stop}
 use Rattle.node_model.specs.Groups.{carrying_own, obeying}
 use Rattle.node_model.specs.Plans.{Plan}
-
--- what a call has come to that leaves the node so
-abbrev pub left_so : {T : Type 0} → UpNode → Result T Stop → Result UpNode Stop
-left_so x (Ok t) = Ok x
-left_so x (Err stop) = Err stop
 
 -- how the order ended, as the president is told
 abbrev pub done_told : ℕ → Order → Outcome → List Output

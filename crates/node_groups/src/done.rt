@@ -5,11 +5,10 @@ ghost use Rattle.node_model.specs.Plans.{Follows};
 ghost use Rattle.node_model.specs.Seats.{is_member};
 ghost use Rattle.node_groups.specs.Ending.{Ends, after_end, ended_under, ending, ends_at, ends_by};
 
-use crate::handing::hand_over;
 use ccr_tables::Config;
 use cl_base::{Epoch, NodeId, Outcome};
 use node_decisions::{decide, in_force};
-use node_model::{Cluster, Output, Presidency, Stop, UpNode};
+use node_model::{Cluster, Output, Presidency, Stop, UpNode, hand_over};
 use node_presidents::{handle, is_of_member};
 use record_disk::RecordDisk;
 use std::alloc::{AllocError, Global};

@@ -7,7 +7,6 @@ mod calls;
 mod carrying;
 mod done;
 mod due;
-mod handing;
 mod monitors;
 mod orders;
 

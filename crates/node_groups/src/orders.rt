@@ -5,14 +5,14 @@ ghost use Rattle.node_model.specs.Plans.{Follows, Gives};
 ghost use Rattle.node_model.specs.Seats.{is_member};
 ghost use Rattle.rgm_member.specs.Orders.{outcome_in};
 ghost use Rattle.node_groups.specs.Carrying.{names};
-ghost use Rattle.node_groups.specs.Obeying.{carries_own, done_told, end_told, left_so, obeys};
+ghost use Rattle.node_groups.specs.Obeying.{carries_own, done_told, end_told, obeys};
+ghost use Rattle.node_model.specs.Left.{left_so};
 
 use crate::carrying::carry_out;
 use crate::done::end_order;
 use crate::due::own_order;
-use crate::handing::hand_over;
 use cl_base::{NodeId, Outcome};
-use node_model::{Cluster, Output, Stop, UpNode};
+use node_model::{Cluster, Output, Stop, UpNode, hand_over};
 use node_presidents::is_member_in;
 use record_disk::RecordDisk;
 use rgm_member::Carried;

@@ -15,7 +15,7 @@ use Rattle.node_model.specs.Plans.{Follows, Gives, Plan}
 use Rattle.node_model.specs.Plans.Plan.{Says}
 use Rattle.node_model.specs.Seats.{promised_of, promising, state_of}
 use Rattle.node_model.proofs.Plans.{gives_follows}
-use Rattle.node_members.specs.Left.{left_so}
+use Rattle.node_model.specs.Left.{left_so}
 use Rattle.node_members.specs.Promises.{answered_again, epoch_of, leaving, promise_answered, superseded_at, without_session}
 
 abbrev promised : UpNode → ℕ → UpNode

@@ -10,7 +10,7 @@ use Rattle.node_model.specs.declared.stop.Stop.{Stop}
 use Rattle.node_model.specs.Members.{on_request, on_seizing}
 use Rattle.node_model.specs.Plans.{Gives, Plan}
 use Rattle.node_model.specs.Seats.{session_of}
-use Rattle.node_members.specs.Left.{left_so}
+use Rattle.node_model.specs.Left.{left_so}
 
 some_of : (n : ℕ) → (n == 0) ≡ false → nat_le 1 n ≡ true
 some_of n h = grind arith

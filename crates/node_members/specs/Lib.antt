@@ -1,6 +1,5 @@
 -- what only the proofs need
 pub mod Installs
-pub mod Left
 pub mod Promises
 pub mod Starts
 pub mod Strangers

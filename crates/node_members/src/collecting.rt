@@ -3,13 +3,12 @@ ghost use Rattle.std.specs.Prelude.{◌≡◌, ◌<◌};
 ghost use Rattle.node_model.specs.Members.{on_collect, rested_by};
 ghost use Rattle.node_model.specs.Plans.{Follows, Gives};
 ghost use Rattle.node_model.specs.Seats.{promised_of};
-ghost use Rattle.node_members.specs.Left.{left_so};
+ghost use Rattle.node_model.specs.Left.{left_so};
 ghost use Rattle.node_members.specs.Promises.{answered_again, epoch_of, leaving, promise_answered, without_session};
 
-use crate::handing::hand_over;
 use cl_base::{Epoch, NodeId};
 use node_acts::{end_requests, promise_body};
-use node_model::{Output, Seat, Stop, UpNode, keep, send, tell};
+use node_model::{Output, Seat, Stop, UpNode, hand_over, keep, send, tell};
 use record_disk::RecordDisk;
 use status_report::{AttemptEntry, Entry};
 use std::alloc::Global;

@@ -4,13 +4,12 @@ ghost use Rattle.node_model.specs.Attempts.{changed_by};
 ghost use Rattle.node_model.specs.Members.{on_install, readying};
 ghost use Rattle.node_model.specs.Plans.{Follows, Gives};
 ghost use Rattle.node_members.specs.Installs.{installed_in, installing_members, settling};
-ghost use Rattle.node_members.specs.Left.{left_so};
+ghost use Rattle.node_model.specs.Left.{left_so};
 
-use crate::handing::hand_over;
 use cl_base::{Epoch, NodeId};
 use node_acts::{begin_joins, install, own_report, save_install};
 use node_decisions::tidy;
-use node_model::{Cluster, Output, Stop, UpNode, send};
+use node_model::{Cluster, Output, Stop, UpNode, hand_over, send};
 use record_disk::RecordDisk;
 use std::alloc::{AllocError, Global};
 use wire::{Body, Install};

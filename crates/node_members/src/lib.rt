@@ -3,7 +3,6 @@
 
 mod collecting;
 mod foreign;
-mod handing;
 mod install;
 mod seizing;
 mod start;

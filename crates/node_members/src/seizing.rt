@@ -6,11 +6,10 @@ ghost use Rattle.node_model.specs.declared.output.Output.TheVariants.{Sends};
 ghost use Rattle.node_model.specs.declared.stop.Stop.TheVariants.{NoMemory};
 ghost use Rattle.node_model.specs.Members.{on_request, on_seizing};
 ghost use Rattle.node_model.specs.Plans.{Gives};
-ghost use Rattle.node_members.specs.Left.{left_so};
+ghost use Rattle.node_model.specs.Left.{left_so};
 
-use crate::handing::hand_over;
 use cl_base::{DevId, Epoch, NodeId, NodeSet, SeizeEnd};
-use node_model::{Cluster, Output, Stop, UpNode, send};
+use node_model::{Cluster, Output, Stop, UpNode, hand_over, send};
 use seize::{Seize, SeizeKind, SeizeResult, told_result};
 use std::alloc::Global;
 use wire::{Body, SeizedResult};

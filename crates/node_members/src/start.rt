@@ -2,14 +2,13 @@
 ghost use Rattle.std.specs.Prelude.{◌≡◌};
 ghost use Rattle.node_model.specs.Members.{on_start_as};
 ghost use Rattle.node_model.specs.Plans.{Follows};
-ghost use Rattle.node_members.specs.Left.{left_so};
+ghost use Rattle.node_model.specs.Left.{left_so};
 ghost use Rattle.node_members.specs.Starts.{entered};
 
-use crate::handing::hand_over;
 use cl_base::{Epoch, NodeId};
 use cmm_member::Started;
 use node_acts::become_member;
-use node_model::{Output, Seat, Stop, UpNode, keep, tell_of};
+use node_model::{Output, Seat, Stop, UpNode, hand_over, keep, tell_of};
 use record_disk::RecordDisk;
 use status_report::NodeEntry;
 use std::alloc::Global;

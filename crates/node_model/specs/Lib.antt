@@ -16,3 +16,4 @@ pub mod Ticks
 pub mod Steps
 pub mod Inputs
 pub mod Calls
+pub mod Left

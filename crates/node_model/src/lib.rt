@@ -4,6 +4,7 @@
 
 mod cluster;
 mod first_header;
+mod handing;
 mod input;
 mod node;
 mod output;
@@ -14,6 +15,7 @@ mod stop;
 
 pub use cluster::Cluster;
 pub use first_header::FirstHeader;
+pub use handing::hand_over;
 pub use input::Input;
 pub use node::{Node, UpNode};
 pub use output::{Output, cause_of, keep, send, tell, tell_of};

@@ -1,5 +1,5 @@
 -- The plans of a president, by what it has in hand.
-use Rattle.std.specs.Prelude.{ℕ, ◌==◌, Bool, false, List, [], ◌∷◌, Option, None, Some, Result, Ok, Err, if◌then◌else◌, true}
+use Rattle.std.specs.Prelude.{ℕ, ◌==◌, Bool, false, List, [], ◌∷◌, Option, None, Some, Ok, if◌then◌else◌, true}
 use Rattle.std.specs.Option.{option_map}
 use Rattle.admin_words.specs.Commands.{command_of}
 use Rattle.ccr_tables.specs.State.{ConfigState}
@@ -27,7 +27,6 @@ use Rattle.node_model.specs.declared.node.UpNode.{UpNode}
 use Rattle.node_model.specs.declared.output.Output.{Output}
 use Rattle.node_model.specs.declared.output.Output.TheVariants.{Tells, Sends}
 use Rattle.node_model.specs.declared.presidency.Presidency.{Presidency}
-use Rattle.node_model.specs.declared.stop.Stop.{Stop}
 use Rattle.node_model.specs.Configurations.{in_force}
 use Rattle.node_model.specs.Deciding.{all_sent, is_held_up, may_order, orders_sent}
 use Rattle.node_model.specs.Entries.{keeping, telling}
@@ -146,11 +145,6 @@ proposed_line e place text = Tells (entry.Update (update.Proposed e place text))
 
 abbrev pub acknowledged_line : ℕ → ℕ → List ℕ → Output
 acknowledged_line e place text = Tells (entry.Update (update.Acknowledged e place text))
-
--- what a call has come to that leaves the node so
-abbrev pub left_so : {T : Type 0} → UpNode → Result T Stop → Result UpNode Stop
-left_so x (Ok t) = Ok x
-left_so x (Err stop) = Err stop
 
 -- the president takes up what these words change
 abbrev pub taken_under : ConfigState → Cluster → List ℕ → Presidency → Presidency

@@ -6,12 +6,11 @@ ghost use Rattle.node_model.specs.Updates.{on_asked};
 ghost use Rattle.proposals.specs.Arrivals.{arrival_of, with_arrival};
 ghost use Rattle.node_presidents.specs.Presidents.{answer_again_by, arrival_by, arriving_by, come_to, is_new, receiving};
 
-use crate::handing::hand_over;
 use crate::members::is_of_member;
 use crate::telling::copied;
 use crate::turns::handle;
 use cl_base::{Bytes, Epoch, NodeId};
-use node_model::{Cluster, Output, Presidency, Stop, UpNode};
+use node_model::{Cluster, Output, Presidency, Stop, UpNode, hand_over};
 use proposals::{Arrival, Arrived};
 use record_disk::RecordDisk;
 use std::alloc::{AllocError, Global};

@@ -5,7 +5,6 @@
 mod acting;
 mod answers;
 mod arriving;
-mod handing;
 mod members;
 mod proposing;
 mod sending;
@@ -16,7 +15,6 @@ mod verdict;
 mod words;
 
 pub use arriving::{arrive, take_request};
-pub use handing::hand_over;
 pub use members::{is_in, is_member_in, is_of_member};
 pub use proposing::{acknowledge, last_place};
 pub use sending::send_prepares;

@@ -3,16 +3,16 @@ ghost use Rattle.std.specs.Prelude.{◌≡◌, ◌≤◌, ◌-◌, ◌^◌, true
 ghost use Rattle.node_model.specs.Plans.{Follows, Gives};
 ghost use Rattle.node_model.specs.Presidents.{handling, requests_of};
 ghost use Rattle.node_model.specs.Seats.{is_member};
-ghost use Rattle.node_presidents.specs.Presidents.{HasRoomBy, left_so, turn};
+ghost use Rattle.node_presidents.specs.Presidents.{HasRoomBy, turn};
+ghost use Rattle.node_model.specs.Left.{left_so};
 ghost use Rattle.node_presidents.specs.Verdicts.{MayDo, acted, answered_first, doing};
 
 use crate::acting::act;
 use crate::answers::answer_first;
-use crate::handing::hand_over;
 use crate::proposing::propose;
 use crate::verdict::{Verdict, judge};
 use cl_base::{Ask, NodeId};
-use node_model::{Cluster, Output, Stop, UpNode};
+use node_model::{Cluster, Output, Stop, UpNode, hand_over};
 use record_disk::RecordDisk;
 use status_report::Answer;
 use std::alloc::{AllocError, Global};

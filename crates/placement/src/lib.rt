@@ -16,6 +16,6 @@ mod score;
 
 pub use eligibility::eligible;
 pub use goals::goal;
-pub use loads::{is_fixed, load_of};
+pub use loads::is_fixed;
 pub use resources::{has_enabled, is_online, is_stop_failed};
 pub use score::Score;

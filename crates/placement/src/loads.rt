@@ -2,12 +2,12 @@
 ghost use Rattle.std.specs.Prelude.{◌≡◌, ◌≤◌, ◌-◌, ◌^◌, [], false, slice_get};
 ghost use Rattle.std.specs.List.{position_or_len};
 ghost use Rattle.std.specs.Option.{option_map, option_map_or, option_copied};
-ghost use Rattle.load_limits.specs.Loads.{brings_over, load, share};
+ghost use Rattle.load_limits.specs.Loads.{brings_over, load};
 ghost use Rattle.placement.specs.Loads.{brought_at, counted, counts_at, factors_of, is_entry_of, is_fixed, is_suspended, passed_limit, soft_passed};
 
 use crate::resources::is_stop_failed;
 use cl_base::{Name, NodeId};
-use load_limits::{Factor, Limit, Limits};
+use load_limits::{Limit, Limits, load_of};
 use rg_props::{Group, Groups};
 use rg_view::{Goals, GroupView};
 
@@ -156,28 +156,5 @@ fn is_suspended(group: Option<&Group>) -> bool
     match group {
         Some(group) => group.suspended,
         None => false,
-    }
-}
-
-#[tactic(auto, unfolding(load_limits::specs::Loads::load), using(load_limits::proofs::Sums::load_more))]
-/// The load of this name by all the factors.
-pub fn load_of(name: &Name, factors: &[Factor]) -> u64
-    ensures value { result ≡ load name.now factors.now }
-    ensures most { result ≤ 2 ^ 63 - 1 }
-{
-    let mut load = 0u64;
-    for factor in factors {
-        load = load.saturating_add(share(name, factor)).min(MOST);
-    }
-    load
-}
-
-fn share(name: &Name, factor: &Factor) -> u64
-    ensures { result ≡ share name.now factor.now }
-{
-    if factor.name.bytes() == name.bytes() {
-        factor.load
-    } else {
-        0
     }
 }

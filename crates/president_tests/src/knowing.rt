@@ -1,226 +1,249 @@
-// What is known of groups, and what changes it.
-use crate::fixture::{adopted, config, name, node, report, told, unmarked};
+// What is known of groups by reports, and what changes it.
+use crate::fixture::Request::{Clear, Evacuate, Move, Remaster, Restart};
+use crate::fixture::{
+    NONE, Request, State, States, adopted, asked, first, history, name, node, reports, set_up,
+};
+use crate::known::Fact::{
+    Flags, Goal, History, IsEvacuated, Leaves, Members, NoHistory, NoMarks, NoOrders, Restarts,
+};
+use crate::known::{Fact, is_known};
+use Turn::{Ask, Know};
 use ccr_tables::{Config, Update};
-use cl_base::{Ask, Bytes, Items, Method, Name, NodeId, NodeSet, Outcome};
-use rg_view::{GroupAt, GroupView, Outstanding, ResourceAt};
+use cl_base::{Items, Method, NodeId, NodeSet, Outcome};
+use rg_view::{GroupView, Outstanding};
+use rgm_president::President;
 use rgm_state::{adopt, clear_fault, end_order, is_up, resources_of, take_up, update};
 use std::alloc::Global;
 use std::process::Abort;
 use std::test::Fail;
-use wire::{GroupReport, LastFailures, Marks, Report};
+use wire::{LastFailures, Report};
 
-/// Node 1 reports that a runs, and that g failed twice and moved.
-fn first_report(alloc: Global) -> Result<Report, Fail> {
-    let runs = Marks {
-        run: true,
-        ..unmarked()
+/// Node 1 reports that a runs, and that g failed twice and moved; node 2 that b is faulted.
+fn told(alloc: Global) -> Result<[(NodeId, Report); 2], Fail> {
+    let one = States {
+        a: Some(State::Running),
+        b: None,
     };
-    let resources = vec![in alloc; told(alloc, b"a", runs)?]?;
-    let group = GroupReport {
-        group: Bytes::new(b"g".to_vec(alloc)?),
-        failures: LastFailures::Twice(3, 5),
-        moved: Some(7),
+    let two = States {
+        a: None,
+        b: Some(State::Faulted),
     };
-    Ok(report(resources, vec![in alloc; group]?))
+    reports(alloc, one, two, history(alloc)?)
 }
 
-/// Node 2 reports that b is faulted.
-fn second_report(alloc: Global) -> Result<Report, Fail> {
-    let faulted = Marks {
-        faulted: true,
-        ..unmarked()
-    };
-    let resources = vec![in alloc; told(alloc, b"b", faulted)?]?;
-    Ok(report(resources, Vec::new(alloc)))
+/// What these reports tell, and nothing else.
+const TOLD: &[Fact] = &[
+    Flags(b'a', 1, 2),
+    Flags(b'b', 1, 0),
+    Flags(b'a', 2, 0),
+    Flags(b'b', 2, 8),
+    History(1, LastFailures::Twice(3, 5), Some(7)),
+    NoHistory(2),
+    Goal(1),
+    Members(0b11, 10),
+    NoMarks,
+    NoOrders,
+];
+
+/// What is done, or is so.
+#[derive(Clone, Copy)]
+enum Turn {
+    /// This is known.
+    Know(Fact),
+    /// The node asks for this at the second.
+    Ask(u64, Request, u64),
+    /// STOP of a succeeds on node 1.
+    StopA,
+    /// The mark of b ends on node 2.
+    ClearB,
+    /// An administrator sends g to the node.
+    Send(u64),
+    /// What the reports tell is known.
+    KnowAll,
+    /// The resources of g are a and b.
+    HasBoth,
+    /// Whether g is up on the node.
+    IsUp(u64, bool),
 }
 
-fn bits(s: ResourceAt) -> u64 {
-    let flags = s.pre as u64 + 2 * (s.run as u64) + 4 * (s.mon as u64);
-    let marks = 8 * (s.faulted as u64)
-        + 16 * (s.stop_failed as u64)
-        + 32 * (s.monitor_failed as u64);
-    flags + marks
-}
-
-/// The flags and marks of a and b on nodes 1 and 2.
-fn states(view: &GroupView) -> Result<[u64; 4], Fail> {
-    let (a, b, one, two) = (name(b"a")?, name(b"b")?, node(1)?, node(2)?);
-    let known = &view.resources;
-    Ok([
-        bits(known.state(&a, one)),
-        bits(known.state(&b, one)),
-        bits(known.state(&a, two)),
-        bits(known.state(&b, two)),
-    ])
-}
-
-fn expect_history(rt: &impl Abort, found: Option<&GroupAt>, failures: &[u64], moves: &[u64]) {
-    assert!(rt; found.is_some());
-    if let Some(found) = found {
-        assert_eq!(rt; found.failures.items(), failures);
-        assert_eq!(rt; found.moves.items(), moves);
+fn is_told(view: &GroupView) -> Result<bool, Fail> {
+    for fact in TOLD {
+        if !is_known(view, *fact)? {
+            return Ok(false);
+        }
     }
+    Ok(true)
 }
 
-/// What the reports tell, and nothing else.
-fn expect_told(rt: &impl Abort, view: &GroupView) -> Result<(), Fail> {
-    let g = name(b"g")?;
-    assert_eq!(rt; states(view)?, [2, 0, 0, 8]);
-    expect_history(rt, view.groups.history(&g, node(1)?), &[3, 5], &[7]);
-    assert!(rt; view.groups.history(&g, node(2)?).is_none());
-    assert_eq!(rt; view.goals.goal(&g).bits(), 1);
-    assert_eq!(rt; (view.members.bits(), view.now), (3, 10));
-    let marks = (
-        view.evacuated.len(),
-        view.leaving.len(),
-        view.restarting.len(),
-    );
-    assert_eq!(rt; marks, (0, 0, 0));
-    assert!(rt; view.outstanding.is_empty());
-    Ok(())
+fn has_both(alloc: Global, c: &Config) -> Result<bool, Fail> {
+    let (g, wanted) = (name(b'g')?, [name(b'a')?, name(b'b')?]);
+    let found = resources_of(alloc, c.groups(), &g)?;
+    Ok(found.as_slice() == wanted.as_slice())
 }
 
-fn reports(alloc: Global) -> Result<[(NodeId, Report); 2], Fail> {
-    Ok([
-        (node(1)?, first_report(alloc)?),
-        (node(2)?, second_report(alloc)?),
-    ])
+fn stands_up(
+    alloc: Global,
+    view: &GroupView,
+    c: &Config,
+    n: u64,
+    wanted: bool,
+) -> Result<bool, Fail> {
+    let (g, n) = (name(b'g')?, node(n)?);
+    Ok(is_up(alloc, c.groups(), &view.resources, &g, n)? == wanted)
 }
 
-fn view(alloc: Global, c: &Config) -> Result<GroupView, Fail> {
-    let reports = reports(alloc)?;
-    Ok(adopt(alloc, NodeSet::first(2), &reports, c, 10)?)
-}
-
-/// Both start with what the reports tell.
-fn adopt_both(rt: &impl Abort, alloc: Global, c: &Config) -> Result<(), Fail> {
-    expect_adopted(rt, alloc, c)?;
-    expect_told(rt, &view(alloc, c)?)
-}
-
-fn expect_adopted(rt: &impl Abort, alloc: Global, c: &Config) -> Result<(), Fail> {
-    let reports = reports(alloc)?;
-    let p = adopted(alloc, c, &reports)?;
-    assert_eq!(rt; p.given(), 0);
-    expect_told(rt, p.view())
-}
-
-#[test]
-fn what_reports_tell(rt: HostRuntime) -> Result<(), Fail> {
-    let c = config(rt.alloc(), b"NONE")?;
-    adopt_both(&rt, rt.alloc(), &c)
-}
-
-/// g has the resources a and b, and is up on node 1.
-fn expect_up(rt: &impl Abort, alloc: Global, view: &GroupView, c: &Config) -> Result<(), Fail> {
-    let (groups, g) = (c.groups(), name(b"g")?);
-    let resources = resources_of(alloc, groups, &g)?;
-    assert_eq!(rt; resources.as_slice(), [name(b"a")?, name(b"b")?].as_slice());
-    assert!(rt; is_up(alloc, groups, &view.resources, &g, node(1)?)?);
-    assert!(rt; !is_up(alloc, groups, &view.resources, &g, node(2)?)?);
-    Ok(())
-}
-
-/// STOP of a succeeds on node 1, and the mark of b ends on node 2.
 fn stop(alloc: Global, view: &mut GroupView, c: &Config) -> Result<(), Fail> {
     let order = Outstanding {
         node: node(1)?,
         number: 1,
-        resource: name(b"a")?,
+        resource: name(b'a')?,
         method: Some(Method::Stop),
     };
-    end_order(alloc, view, order, Outcome::Success, c, 20)?;
-    clear_fault(&mut view.resources, &name(b"b")?, node(2)?)?;
+    Ok(end_order(alloc, view, order, Outcome::Success, c, 20)?)
+}
+
+fn send(alloc: Global, view: &mut GroupView, c: &Config, n: u64) -> Result<(), Fail> {
+    let (group, n) = (name(b'g')?, node(n)?);
+    let nodes = Items::new(vec![in alloc; n]?);
+    Ok(update(alloc, view, &Update::SwitchGroup { group, nodes }, c)?)
+}
+
+fn clear_b(view: &mut GroupView) -> Result<(), Fail> {
+    Ok(clear_fault(&mut view.resources, &name(b'b')?, node(2)?)?)
+}
+
+fn take(
+    alloc: Global,
+    view: &mut GroupView,
+    c: &Config,
+    from: u64,
+    request: Request,
+    now: u64,
+) -> Result<(), Fail> {
+    Ok(take_up(alloc, view, node(from)?, asked(request)?, c, now)?)
+}
+
+fn holds(alloc: Global, view: &mut GroupView, c: &Config, turn: Turn) -> Result<bool, Fail> {
+    match turn {
+        Turn::Know(fact) => return is_known(view, fact),
+        Turn::KnowAll => return is_told(view),
+        Turn::HasBoth => return has_both(alloc, c),
+        Turn::IsUp(n, wanted) => return stands_up(alloc, view, c, n, wanted),
+        Turn::Ask(from, request, now) => take(alloc, view, c, from, request, now)?,
+        Turn::StopA => stop(alloc, view, c)?,
+        Turn::ClearB => clear_b(view)?,
+        Turn::Send(n) => send(alloc, view, c, n)?,
+    }
+    Ok(true)
+}
+
+/// The turns hold, one after the other.
+fn take_all(
+    rt: &impl Abort,
+    alloc: Global,
+    view: &mut GroupView,
+    c: &Config,
+    turns: &[Turn],
+) -> Result<(), Fail> {
+    for place in 0..turns.len() {
+        let holds = holds(alloc, view, c, turns[place])?;
+        assert!(rt; holds, "turn {place}");
+    }
     Ok(())
 }
 
-/// The goal of g in bits, and whether g is evacuated from node 2.
-fn sent(view: &GroupView, g: &Name) -> Result<(u32, bool), Fail> {
-    Ok((view.goals.goal(g).bits(), view.evacuated.has(g, node(2)?)))
+fn view(alloc: Global, c: &Config) -> Result<GroupView, Fail> {
+    let reports = told(alloc)?;
+    Ok(adopt(alloc, NodeSet::first(2), &reports, c, 10)?)
 }
 
-/// g is sent to node 2, evacuated from it, and then has its nodes chosen anew.
-fn send(rt: &impl Abort, alloc: Global, view: &mut GroupView, c: &Config) -> Result<(), Fail> {
-    let (g, two) = (name(b"g")?, node(2)?);
-    let to_two = Update::SwitchGroup {
-        group: g,
-        nodes: Items::new(vec![in alloc; two]?),
-    };
-    update(alloc, view, &to_two, c)?;
-    assert_eq!(rt; sent(view, &g)?, (2, false));
-    take_up(alloc, view, two, Ask::Evacuate(two), c, 20)?;
-    assert_eq!(rt; sent(view, &g)?, (2, true));
-    take_up(alloc, view, two, Ask::Remaster(g), c, 20)?;
-    assert_eq!(rt; sent(view, &g)?, (0, false));
-    Ok(())
-}
-
-/// g is up, then stops, and is then sent elsewhere.
-fn follow(rt: &impl Abort, alloc: Global, view: &mut GroupView, c: &Config) -> Result<(), Fail> {
-    expect_up(rt, alloc, view, c)?;
-    stop(alloc, view, c)?;
-    assert_eq!(rt; states(view)?, [0, 0, 0, 0]);
-    send(rt, alloc, view, c)
-}
-
-fn with_view(rt: &impl Abort, alloc: Global, c: &Config) -> Result<(), Fail> {
+fn with_view(rt: &impl Abort, alloc: Global, c: &Config, turns: &[Turn]) -> Result<(), Fail> {
     let mut view = view(alloc, c)?;
-    follow(rt, alloc, &mut view, c)
+    take_all(rt, alloc, &mut view, c, turns)
 }
+
+fn with_config(rt: &impl Abort, alloc: Global, c: &mut Config, turns: &[Turn]) -> Result<(), Fail> {
+    set_up(alloc, c, NONE)?;
+    with_view(rt, alloc, c, turns)
+}
+
+/// The turns hold, where this is told.
+fn play(rt: &impl Abort, alloc: Global, turns: &[Turn]) -> Result<(), Fail> {
+    let mut c = first(alloc)?;
+    with_config(rt, alloc, &mut c, turns)
+}
+
+fn starts_so(p: &President) -> Result<bool, Fail> {
+    Ok(p.given() == 0 && is_told(p.view())?)
+}
+
+fn president_starts_so(alloc: Global, c: &Config) -> Result<bool, Fail> {
+    let reports = told(alloc)?;
+    starts_so(&adopted(alloc, c, &reports)?)
+}
+
+fn expect_told(rt: &impl Abort, alloc: Global, c: &mut Config) -> Result<(), Fail> {
+    set_up(alloc, c, NONE)?;
+    let starts_so = president_starts_so(alloc, c)?;
+    assert!(rt; starts_so);
+    Ok(())
+}
+
+#[test]
+fn what_reports_tell(rt: HostRuntime) -> Result<(), Fail> {
+    let mut c = first(rt.alloc())?;
+    expect_told(&rt, rt.alloc(), &mut c)
+}
+
+const CHANGES: &[Turn] = &[
+    Turn::KnowAll,
+    Turn::HasBoth,
+    Turn::IsUp(1, true),
+    Turn::IsUp(2, false),
+    Turn::StopA,
+    Turn::ClearB,
+    Know(Flags(b'a', 1, 0)),
+    Know(Flags(b'b', 1, 0)),
+    Know(Flags(b'a', 2, 0)),
+    Know(Flags(b'b', 2, 0)),
+    Turn::Send(2),
+    Know(Goal(2)),
+    Know(IsEvacuated(2, false)),
+    Ask(2, Evacuate(2), 20),
+    Know(Goal(2)),
+    Know(IsEvacuated(2, true)),
+    Ask(2, Remaster(b'g'), 20),
+    Know(Goal(0)),
+    Know(IsEvacuated(2, false)),
+];
 
 #[test]
 fn what_changes_it(rt: HostRuntime) -> Result<(), Fail> {
-    let c = config(rt.alloc(), b"NONE")?;
-    with_view(&rt, rt.alloc(), &c)
+    play(&rt, rt.alloc(), CHANGES)
 }
 
-/// a restarts where it has a flag, which is on node 1.
-fn restart(rt: &impl Abort, alloc: Global, view: &mut GroupView, c: &Config) -> Result<(), Fail> {
-    let (a, one, two) = (name(b"a")?, node(1)?, node(2)?);
-    take_up(alloc, view, two, Ask::Restart(a), c, 20)?;
-    assert!(rt; !view.restarting.has(&a, two));
-    take_up(alloc, view, one, Ask::Restart(a), c, 20)?;
-    assert!(rt; view.restarting.has(&a, one));
-    Ok(())
-}
-
-/// The move is kept in the place of the last one, and g leaves the node where it is up.
-fn move_away(rt: &impl Abort, alloc: Global, view: &mut GroupView, c: &Config) -> Result<(), Fail> {
-    let (g, one, two) = (name(b"g")?, node(1)?, node(2)?);
-    take_up(alloc, view, one, Ask::Move(name(b"a")?), c, 20)?;
-    expect_history(rt, view.groups.history(&g, one), &[3, 5], &[20]);
-    assert!(rt; view.leaving.has(&g, one));
-    take_up(alloc, view, two, Ask::Move(name(b"b")?), c, 21)?;
-    expect_history(rt, view.groups.history(&g, two), &[], &[21]);
-    assert!(rt; !view.leaving.has(&g, two));
-    Ok(())
-}
-
-/// A clear is an order, and changes nothing before it is done.
-fn clear(rt: &impl Abort, alloc: Global, view: &mut GroupView, c: &Config) -> Result<(), Fail> {
-    let what = Ask::Clear {
-        resource: name(b"a")?,
-        node: node(1)?,
-    };
-    take_up(alloc, view, node(2)?, what, c, 20)?;
-    expect_told(rt, view)
-}
-
-fn ask_each(rt: &impl Abort, alloc: Global, view: &mut GroupView, c: &Config) -> Result<(), Fail> {
-    clear(rt, alloc, view, c)?;
-    restart(rt, alloc, view, c)?;
-    move_away(rt, alloc, view, c)?;
-    assert_eq!(rt; states(view)?, [2, 0, 0, 8]);
-    Ok(())
-}
-
-fn with_asks(rt: &impl Abort, alloc: Global, c: &Config) -> Result<(), Fail> {
-    let mut view = view(alloc, c)?;
-    ask_each(rt, alloc, &mut view, c)
-}
+/// A clear is an order, and changes nothing before it is done. a restarts where it has a flag, which
+/// is on node 1. A move is kept in the place of the last one, and g leaves the node where it is up.
+const ASKED: &[Turn] = &[
+    Ask(2, Clear(b'a', 1), 20),
+    Turn::KnowAll,
+    Ask(2, Restart(b'a'), 20),
+    Know(Restarts(b'a', 2, false)),
+    Ask(1, Restart(b'a'), 20),
+    Know(Restarts(b'a', 1, true)),
+    Ask(1, Move(b'a'), 20),
+    Know(History(1, LastFailures::Twice(3, 5), Some(20))),
+    Know(Leaves(1, true)),
+    Ask(2, Move(b'b'), 21),
+    Know(History(2, LastFailures::Never, Some(21))),
+    Know(Leaves(2, false)),
+    Know(Flags(b'a', 1, 2)),
+    Know(Flags(b'b', 1, 0)),
+    Know(Flags(b'a', 2, 0)),
+    Know(Flags(b'b', 2, 8)),
+];
 
 #[test]
 fn what_is_asked_for(rt: HostRuntime) -> Result<(), Fail> {
-    let c = config(rt.alloc(), b"NONE")?;
-    with_asks(&rt, rt.alloc(), &c)
+    play(&rt, rt.alloc(), ASKED)
 }

@@ -2,14 +2,12 @@
 #![tactic(auto)]
 
 #[cfg(test)]
-mod asking;
-#[cfg(test)]
-mod deciding;
-#[cfg(test)]
 mod fixture;
 #[cfg(test)]
 mod knowing;
 #[cfg(test)]
+mod known;
+#[cfg(test)]
 mod scenes;
 #[cfg(test)]
-mod standing;
+mod steps;

@@ -1,100 +1,166 @@
-use local_disk::{Choice, Failed, LocalDisk, MemDisk};
+// A disk in memory through stops and crashes.
+use crate::check::check;
+use Step::{Crash, IsStopped, NoRead, Read, ReadTwo, Stop, Sync, Write};
+use local_disk::{Choice, LocalDisk, MemDisk};
 use std::alloc::Global;
 use std::process::Abort;
 use std::test::Fail;
 
-fn succeeds(rt: &impl Abort, call: Result<(), Failed>) {
-    assert_eq!(rt; call, Ok(()));
+/// What is done with a disk, or is so. A call succeeds or fails.
+#[derive(Clone, Copy)]
+enum Step {
+    /// Two bytes are written at this place.
+    Write(u8, [u8; 2], bool),
+    Sync(bool),
+    /// These two bytes stand at 10.
+    ReadTwo([u8; 2]),
+    /// These three bytes stand at 10.
+    Read([u8; 3]),
+    /// Reading fails.
+    NoRead,
+    /// After so many calls the next one is stopped.
+    Stop(u8, Choice),
+    IsStopped(bool),
+    Crash,
 }
 
-fn fails(rt: &impl Abort, call: Result<(), Failed>) {
-    assert_eq!(rt; call, Err(Failed));
-}
-
-/// These two bytes stand at 10.
-fn expect_two(rt: &impl Abort, disk: &mut MemDisk, left: [u8; 2]) {
+fn has_two(disk: &mut MemDisk, wanted: [u8; 2]) -> bool {
     let mut read = [9; 2];
-    succeeds(rt, disk.read_at(10, &mut read));
-    assert_eq!(rt; read, left);
+    disk.read_at(10, &mut read).is_ok() && read == wanted
 }
 
-/// These three bytes stand at 10.
-fn expect_three(rt: &impl Abort, disk: &mut MemDisk, left: [u8; 3]) {
+fn has_three(disk: &mut MemDisk, wanted: [u8; 3]) -> bool {
     let mut read = [9; 3];
-    succeeds(rt, disk.read_at(10, &mut read));
-    assert_eq!(rt; read, left);
+    disk.read_at(10, &mut read).is_ok() && read == wanted
 }
 
-/// Two bytes are synced at 10, and the write of two at 11 is stopped.
-fn stop_write(rt: &impl Abort, disk: &mut MemDisk, choice: Choice) {
-    succeeds(rt, disk.write_at(10, &[1, 2]));
-    succeeds(rt, disk.sync());
-    disk.stop_after(1, choice);
-    fails(rt, disk.write_at(11, &[3, 4]));
-    assert!(rt; disk.stopped());
-    fails(rt, disk.read_at(10, &mut [9; 3]));
+fn stop(disk: &mut MemDisk, before: u8, choice: Choice) -> bool {
+    disk.stop_after(u64::from(before) + 1, choice);
+    true
+}
+
+fn crash(disk: &mut MemDisk) -> bool {
     disk.crash();
-    assert!(rt; !disk.stopped());
+    true
 }
 
-/// What stands at 10, 11 and 12 then.
-fn expect_stopped_write(
-    rt: &impl Abort,
-    alloc: Global,
-    choice: Choice,
-    left: [u8; 3],
-) -> Result<(), Fail> {
+fn holds(disk: &mut MemDisk, step: Step) -> bool {
+    match step {
+        Step::Write(place, bytes, ok) => disk.write_at(u64::from(place), &bytes).is_ok() == ok,
+        Step::Sync(ok) => disk.sync().is_ok() == ok,
+        Step::ReadTwo(wanted) => has_two(disk, wanted),
+        Step::Read(wanted) => has_three(disk, wanted),
+        Step::NoRead => disk.read_at(10, &mut [9; 3]).is_err(),
+        Step::Stop(before, choice) => stop(disk, before, choice),
+        Step::IsStopped(wanted) => disk.stopped() == wanted,
+        Step::Crash => crash(disk),
+    }
+}
+
+fn take_all(rt: &impl Abort, disk: &mut MemDisk, list: usize, steps: &[Step]) {
+    for place in 0..steps.len() {
+        check(rt, holds(disk, steps[place]), list, place);
+    }
+}
+
+fn expect(rt: &impl Abort, alloc: Global, list: usize, steps: &[Step]) -> Result<(), Fail> {
     let mut disk = MemDisk::new(alloc)?;
-    stop_write(rt, &mut disk, choice);
-    expect_three(rt, &mut disk, left);
+    take_all(rt, &mut disk, list, steps);
     Ok(())
 }
 
-/// The sync of two bytes at 10 is stopped.
-fn stop_sync(rt: &impl Abort, disk: &mut MemDisk, choice: Choice) {
-    disk.stop_after(2, choice);
-    succeeds(rt, disk.write_at(10, &[1, 2]));
-    fails(rt, disk.sync());
-    disk.crash();
-}
-
-/// What stands at 10 and 11 then.
-fn expect_stopped_sync(
-    rt: &impl Abort,
-    alloc: Global,
-    choice: Choice,
-    left: [u8; 2],
-) -> Result<(), Fail> {
-    let mut disk = MemDisk::new(alloc)?;
-    stop_sync(rt, &mut disk, choice);
-    expect_two(rt, &mut disk, left);
+/// The steps of each list hold, one after the other, of an empty disk.
+fn expect_each(rt: &impl Abort, alloc: Global, lists: &[&[Step]]) -> Result<(), Fail> {
+    for list in 0..lists.len() {
+        expect(rt, alloc, list, lists[list])?;
+    }
     Ok(())
 }
+
+// Two bytes are synced at 10, and the write of two at 11 is stopped.
+const OLD_WRITE: &[Step] = &[
+    Write(10, [1, 2], true),
+    Sync(true),
+    Stop(0, Choice::Old),
+    Write(11, [3, 4], false),
+    IsStopped(true),
+    NoRead,
+    Crash,
+    IsStopped(false),
+    Read([1, 2, 0]),
+];
+
+const NEW_WRITE: &[Step] = &[
+    Write(10, [1, 2], true),
+    Sync(true),
+    Stop(0, Choice::New),
+    Write(11, [3, 4], false),
+    IsStopped(true),
+    NoRead,
+    Crash,
+    IsStopped(false),
+    Read([1, 3, 4]),
+];
+
+const ZERO_WRITE: &[Step] = &[
+    Write(10, [1, 2], true),
+    Sync(true),
+    Stop(0, Choice::Zero),
+    Write(11, [3, 4], false),
+    IsStopped(true),
+    NoRead,
+    Crash,
+    IsStopped(false),
+    Read([1, 0, 0]),
+];
+
+// The sync of two bytes at 10 is stopped.
+const OLD_SYNC: &[Step] = &[
+    Stop(1, Choice::Old),
+    Write(10, [1, 2], true),
+    Sync(false),
+    Crash,
+    ReadTwo([0, 0]),
+];
+
+const NEW_SYNC: &[Step] = &[
+    Stop(1, Choice::New),
+    Write(10, [1, 2], true),
+    Sync(false),
+    Crash,
+    ReadTwo([1, 2]),
+];
+
+const ZERO_SYNC: &[Step] = &[
+    Stop(1, Choice::Zero),
+    Write(10, [1, 2], true),
+    Sync(false),
+    Crash,
+    ReadTwo([0, 0]),
+];
+
+// An armed stop stays through a crash.
+const STOP_AFTER_A_CRASH: &[Step] = &[
+    Write(10, [1, 2], true),
+    Stop(1, Choice::New),
+    Crash,
+    ReadTwo([1, 2]),
+    Sync(false),
+    Crash,
+    Sync(true),
+];
+
+const STOPS: &[&[Step]] = &[
+    OLD_WRITE,
+    NEW_WRITE,
+    ZERO_WRITE,
+    OLD_SYNC,
+    NEW_SYNC,
+    ZERO_SYNC,
+    STOP_AFTER_A_CRASH,
+];
 
 #[test]
 fn stops(rt: HostRuntime) -> Result<(), Fail> {
-    expect_stopped_write(&rt, rt.alloc(), Choice::Old, [1, 2, 0])?;
-    expect_stopped_write(&rt, rt.alloc(), Choice::New, [1, 3, 4])?;
-    expect_stopped_write(&rt, rt.alloc(), Choice::Zero, [1, 0, 0])?;
-    expect_stopped_sync(&rt, rt.alloc(), Choice::Old, [0, 0])?;
-    expect_stopped_sync(&rt, rt.alloc(), Choice::New, [1, 2])?;
-    expect_stopped_sync(&rt, rt.alloc(), Choice::Zero, [0, 0])?;
-    Ok(())
-}
-
-fn stop_after_a_crash(rt: &impl Abort, disk: &mut MemDisk) {
-    succeeds(rt, disk.write_at(10, &[1, 2]));
-    disk.stop_after(2, Choice::New);
-    disk.crash();
-    expect_two(rt, disk, [1, 2]);
-    fails(rt, disk.sync());
-    disk.crash();
-    succeeds(rt, disk.sync());
-}
-
-#[test]
-fn an_armed_stop_stays_through_a_crash(rt: HostRuntime) -> Result<(), Fail> {
-    let mut disk = MemDisk::new(rt.alloc())?;
-    stop_after_a_crash(&rt, &mut disk);
-    Ok(())
+    expect_each(&rt, rt.alloc(), STOPS)
 }

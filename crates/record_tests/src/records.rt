@@ -1,6 +1,6 @@
 // A record through saves, mountings and stops.
-ghost use Rattle.std.specs.Prelude.{◌≤◌};
-
+use crate::check::check;
+use Step::{Elsewhere, Mount, Promise, Promised, Save, Session, Stop, Valid};
 use cl_base::{DevSet, Epoch, NodeId};
 use cmm_member::{DownNode, FormingNode};
 use local_disk::Choice;
@@ -9,236 +9,258 @@ use std::alloc::Global;
 use std::process::Abort;
 use std::test::Fail;
 
-const STOPPED: DiskError = DiskError::Lost(Loss::Stopped);
-
-const FAULT: DiskError = DiskError::Lost(Loss::Fault);
-
-fn mounted<D: RecordDisk>(alloc: Global, disk: &mut D) -> Result<FormingNode, Fail> {
-    let down = DownNode::new(NodeId::new(2)?, DevSet::empty());
-    match disk.mount(alloc, down) {
-        Ok(node) => Ok(node),
-        Err(_) => Err("it is not mounted".into()),
-    }
+/// What is done with a disk and the node that was mounted from it, or holds of the node.
+#[derive(Clone, Copy)]
+enum Step {
+    /// Another node is mounted.
+    Mount,
+    Promise(u64),
+    Promised(u64),
+    Session(u64),
+    /// The devices that are valid to it, in bits.
+    Valid(u16),
+    /// Its record is saved, or lost.
+    Save(Option<Loss>),
+    /// After so many calls the next one is stopped.
+    Stop(u8, Choice),
+    /// No other disk, which is not mounted, saves it.
+    Elsewhere,
 }
 
-fn promised(node: FormingNode, p: u64) -> Result<FormingNode, Fail> {
-    match node.promise(Epoch::from_number(p)) {
-        Ok(node) => Ok(node),
-        Err(_) => Err("the promise is refused".into()),
-    }
+fn mounted<D: RecordDisk>(alloc: Global, disk: &mut D) -> Option<FormingNode> {
+    let me = NodeId::new(2).ok()?;
+    disk.mount(alloc, DownNode::new(me, DevSet::empty())).ok()
 }
 
 /// How the save of the node's record ends.
-fn expect_save<D: RecordDisk>(
-    rt: &impl Abort,
+fn saves<D: RecordDisk>(
     alloc: Global,
     disk: &mut D,
     node: &FormingNode,
-    wanted: Result<(), DiskError>,
-) {
-    assert_eq!(rt; disk.save(alloc, node.record()), wanted);
-}
-
-fn expect_epoch(rt: &impl Abort, found: Epoch, wanted: u64) {
-    assert_eq!(rt; found.number(), wanted);
-}
-
-/// The promise of the node that is mounted.
-fn expect_promise<D: RecordDisk>(
-    rt: &impl Abort,
-    alloc: Global,
-    disk: &mut D,
-    wanted: u64,
-) -> Result<(), Fail> {
-    let node = mounted(alloc, disk)?;
-    expect_epoch(rt, node.promised(), wanted);
-    Ok(())
-}
-
-/// The disk's first save is of the promise 65.
-fn with_promise<D: RecordDisk>(
-    rt: &impl Abort,
-    alloc: Global,
-    disk: &mut D,
-) -> Result<FormingNode, Fail> {
-    let node = promised(mounted(alloc, disk)?, 65)?;
-    expect_save(rt, alloc, disk, &node, Ok(()));
-    Ok(node)
-}
-
-fn expect_valid(rt: &impl Abort, node: &FormingNode) {
-    assert_eq!(rt; node.valid().bits(), 5);
-}
-
-fn save_first(rt: &impl Abort, alloc: Global, disk: &mut SimulatedDisk) -> Result<(), Fail> {
-    let node = with_promise(rt, alloc, disk)?;
-    expect_valid(rt, &node);
-    Ok(())
-}
-
-fn save_next(rt: &impl Abort, alloc: Global, disk: &mut SimulatedDisk) -> Result<(), Fail> {
-    let node = mounted(alloc, disk)?;
-    expect_epoch(rt, node.promised(), 65);
-    expect_epoch(rt, node.session(), 0);
-    expect_valid(rt, &node);
-    let node = promised(node, 129)?;
-    expect_save(rt, alloc, disk, &node, Ok(()));
-    Ok(())
-}
-
-fn save_and_mount(rt: &impl Abort, alloc: Global, disk: &mut SimulatedDisk) -> Result<(), Fail> {
-    save_first(rt, alloc, disk)?;
-    save_next(rt, alloc, disk)?;
-    expect_promise(rt, alloc, disk, 129)
-}
-
-/// A call of saving the promise 129 over the promise 65 is stopped.
-fn stop_save(
-    rt: &impl Abort,
-    alloc: Global,
-    disk: &mut SimulatedDisk,
-    calls: u64,
-    choice: Choice,
-) -> Result<(), Fail>
-    requires { 1 ≤ calls }
-{
-    let node = promised(with_promise(rt, alloc, disk)?, 129)?;
-    disk.stop_after(calls, choice);
-    expect_save(rt, alloc, disk, &node, Err(STOPPED));
-    Ok(())
-}
-
-/// This promise is kept, and the next one is saved.
-fn go_on(rt: &impl Abort, alloc: Global, disk: &mut SimulatedDisk, kept: u64) -> Result<(), Fail> {
-    let node = mounted(alloc, disk)?;
-    expect_epoch(rt, node.promised(), kept);
-    let node = promised(node, 193)?;
-    expect_save(rt, alloc, disk, &node, Ok(()));
-    Ok(())
-}
-
-fn expect_stopped_save(
-    rt: &impl Abort,
-    alloc: Global,
-    calls: u64,
-    choice: Choice,
-    kept: u64,
-) -> Result<(), Fail>
-    requires { 1 ≤ calls }
-{
-    let mut disk = new_disk(alloc)?;
-    stop_save(rt, alloc, &mut disk, calls, choice)?;
-    go_on(rt, alloc, &mut disk, kept)
-}
-
-#[test]
-fn stops_in_a_save(rt: HostRuntime) -> Result<(), Fail> {
-    expect_stopped_save(&rt, rt.alloc(), 1, Choice::New, 65)?;
-    expect_stopped_save(&rt, rt.alloc(), 2, Choice::Zero, 65)?;
-    expect_stopped_save(&rt, rt.alloc(), 3, Choice::Old, 65)?;
-    expect_stopped_save(&rt, rt.alloc(), 3, Choice::Zero, 129)?;
-    expect_stopped_save(&rt, rt.alloc(), 4, Choice::New, 129)?;
-    Ok(())
-}
-
-fn save_twice(
-    rt: &impl Abort,
-    alloc: Global,
-    disk: &mut SimulatedDisk,
-) -> Result<FormingNode, Fail> {
-    let node = promised(with_promise(rt, alloc, disk)?, 129)?;
-    expect_save(rt, alloc, disk, &node, Ok(()));
-    Ok(node)
-}
-
-fn stop_third(rt: &impl Abort, alloc: Global, disk: &mut SimulatedDisk) -> Result<(), Fail> {
-    let node = promised(save_twice(rt, alloc, disk)?, 193)?;
-    disk.stop_after(3, Choice::Zero);
-    expect_save(rt, alloc, disk, &node, Err(STOPPED));
-    Ok(())
-}
-
-/// Zeros name the first slot, and this save is to the second.
-fn zero_selector(rt: &impl Abort, alloc: Global, disk: &mut SimulatedDisk) -> Result<(), Fail> {
-    stop_third(rt, alloc, disk)?;
-    expect_promise(rt, alloc, disk, 129)
-}
-
-/// An armed stop stays through a mounting.
-fn arm(rt: &impl Abort, alloc: Global, disk: &mut SimulatedDisk) -> Result<(), Fail> {
-    let node = promised(mounted(alloc, disk)?, 129)?;
-    expect_save(rt, alloc, disk, &node, Err(STOPPED));
-    Ok(())
-}
-
-fn stop_later(rt: &impl Abort, alloc: Global, disk: &mut SimulatedDisk) -> Result<(), Fail> {
-    with_promise(rt, alloc, disk)?;
-    disk.stop_after(5, Choice::Old);
-    arm(rt, alloc, disk)?;
-    expect_promise(rt, alloc, disk, 65)
-}
-
-/// The save to another disk, which is not mounted.
-fn save_elsewhere(
-    rt: &impl Abort,
-    alloc: Global,
-    disk: &mut SimulatedDisk,
-    other: &mut SimulatedDisk,
-) -> Result<(), Fail> {
-    let node = promised(with_promise(rt, alloc, disk)?, 129)?;
-    expect_save(rt, alloc, other, &node, Err(FAULT));
-    Ok(())
-}
-
-fn use_another(rt: &impl Abort, alloc: Global, disk: &mut SimulatedDisk) -> Result<(), Fail> {
-    let mut other = SimulatedDisk::new(alloc, DevSet::empty())?;
-    save_elsewhere(rt, alloc, disk, &mut other)?;
-    expect_promise(rt, alloc, &mut other, 0)
-}
-
-/// What is done with a disk.
-#[derive(Clone, Copy)]
-enum Case {
-    SaveAndMount,
-    ZeroSelector,
-    StopLater,
-    UseAnother,
-}
-
-fn act(rt: &impl Abort, alloc: Global, disk: &mut SimulatedDisk, case: Case) -> Result<(), Fail> {
-    match case {
-        Case::SaveAndMount => save_and_mount(rt, alloc, disk),
-        Case::ZeroSelector => zero_selector(rt, alloc, disk),
-        Case::StopLater => stop_later(rt, alloc, disk),
-        Case::UseAnother => use_another(rt, alloc, disk),
+    wanted: Option<Loss>,
+) -> bool {
+    match disk.save(alloc, node.record()) {
+        Ok(()) => wanted.is_none(),
+        Err(DiskError::Lost(loss)) => wanted == Some(loss),
+        Err(DiskError::NoMemory) => false,
     }
 }
 
-fn new_disk(alloc: Global) -> Result<SimulatedDisk, Fail> {
-    Ok(SimulatedDisk::new(alloc, DevSet::from_bits(5))?)
+fn mounts_first(alloc: Global, disk: &mut SimulatedDisk) -> bool {
+    match mounted(alloc, disk) {
+        Some(node) => node.promised().number() == 0,
+        None => false,
+    }
 }
 
-fn run(rt: &impl Abort, alloc: Global, case: Case) -> Result<(), Fail> {
-    let mut disk = new_disk(alloc)?;
-    act(rt, alloc, &mut disk, case)
+/// The other disk keeps its first record.
+fn fails_on(alloc: Global, other: &mut SimulatedDisk, node: &FormingNode) -> bool {
+    saves(alloc, other, node, Some(Loss::Fault)) && mounts_first(alloc, other)
 }
+
+fn fails_elsewhere(alloc: Global, node: &FormingNode) -> bool {
+    match SimulatedDisk::new(alloc, DevSet::empty()) {
+        Ok(mut other) => fails_on(alloc, &mut other, node),
+        Err(_) => false,
+    }
+}
+
+fn stop(disk: &mut SimulatedDisk, before: u8, choice: Choice) -> bool {
+    disk.stop_after(u64::from(before) + 1, choice);
+    true
+}
+
+fn holds(alloc: Global, disk: &mut SimulatedDisk, node: &FormingNode, step: Step) -> bool {
+    match step {
+        Step::Promised(p) => node.promised().number() == p,
+        Step::Session(p) => node.session().number() == p,
+        Step::Valid(bits) => node.valid().bits() == bits,
+        Step::Save(wanted) => saves(alloc, disk, node, wanted),
+        Step::Stop(before, choice) => stop(disk, before, choice),
+        Step::Elsewhere => fails_elsewhere(alloc, node),
+        _ => false,
+    }
+}
+
+fn promised(node: FormingNode, p: u64) -> Option<FormingNode> {
+    match node.promise(Epoch::from_number(p)) {
+        Ok(node) => Some(node),
+        Err(_) => None,
+    }
+}
+
+fn mounted_again(
+    alloc: Global,
+    disk: &mut SimulatedDisk,
+    node: FormingNode,
+) -> Option<FormingNode> {
+    drop(node);
+    mounted(alloc, disk)
+}
+
+/// The node then, and whether what the step says holds.
+fn take(
+    alloc: Global,
+    disk: &mut SimulatedDisk,
+    node: FormingNode,
+    step: Step,
+) -> Option<(FormingNode, bool)> {
+    match step {
+        Step::Mount => Some((mounted_again(alloc, disk, node)?, true)),
+        Step::Promise(p) => Some((promised(node, p)?, true)),
+        _ => {
+            let holds = holds(alloc, disk, &node, step);
+            Some((node, holds))
+        }
+    }
+}
+
+fn take_all(
+    rt: &impl Abort,
+    alloc: Global,
+    disk: &mut SimulatedDisk,
+    list: usize,
+    steps: &[Step],
+) -> Option<()> {
+    let mut node = mounted(alloc, disk)?;
+    for place in 0..steps.len() {
+        let (next, holds) = take(alloc, disk, node, steps[place])?;
+        check(rt, holds, list, place);
+        node = next;
+    }
+    Some(())
+}
+
+fn expect(rt: &impl Abort, alloc: Global, list: usize, steps: &[Step]) -> Result<(), Fail> {
+    let mut disk = SimulatedDisk::new(alloc, DevSet::from_bits(5))?;
+    let ended = take_all(rt, alloc, &mut disk, list, steps);
+    check(rt, ended.is_some(), list, steps.len());
+    Ok(())
+}
+
+/// The steps of each list hold, one after the other, of a new disk, which is mounted.
+fn expect_each(rt: &impl Abort, alloc: Global, lists: &[&[Step]]) -> Result<(), Fail> {
+    for list in 0..lists.len() {
+        expect(rt, alloc, list, lists[list])?;
+    }
+    Ok(())
+}
+
+const SAVES: &[Step] = &[
+    Promise(65),
+    Save(None),
+    Valid(5),
+    Mount,
+    Promised(65),
+    Session(0),
+    Valid(5),
+    Promise(129),
+    Save(None),
+    Mount,
+    Promised(129),
+];
+
+const ELSEWHERE: &[Step] = &[Promise(65), Save(None), Promise(129), Elsewhere];
+
+// A stop in each call of saving the promise 129 over the promise 65. The next promise is saved then.
+const IN_THE_FIRST: &[Step] = &[
+    Promise(65),
+    Save(None),
+    Promise(129),
+    Stop(0, Choice::New),
+    Save(Some(Loss::Stopped)),
+    Mount,
+    Promised(65),
+    Promise(193),
+    Save(None),
+];
+
+const IN_THE_SECOND: &[Step] = &[
+    Promise(65),
+    Save(None),
+    Promise(129),
+    Stop(1, Choice::Zero),
+    Save(Some(Loss::Stopped)),
+    Mount,
+    Promised(65),
+    Promise(193),
+    Save(None),
+];
+
+const IN_THE_THIRD: &[Step] = &[
+    Promise(65),
+    Save(None),
+    Promise(129),
+    Stop(2, Choice::Old),
+    Save(Some(Loss::Stopped)),
+    Mount,
+    Promised(65),
+    Promise(193),
+    Save(None),
+];
+
+const ZEROS_IN_THE_THIRD: &[Step] = &[
+    Promise(65),
+    Save(None),
+    Promise(129),
+    Stop(2, Choice::Zero),
+    Save(Some(Loss::Stopped)),
+    Mount,
+    Promised(129),
+    Promise(193),
+    Save(None),
+];
+
+const IN_THE_LAST: &[Step] = &[
+    Promise(65),
+    Save(None),
+    Promise(129),
+    Stop(3, Choice::New),
+    Save(Some(Loss::Stopped)),
+    Mount,
+    Promised(129),
+    Promise(193),
+    Save(None),
+];
+
+// Zeros name the first slot, and the save that is stopped is to the second.
+const ZEROS_NAME_THE_FIRST: &[Step] = &[
+    Promise(65),
+    Save(None),
+    Promise(129),
+    Save(None),
+    Promise(193),
+    Stop(2, Choice::Zero),
+    Save(Some(Loss::Stopped)),
+    Mount,
+    Promised(129),
+];
+
+// An armed stop stays through a mounting.
+const STOP_AFTER_A_MOUNTING: &[Step] = &[
+    Promise(65),
+    Save(None),
+    Stop(4, Choice::Old),
+    Mount,
+    Promise(129),
+    Save(Some(Loss::Stopped)),
+    Mount,
+    Promised(65),
+];
+
+const LISTS: &[&[Step]] = &[
+    SAVES,
+    ELSEWHERE,
+    IN_THE_FIRST,
+    IN_THE_SECOND,
+    IN_THE_THIRD,
+    ZEROS_IN_THE_THIRD,
+    IN_THE_LAST,
+    ZEROS_NAME_THE_FIRST,
+    STOP_AFTER_A_MOUNTING,
+];
 
 #[test]
-fn saves_and_mountings(rt: HostRuntime) -> Result<(), Fail> {
-    run(&rt, rt.alloc(), Case::SaveAndMount)
-}
-
-#[test]
-fn zeros_in_a_save_to_the_second_slot(rt: HostRuntime) -> Result<(), Fail> {
-    run(&rt, rt.alloc(), Case::ZeroSelector)
-}
-
-#[test]
-fn an_armed_stop_stays_through_a_mounting(rt: HostRuntime) -> Result<(), Fail> {
-    run(&rt, rt.alloc(), Case::StopLater)
-}
-
-#[test]
-fn a_disk_that_is_not_mounted(rt: HostRuntime) -> Result<(), Fail> {
-    run(&rt, rt.alloc(), Case::UseAnother)
+fn saves_mountings_and_stops(rt: HostRuntime) -> Result<(), Fail> {
+    expect_each(&rt, rt.alloc(), LISTS)
 }

@@ -90,7 +90,7 @@ named h s (event.Rounds count nodes) is fits = tt
 named h s (event.Client n address client port) is fits = is.1.0
 
 in_header : (h : Header) (s : SoFar) (e : Event) → IsAllowedEvent h s e → IsInHeader h e
-in_header h s (event.Boot n) is = tt
+in_header h s (event.Boot n) is = is.2
 in_header h s (event.Crash n) is = tt
 in_header h s (event.CrashAt n calls choice) is = tt
 in_header h s (event.Tick n) is = tt

@@ -1,5 +1,5 @@
 -- The text of each outcome tells the first of its schedule: of a cluster schedule it is that of moments, one after another.
-use Rattle.std.proofs.Common.{◌≡◌, ℕ, ◌≤◌, ◌++◌, List, [], ◌∷◌, take, Option, Some, None, Bool, false, sym, ap, subst, ◌∙◌, append-nil, append_assoc, arith}
+use Rattle.std.proofs.Common.{◌≡◌, ℕ, ◌≤◌, ◌++◌, List, [], ◌∷◌, take, Option, Some, None, Bool, false, sym, ap, refl, subst, ◌∙◌, append-nil, append_assoc, arith}
 use Rattle.agents.specs.Calls.{AgentState}
 use Rattle.std.specs.List.{AllByRecursion}
 use Rattle.cl_base.specs.declared.header.DeviceKind.{DeviceKind}
@@ -24,13 +24,17 @@ use Rattle.run_history.proofs.WholeEachRun.{repositories_are_kept}
 use Rattle.run_history.proofs.DiskEachRun.{disk_rule_of_each_run}
 use Rattle.run_history.proofs.Runs.{installed_of_each_run, once_of_each_run, prepared_of_each_run, ready_of_each_run, told_of_each_run}
 use Rattle.run_answers.proofs.Laws.{asked_of_each_run}
+use Rattle.run_attempts.proofs.Runs as attempts
 use Rattle.run_commands.proofs.Laws as commands
+use Rattle.run_answers.proofs.Answered.{answered_of_each_run}
 use Rattle.run_downs.proofs.Runs as downs
+use Rattle.run_lines.proofs.Runs.{lines_of_each_run}
 use Rattle.run_messages.proofs.Runs.{heartbeats_of_each_run}
 use Rattle.run_messages.proofs.Spelling.{spelled_of_each_run}
 use Rattle.run_records.proofs.Runs.{installed_base_of_each_run, newest_base_of_each_run, newest_of_each_run, records_of_each_run}
 use Rattle.run_requests.proofs.Laws.{updates_of_each_run}
 use Rattle.run_seizings.proofs.Runs.{held_of_each_run, known_held_of_each_run}
+use Rattle.history_setting.specs.Settings.{setting_of}
 use Rattle.history_setting.proofs.Votes.{setting_votes_of_each_run}
 use Rattle.world_model.specs.First.{first_cluster, first_world}
 use Rattle.world_model.specs.Lines.{line_on}
@@ -80,34 +84,83 @@ told_trace h events text p header disks is told =
     let links = links_of_each_run h 65536 told.happenings told.may in
     let built : AreDisks h = disks_in h.devices disks in
     let devices = devices_of_each_run h 65536 told.happenings header.devices built told.may in
+    let start_lines = start_lines_of_each_run h 65536 told.happenings header.devices told.may in
+    let repository = repositories_are_kept h 65536 told.happenings header.devices header.cluster_high told.may in
+    let disk_rule = disk_rule_of_each_run h 65536 told.happenings header.devices header.cluster_high built told.may in
+    let attempts_differ = once_of_each_run h 65536 told.happenings header.devices header.cluster_high told.may in
+    let installed = installed_of_each_run h 65536 told.happenings header.devices header.cluster_high told.may in
+    let ready = ready_of_each_run h 65536 told.happenings header.devices header.cluster_high told.may in
+    let members = told_of_each_run h 65536 told.happenings header.devices header.cluster_high told.may in
+    let prepared = prepared_of_each_run h 65536 told.happenings header.devices header.cluster_high told.may in
+    let held = held_of_each_run h 65536 told.happenings header.devices header.cluster_high told.may in
+    let votes = setting_votes_of_each_run h 65536 told.happenings header.devices header.cluster_high told.may in
+    let spelled = spelled_of_each_run h 65536 told.happenings header.devices header.cluster_high told.may in
+    let records = records_of_each_run h 65536 told.happenings header.devices header.cluster_high told.may in
+    let newest = newest_of_each_run h 65536 told.happenings header.devices header.cluster_high told.may in
+    let installed_base = installed_base_of_each_run h 65536 told.happenings header.devices header.cluster_high told.may in
+    let newest_base = newest_base_of_each_run h 65536 told.happenings header.devices header.cluster_high told.may in
+    let known_held = known_held_of_each_run h 65536 told.happenings header.devices header.cluster_high told.may in
+    let once = commands.answers_once_in_each_run h 65536 told.happenings header.devices header.cluster_high told.may in
+    let heartbeats = heartbeats_of_each_run h 65536 told.happenings header.devices header.cluster_high told.may in
     record {
       moments = (all_happened (first_cluster h) (first_scene h 65536) told.happenings).moments;
       said = told.said;
       told = is ∙ told.text;
+      lines = lines_of_each_run h 65536 told.happenings (setting_of h) header.devices header.cluster_high refl told.may told.shaped;
       links = links.run;
       no_drop_due = links.due;
       devices = devices.run;
-      start_lines = start_lines_of_each_run h 65536 told.happenings header.devices told.may;
+      start_lines = start_lines;
       no_base_due = no_base_is_due h 65536 told.happenings header.devices told.may;
-      repository = repositories_are_kept h 65536 told.happenings header.devices header.cluster_high told.may;
-      disk_rule = disk_rule_of_each_run h 65536 told.happenings header.devices header.cluster_high built told.may;
-      attempts_differ = once_of_each_run h 65536 told.happenings header.devices header.cluster_high told.may;
-      installed = installed_of_each_run h 65536 told.happenings header.devices header.cluster_high told.may;
-      ready = ready_of_each_run h 65536 told.happenings header.devices header.cluster_high told.may;
-      members = told_of_each_run h 65536 told.happenings header.devices header.cluster_high told.may;
-      prepared = prepared_of_each_run h 65536 told.happenings header.devices header.cluster_high told.may;
-      held = held_of_each_run h 65536 told.happenings header.devices header.cluster_high told.may;
-      votes = setting_votes_of_each_run h 65536 told.happenings header.devices header.cluster_high told.may;
-      spelled = spelled_of_each_run h 65536 told.happenings header.devices header.cluster_high told.may;
-      records = records_of_each_run h 65536 told.happenings header.devices header.cluster_high told.may;
-      newest = newest_of_each_run h 65536 told.happenings header.devices header.cluster_high told.may;
-      installed_base = installed_base_of_each_run h 65536 told.happenings header.devices header.cluster_high told.may;
-      newest_base = newest_base_of_each_run h 65536 told.happenings header.devices header.cluster_high told.may;
-      known_held = known_held_of_each_run h 65536 told.happenings header.devices header.cluster_high told.may;
-      heartbeats = heartbeats_of_each_run h 65536 told.happenings header.devices header.cluster_high told.may;
-      updates = updates_of_each_run h 65536 told.happenings header.devices header.cluster_high told.may;
-      asked = asked_of_each_run h 65536 told.happenings header.devices header.cluster_high told.may;
-      answers_once = commands.answers_once_in_each_run h 65536 told.happenings header.devices header.cluster_high told.may;
+      repository = repository;
+      disk_rule = disk_rule;
+      attempts_differ = attempts_differ;
+      installed = installed;
+      ready = ready;
+      members = members;
+      prepared = prepared;
+      held = held;
+      votes = votes;
+      spelled = spelled;
+      records = records;
+      newest = newest;
+      installed_base = installed_base;
+      newest_base = newest_base;
+      known_held = known_held;
+      heartbeats = heartbeats;
+      holds = λ few. record {
+        devices = devices.run;
+        links = links.run;
+        start_lines = start_lines;
+        repository = repository;
+        disk_rule = disk_rule;
+        contact = record {
+          once = attempts_differ;
+          ready = ready;
+          installed = installed;
+          held = held;
+          votes = votes;
+          prepared = prepared;
+          told = members;
+          asked = asked_of_each_run h 65536 told.happenings header.devices header.cluster_high told.may few;
+          answered = answered_of_each_run h 65536 told.happenings header.devices header.cluster_high told.may few (once few);
+        };
+        contents = record {
+          spelled = spelled;
+          records = records;
+          newest = newest;
+          installed_base = installed_base;
+          newest_base = newest_base;
+          held = known_held;
+          heartbeats = heartbeats;
+          updates = updates_of_each_run h 65536 told.happenings header.devices header.cluster_high told.may few;
+        };
+      };
+      beats_in_ticks = attempts.beats_in_ticks_of_each_run h 65536 told.happenings header.devices header.cluster_high told.may;
+      beats_due = attempts.beats_are_due_in_each_run h 65536 told.happenings header.devices header.cluster_high told.may;
+      attempts_begin = attempts.attempts_begin_in_each_run h 65536 told.happenings header.devices header.cluster_high told.may;
+      installs_bring = attempts.installs_bring_members_in_each_run h 65536 told.happenings header.devices header.cluster_high told.may;
+      answers_once = once;
       numbered = commands.commands_are_numbered_in_each_run h 65536 told.happenings header.devices header.cluster_high told.may;
       own_answers = commands.own_answers_fit_in_each_run h 65536 told.happenings header.devices header.cluster_high told.may;
       boots = downs.boots_of_each_run h 65536 told.happenings header.devices header.cluster_high told.may;

@@ -15,42 +15,48 @@ use Rattle.status_report.specs.Lines.{printed}
 use Rattle.grammar_laws.specs.Reads.{HasSeconds, LacksServers}
 use Rattle.history.specs.Commands.{AnswersOnce}
 use Rattle.history.specs.Contact.{AttemptsDiffer, HasVotes, Held, Installed, Prepared, Ready, ToldMembers}
-use Rattle.history.specs.Contents.{CarriedUpdates, Heartbeats, InstallsTheBase, KnownHeld, NewestBase, NewestInstalled, Records, Spelled}
+use Rattle.history.specs.Contents.{Heartbeats, InstallsTheBase, KnownHeld, NewestBase, NewestInstalled, Records, Spelled}
 use Rattle.history.specs.DeviceRun.{DeviceRun}
 use Rattle.history.specs.DiskRule.{DiskRule}
 use Rattle.history.specs.Downs.{stop_due}
-use Rattle.history.specs.History.{Repository}
+use Rattle.history.specs.History.{Holds, Repository}
 use Rattle.history.specs.Links.{Links, drop_due}
 use Rattle.history.specs.Moment.{Moment, lines_of}
-use Rattle.history.specs.Order.{Always}
-use Rattle.history.specs.Requests.{Asked}
+use Rattle.history.specs.Order.{Always, EachEvent}
 use Rattle.history.specs.Starts.{StartLines, base_due}
 use Rattle.history_setting.specs.Settings.{setting_of}
 use Rattle.world_model.specs.First.{first_world}
+use Rattle.run_attempts.specs.Laws.{BeatIsDue, BeatsInTick, Begins, BringsMembers}
 use Rattle.run_commands.specs.Numbered.{CommandsAreNumbered}
 use Rattle.run_commands.specs.Own.{OwnAnswersFit}
 use Rattle.run_downs.specs.Laws.{BootIsSaid, CrashIsSaid, FencedByWrite, SavesInEvent, StopComes, StopsAtStop}
 use Rattle.run_history.specs.Telling.{lines_upon}
 use Rattle.run_history.specs.Scenes.{text_of}
+use Rattle.run_lines.specs.Laws.{IsAnswered}
 use Rattle.replay.specs.Sessions.{first_so_far}
 use Rattle.replay.specs.Outcomes.{pieces}
 use Rattle.replay.specs.Replays.{OfCluster, OfDevice, Schedule, entries, schedule_of, texts_of}
 
 -- There are moments of which the text is what is printed: exactly these events are said, in this order. They are what can
--- happen in one cluster: the links and the devices do what their lines say, each start has its base, what was acknowledged
--- is kept, no device takes a write of a node that a greater membership left out, a node installs, is ready, is a member and
--- has prepared by the messages that tell of it, and a membership starts with a majority of the votes under its base and with
--- devices that were seized for it, as its coordinator knew. The bytes of each message spell it: a Promise and an Install show
--- the record of their sender, the newest in hand is installed and is the base, and a Heartbeat says who is a member. A node
--- comes up, crashes and saves in the event that makes it do so, panics for a fence where a write of its own was refused, and
--- stops exactly where an armed stop falls. While there are fewer than 2^63 lines, which number the commands, a Prepare has the
--- words that were proposed, a Request those of its command, a member answers what the president's Answer says, each update was
--- asked for by a request of its own, each command is numbered and is answered once at most, and what a node answers by itself
--- fits its command.
+-- happen in one cluster: each line has its entries, and is skipped exactly where that is due (but for the lines of which
+-- `run_lines` says nothing); the links and the devices do what their lines say, each start has its base, what was
+-- acknowledged is kept, no device takes a write of a node that a greater membership left out, a node installs, is ready, is a
+-- member and has prepared by the messages that tell of it, and a membership starts with a majority of the votes under its
+-- base and with devices that were seized for it, as its coordinator knew. The bytes of each message spell it: a Promise and
+-- an Install show the record of their sender, the newest in hand is installed and is the base, and a Heartbeat says who is a
+-- member, is sent in a tick and to whom it is due. An attempt begins in a tick of its coordinator, with nodes that it sees
+-- and for a reason, and its Installs bring its members. A node comes up, crashes and saves in the event that makes it do so,
+-- panics for a fence where a write of its own was refused, and stops exactly where an armed stop falls. While there are fewer
+-- than 2^63 lines, which number the commands, all holds that a trace has to keep at each prefix (`Holds` of `history`): with
+-- what stands above, a Prepare has the words that were proposed, a Request those of its command, a member answers what the
+-- president's Answer says, each update was asked for by a request of its own, and is answered `ok` behind its acknowledgement
+-- alone. Then, too, each command is numbered and is answered once at most, and what a node answers by itself fits its
+-- command.
 pub record IsTrace (h : Header) (events : List Event) (text : List ℕ) : Type 0 where
   pub moments : List Moment
   pub said : lines_of moments ≡ lines_upon [] events
   pub told : text ≡ text_of moments
+  pub lines : EachEvent (IsAnswered (setting_of h)) moments
   pub links : Links 65536 moments
   pub no_drop_due : drop_due 65536 moments ≡ None
   pub devices : DeviceRun h moments
@@ -72,8 +78,11 @@ pub record IsTrace (h : Header) (events : List Event) (text : List ℕ) : Type 0
   pub newest_base : NewestBase moments
   pub known_held : KnownHeld h moments
   pub heartbeats : Heartbeats moments
-  pub updates : length (lines_of moments) < 2 ^ 63 → CarriedUpdates (setting_of h) moments
-  pub asked : length (lines_of moments) < 2 ^ 63 → Asked (setting_of h) moments
+  pub beats_in_ticks : Always BeatsInTick moments
+  pub beats_due : Always (BeatIsDue (setting_of h)) moments
+  pub attempts_begin : Always (Begins (setting_of h)) moments
+  pub installs_bring : Always BringsMembers moments
+  pub holds : length (lines_of moments) < 2 ^ 63 → Holds (setting_of h) moments
   pub answers_once : length (lines_of moments) < 2 ^ 63 → AnswersOnce moments
   pub numbered : length (lines_of moments) < 2 ^ 63 → CommandsAreNumbered moments
   pub own_answers : length (lines_of moments) < 2 ^ 63 → OwnAnswersFit (setting_of h) moments

@@ -1,2 +1,8 @@
 pub mod Decided
 pub mod Turns
+pub mod Timeless
+pub mod Calls
+pub mod Orders
+pub mod Kept
+pub mod Rests
+pub mod Lists

@@ -1,5 +1,5 @@
 -- The members are few.
-use Rattle.std.proofs.Common.{◌≡◌, ℕ, ◌+◌, zero, suc, ◌≤◌, Bool, true, false, cond, List, [], ◌∷◌, ◌++◌, length, length-append, arith}
+use Rattle.std.proofs.Common.{ℕ, zero, suc, ◌≤◌, Bool, true, false, cond, [], ◌∷◌, ◌++◌, length, length-append, arith}
 use Rattle.cl_base.specs.Numbers.{numbers_to}
 use Rattle.cl_base.specs.Sets.{has}
 

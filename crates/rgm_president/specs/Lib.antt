@@ -4,3 +4,5 @@ pub mod Sequence
 pub mod Goals
 pub mod Decisions
 pub mod Status
+-- what only the proofs need
+pub mod Steady

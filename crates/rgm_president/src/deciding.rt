@@ -1,10 +1,14 @@
-ghost use Rattle.std.specs.Prelude.{◌≡◌, ◌<◌, ◌^◌, ◌≤◌, ◌+◌, ◌-◌, None, false, IfOk, IfSome, OnOk, length};
+ghost use Rattle.std.specs.Prelude.{◌≡◌, ◌<◌, ◌^◌, ◌≤◌, ◌+◌, ◌-◌, [], None, false, true, IfOk, IfSome, OnOk, length};
 ghost use Rattle.rg_view.specs.Orders.{order_of};
 ghost use Rattle.rgm_president.specs.Decisions.{call_on, decision, goals_set, members_of, ordered, outlook_over, turns_of, turns_unless, with_turn, with_turns};
+ghost use Rattle.rgm_president.specs.Goals.{with_goals};
+ghost use Rattle.rgm_president.specs.Sequence.{groups_in_order, sequence};
+ghost use Rattle.rgm_president.specs.Steady.{IsSteady};
 
 use crate::goals::set_goals;
 use crate::ordering::{groups_in_order, resources_in_order};
 use crate::president::President;
+use crate::unchanged::is_forgotten;
 use ccr_tables::Config;
 use cl_base::{Method, Name, NodeId, NodeSet};
 use rg_view::GroupView;
@@ -27,14 +31,64 @@ impl President {
         ensures orders { IfOk result (λ orders. orders.items ≡ (decision c.now now held_up self.old).orders) }
         ensures after { OnOk result (self.new ≡ (decision c.now now held_up self.old).president) }
     {
+        let (orders, _) = self.decide_anew(alloc, c, now, held_up)?;
+        Ok(orders)
+    }
+
+    /// The same, and true only where from now on a decision would change nothing.
+    pub(crate) fn decide_anew(
+        &mut self,
+        alloc: Global,
+        c: &Config,
+        now: u64,
+        held_up: bool,
+    ) -> Result<(Vec<(NodeId, Order)>, bool), NoMemory>
+        requires number { self.old.given < 2 ^ 63 }
+        ensures orders { IfOk result (λ found. found.0.items ≡ (decision c.now now held_up self.old).orders) }
+        ensures after { OnOk result (self.new ≡ (decision c.now now held_up self.old).president) }
+        ensures settled { IfOk result (λ found. found.1 ≡ true → IsSteady c.now self.new) }
+    {
         let groups = groups_in_order(alloc, c.groups())?;
         let resources = resources_in_order(alloc, c.groups(), &groups)?;
-        self.set_goals(alloc, c, &groups, &resources, now)?;
-        self.give_unless(alloc, c, &resources, held_up)
+        self.decide_in_order(alloc, c, &groups, &resources, now, held_up)
+    }
+
+    /// The same, where the groups and resources are gone through in this order.
+    fn decide_in_order(
+        &mut self,
+        alloc: Global,
+        c: &Config,
+        groups: &[Name],
+        resources: &[Name],
+        now: u64,
+        held_up: bool,
+    ) -> Result<(Vec<(NodeId, Order)>, bool), NoMemory>
+        requires number { self.old.given < 2 ^ 63 }
+        requires groups { groups.now ≡ groups_in_order c.now.groups }
+        requires resources { resources.now ≡ sequence c.now.groups }
+        ensures orders { IfOk result (λ found. found.0.items ≡ (decision c.now now held_up self.old).orders) }
+        ensures after { OnOk result (self.new ≡ (decision c.now now held_up self.old).president) }
+        ensures settled { IfOk result (λ found. found.1 ≡ true → IsSteady c.now self.new) }
+    {
+        let same = self.set_goals(alloc, c, groups, resources, now)?;
+        let orders = self.give_unless(alloc, c, resources, held_up)?;
+        let settled = self.is_settled(same, held_up, &orders);
+        Ok((orders, settled))
+    }
+
+    /// Whether the decision that did so left the goals as they were and gave no order, though it was not
+    /// held up, and the second does not count.
+    fn is_settled(&self, same: bool, held_up: bool, orders: &[(NodeId, Order)]) -> bool
+        ensures same { result ≡ true → same ≡ true }
+        ensures free { result ≡ true → held_up ≡ false }
+        ensures none { result ≡ true → orders.now ≡ [] }
+        ensures nothing { result ≡ true → self.now.view.groups ≡ [] }
+    {
+        same && !held_up && orders.is_empty() && is_forgotten(&self.view.groups)
     }
 
     #[tactic(auto, unfolding(crate::specs::Decisions::goals_set))]
-    /// Decides the goals.
+    /// Decides the goals. The answer is true only where this changed nothing but the second.
     fn set_goals(
         &mut self,
         alloc: Global,
@@ -42,10 +96,12 @@ impl President {
         groups: &[Name],
         resources: &[Name],
         now: u64,
-    ) -> Result<(), NoMemory>
+    ) -> Result<bool, NoMemory>
         ensures after { OnOk result (self.new ≡ goals_set c.now groups.now resources.now now self.old) }
         ensures number { OnOk result (self.new.given ≡ self.old.given) }
+        ensures same { IfOk result (λ same. same ≡ true → with_goals c.now groups.now resources.now now self.old.view ≡ record self.old.view { now = now }) }
     {
+        self.steady = false;
         set_goals(alloc, &mut self.view, c, groups, resources, now)
     }
 

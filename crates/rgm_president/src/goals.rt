@@ -1,11 +1,13 @@
 // The goals of a decision, and the marks that end with them.
-ghost use Rattle.std.specs.Prelude.{◌≡◌, IfOk, OnOk, fold};
+ghost use Rattle.std.specs.Prelude.{◌≡◌, IfOk, OnOk, false, fold, true};
 ghost use Rattle.std.specs.Option.{option_copied};
 ghost use Rattle.placement.specs.Decisions.{with_goal};
 ghost use Rattle.placement.specs.Goals.{goal_by_rule, goal_in};
 ghost use Rattle.rg_props.specs.Lookups.{named};
 ghost use Rattle.rgm_president.specs.Goals.{ended_for, ended_of, ended_outside, fixed_decided, listed, other_decided, with_decided, with_ended, with_goals, with_listed};
+ghost use Rattle.rgm_president.specs.Steady.{is_any_faulted};
 
+use crate::unchanged::is_unchanged;
 use ccr_tables::Config;
 use cl_base::{Name, NodeId, NodeSet};
 use load_limits::Limits;
@@ -14,9 +16,11 @@ use rg_props::{Groups, Resource};
 use rg_view::{Goals, GroupView, ResourceStates};
 use rgm_state::{NoMemory, clear_fault};
 use std::alloc::Global;
+use std::mem::replace;
 
 #[tactic(auto, unfolding(crate::specs::Goals::with_goals))]
-/// Decides the goals at the second `now`.
+/// Decides the goals at the second `now`. The answer is true only where this changed nothing but the
+/// second.
 pub fn set_goals(
     alloc: Global,
     view: &mut GroupView,
@@ -24,28 +28,46 @@ pub fn set_goals(
     groups: &[Name],
     resources: &[Name],
     now: u64,
-) -> Result<(), NoMemory>
-    ensures { OnOk result (view.new ≡ with_goals c.now groups.now resources.now now view.old) }
+) -> Result<bool, NoMemory>
+    ensures value { OnOk result (view.new ≡ with_goals c.now groups.now resources.now now view.old) }
+    ensures same { IfOk result (λ same. same ≡ true → with_goals c.now groups.now resources.now now view.old ≡ record view.old { now = now }) }
 {
-    list_goals(alloc, view, groups, now)?;
+    let same = choose_goals(alloc, view, c, groups, now)?;
+    end_faults(alloc, view, c.groups(), resources)?;
+    Ok(same)
+}
+
+/// Lists the goals and decides them. Whether they are as they were, and no mark could end with them.
+fn choose_goals(
+    alloc: Global,
+    view: &mut GroupView,
+    c: &Config,
+    groups: &[Name],
+    now: u64,
+) -> Result<bool, NoMemory>
+    ensures value { OnOk result (view.new ≡ with_decided c.now groups.now (with_listed groups.now now view.old)) }
+    ensures same { IfOk result (λ same. same ≡ true → (view.old.goals ≡ view.new.goals) × (is_any_faulted view.new.resources ≡ false)) }
+{
+    let before = list_goals(alloc, view, groups, now)?;
     decide_goals(view, c, groups)?;
-    end_faults(alloc, view, c.groups(), resources)
+    Ok(is_unchanged(&before, view))
 }
 
 #[tactic(auto, unfolding(crate::specs::Goals::with_listed))]
-/// Sets the second, and puts the previous goals into the order of groups.
+/// Sets the second, and puts the previous goals into the order of groups. They are handed back in the
+/// order in which they were.
 fn list_goals(
     alloc: Global,
     view: &mut GroupView,
     groups: &[Name],
     now: u64,
-) -> Result<(), NoMemory>
-    ensures { OnOk result (view.new ≡ with_listed groups.now now view.old) }
+) -> Result<Goals, NoMemory>
+    ensures value { OnOk result (view.new ≡ with_listed groups.now now view.old) }
+    ensures before { IfOk result (λ before. before ≡ view.old.goals) }
 {
     let goals = listed(alloc, &view.goals, groups)?;
     view.now = now;
-    view.goals = goals;
-    Ok(())
+    Ok(replace(&mut view.goals, goals))
 }
 
 /// The previous goals of these groups, in their order.

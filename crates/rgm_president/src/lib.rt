@@ -8,6 +8,8 @@ mod ordering;
 mod president;
 mod status;
 mod statuses;
+mod steady;
+mod unchanged;
 
 pub use president::President;
 pub use rgm_state::NoMemory;

@@ -6,19 +6,25 @@ ghost use Rattle.rgm_president.specs.State.{next_order, with_order};
 
 use ccr_tables::{Config, Update};
 use cl_base::{Ask, Bytes, Epoch, Method, Name, NodeId, NodeSet, Outcome};
+use config_cache::Basis;
 use rg_view::{GroupView, Outstanding};
 use rgm_state::{NoMemory, adopt, end_order, take_up, update};
 use std::alloc::Global;
 use std::marker::Model;
 use wire::{Order, Report};
 
-/// The president of a membership. Contracts see it as a `PresidentState`.
+/// The president of a membership. Contracts see it as a `PresidentState`: what is remembered of
+/// decisions that changed nothing changes no answer.
 #[derive(Drop)]
 pub struct President {
     pub(crate) epoch: Epoch,
     /// How many orders it has given.
     pub(crate) given: u64,
     pub(crate) view: GroupView,
+    /// The updates under which a decision changed nothing, when this was found last.
+    pub(crate) basis: Option<Basis>,
+    /// Whether under these updates a decision still would change nothing.
+    pub(crate) steady: bool,
 }
 
 impl Model for President {
@@ -26,7 +32,11 @@ impl Model for President {
 
     ghost Value = { PresidentState };
 
+    ghost use Rattle.rgm_president.specs.Steady.{StandsBy};
+
     ghost view = { λ p. record { epoch = p.epoch; given = p.given; view = p.view } };
+
+    ghost invariant = { λ p. StandsBy p.steady p.basis (record { epoch = p.epoch; given = p.given; view = p.view }) };
 }
 
 impl President {
@@ -45,6 +55,8 @@ impl President {
             epoch: e,
             given: 0,
             view: adopt(alloc, members, reports, c, now)?,
+            basis: None,
+            steady: false,
         })
     }
 
@@ -73,6 +85,7 @@ impl President {
     pub fn changed(&mut self, alloc: Global, u: &Update, c: &Config) -> Result<(), NoMemory>
         ensures value { OnOk result (self.new ≡ with_update c.now u.now self.old) }
     {
+        self.steady = false;
         update(alloc, &mut self.view, u, c)
     }
 
@@ -96,6 +109,7 @@ impl President {
         if order.number != number {
             return Ok(false);
         }
+        self.steady = false;
         end_order(alloc, &mut self.view, order, outcome, c, now)?;
         Ok(true)
     }
@@ -128,6 +142,7 @@ impl President {
                 Ok(Some(order))
             }
             Ask::Restart(_) | Ask::Move(_) | Ask::Remaster(_) | Ask::Evacuate(_) => {
+                self.steady = false;
                 take_up(alloc, &mut self.view, from, what, c, now)?;
                 Ok(None)
             }
@@ -147,6 +162,7 @@ impl President {
         ensures order { IfOk result (λ order. order ≡ next_order self.old resource method) }
         ensures after { OnOk result (self.new ≡ with_order self.old node resource method) }
     {
+        self.steady = false;
         let number = self.given + 1;
         let text = Bytes::new(Vec::from_slice(alloc, resource.bytes())?);
         self.view.outstanding.put(Outstanding {

@@ -1,30 +1,20 @@
+// Commands that change a configuration, and the rows of its tables then.
+ghost use Rattle.std.specs.Prelude.{◌≤◌, length, IfOk};
+ghost use Rattle.cl_base.specs.Limits.{most_devices};
+ghost use Rattle.cl_base.specs.declared.command.Table.TheVariants.{Infrastructure};
+ghost use Rattle.ccr_rows.specs.Rows.{rows_of};
+ghost use Rattle.ccr_text.specs.TableText.{AreRows};
+
+use admin_words::parse;
 use ccr_rows::table;
-use ccr_tables::{Config, DeviceChange, GroupChange, ResourceChange, Update, Weight};
+use ccr_tables::{AdminCommand, Config, table_named};
 use ccr_text::{Row, print_table};
-use cl_base::{
-    DevId, DeviceKind, Header, HeaderDevice, Items, Method, MethodSet, Name, NodeId, NodeSet,
-    Policy, Table, Version,
-};
+use cl_base::{DeviceKind, Header, HeaderDevice, HeaderDevices, Name, NodeSet, Table, Version};
+use itoa::Buffer;
 use row_laws::tables_have_their_form;
-use std::alloc::{AllocError, Global};
+use std::alloc::Global;
 use std::process::Abort;
 use std::test::Fail;
-
-fn name(bytes: &[u8]) -> Result<Name, Fail> {
-    Ok(Name::new(bytes)?)
-}
-
-fn node(n: u64) -> Result<NodeId, Fail> {
-    Ok(NodeId::new(n)?)
-}
-
-fn nodes(alloc: Global, numbers: &[u64]) -> Result<Items<NodeId>, Fail> {
-    let mut nodes = Vec::new(alloc);
-    for n in numbers {
-        nodes.push(node(*n)?)?;
-    }
-    Ok(Items::new(nodes))
-}
 
 fn device(kind: DeviceKind) -> HeaderDevice {
     HeaderDevice {
@@ -33,480 +23,438 @@ fn device(kind: DeviceKind) -> HeaderDevice {
     }
 }
 
-/// Two nodes, both configured, and a data device, under the first version.
-fn first_version(alloc: Global) -> Result<Config, Fail> {
-    let mut devices = Vec::new(alloc);
-    devices.push(device(DeviceKind::Data))?;
-    let header = Header {
-        version: Version::One,
-        cluster: 42,
-        nodes: 2,
-        configured: NodeSet::first(2),
-        devices: Items::new(devices),
-    };
-    Ok(Config::first(alloc, &header)?)
-}
-
-/// Five nodes, of which three are configured, a data device, a quorum device and a server, under the
-/// second version.
-fn second_version(alloc: Global) -> Result<Config, Fail> {
-    let mut devices = Vec::new(alloc);
-    devices.push(device(DeviceKind::Data))?;
-    devices.push(device(DeviceKind::Quorum))?;
-    devices.push(device(DeviceKind::Server))?;
-    let header = Header {
-        version: Version::Two,
-        cluster: 42,
-        nodes: 5,
-        configured: NodeSet::first(3),
-        devices: Items::new(devices),
-    };
-    Ok(Config::first(alloc, &header)?)
-}
-
-/// The rows' lines: key, tab, value, newline.
-fn lines(alloc: Global, rows: &[Row]) -> Result<Vec<u8>, AllocError> {
-    let mut text = Vec::new(alloc);
-    for row in rows {
-        text.extend_from_slice(row.key.items())?;
-        text.push(b'\t')?;
-        text.extend_from_slice(row.value.items())?;
-        text.push(b'\n')?;
-    }
-    Ok(text)
-}
-
-fn expect(
-    rt: &impl Abort,
-    alloc: Global,
-    config: &Config,
-    t: Table,
-    number: u64,
-    text: &str,
-) -> Result<(), Fail> {
-    let (found, rows) = table(alloc, config, t)?;
-    assert_eq!(rt; found, number);
-    let lines = lines(alloc, rows.items())?;
-    assert_eq!(rt; lines.as_slice(), text.as_bytes());
-    Ok(())
-}
-
-fn register(
-    c: &mut Config,
-    of_name: &[u8],
-    methods: MethodSet,
-    single: bool,
-    failover: bool,
-) -> Result<(), Fail> {
-    c.apply(&Update::RegisterType {
-        name: name(of_name)?,
-        agent: name(b"obedient")?,
-        methods,
-        single,
-        failover,
-    })?;
-    Ok(())
-}
-
-fn create_group(c: &mut Config, alloc: Global, group: &[u8], numbers: &[u64]) -> Result<(), Fail> {
-    c.apply(&Update::CreateGroup {
-        group: name(group)?,
-        nodes: nodes(alloc, numbers)?,
-    })?;
-    Ok(())
-}
-
-fn create_resource(c: &mut Config, resource: &[u8], group: &[u8]) -> Result<(), Fail> {
-    c.apply(&Update::CreateResource {
-        resource: name(resource)?,
-        group: name(group)?,
-        resource_type: name(b"app")?,
-    })?;
-    Ok(())
-}
-
-fn set_group(
-    c: &mut Config,
-    alloc: Global,
-    group: &[u8],
-    property: &[u8],
-    value: &[u8],
-) -> Result<(), Fail> {
-    c.apply(&Update::SetGroup {
-        group: name(group)?,
-        property: Items::new(property.to_vec(alloc)?),
-        value: Items::new(value.to_vec(alloc)?),
-    })?;
-    Ok(())
-}
-
-fn set_resource(
-    c: &mut Config,
-    alloc: Global,
-    resource: &[u8],
-    property: &[u8],
-    value: &[u8],
-) -> Result<(), Fail> {
-    c.apply(&Update::SetResource {
-        resource: name(resource)?,
-        property: Items::new(property.to_vec(alloc)?),
-        value: Items::new(value.to_vec(alloc)?),
-    })?;
-    Ok(())
-}
-
-fn change_group(c: &mut Config, group: &[u8], change: GroupChange) -> Result<(), Fail> {
-    c.apply(&Update::ChangeGroup {
-        group: name(group)?,
-        change,
-    })?;
-    Ok(())
-}
-
-fn change_resource(c: &mut Config, resource: &[u8], change: ResourceChange) -> Result<(), Fail> {
-    c.apply(&Update::ChangeResource {
-        resource: name(resource)?,
-        change,
-    })?;
-    Ok(())
-}
-
-fn change_device(c: &mut Config, d: u64, change: DeviceChange) -> Result<(), Fail> {
-    c.apply(&Update::Device {
-        device: DevId::new(d)?,
-        change,
-    })?;
-    Ok(())
-}
-
-fn vote(c: &mut Config, n: u64, vote: bool) -> Result<(), Fail> {
-    c.apply(&Update::NodeVote {
-        node: node(n)?,
-        vote,
-    })?;
-    Ok(())
-}
-
-fn create_limit(c: &mut Config, n: u64, limit: &[u8], soft: u64, hard: u64) -> Result<(), Fail> {
-    c.apply(&Update::CreateLimit {
-        node: node(n)?,
-        limit: name(limit)?,
-        soft,
-        hard,
-    })?;
-    Ok(())
-}
-
-fn create_address(
-    c: &mut Config,
-    address: &[u8],
-    group: &[u8],
-    policy: Policy,
-) -> Result<(), Fail> {
-    c.apply(&Update::CreateAddress {
-        address: name(address)?,
-        group: name(group)?,
-        policy,
-    })?;
-    Ok(())
-}
-
-fn weigh(c: &mut Config, alloc: Global, address: &[u8]) -> Result<(), Fail> {
-    let mut weights = Vec::new(alloc);
-    weights.push(Weight {
-        node: node(3)?,
-        weight: 1000,
-    })?;
-    weights.push(Weight {
-        node: node(1)?,
-        weight: 0,
-    })?;
-    c.apply(&Update::SetWeights {
-        address: name(address)?,
-        weights: Items::new(weights),
-    })?;
-    Ok(())
-}
-
-fn least_methods() -> MethodSet {
-    MethodSet::empty().with(Method::Stop).with(Method::Start)
-}
-
-fn all_methods() -> MethodSet {
-    least_methods()
-        .with(Method::Update)
-        .with(Method::Boot)
-        .with(Method::Fini)
-        .with(Method::Init)
-        .with(Method::Validate)
-        .with(Method::PostnetStop)
-        .with(Method::MonitorStop)
-        .with(Method::MonitorCheck)
-        .with(Method::MonitorStart)
-        .with(Method::PrenetStart)
-}
-
-fn change_nodes(c: &mut Config) -> Result<(), Fail> {
-    c.apply(&Update::AddNode(node(4)?))?;
-    vote(c, 4, true)?;
-    c.apply(&Update::RemoveNode(node(2)?))?;
-    c.apply(&Update::AddNode(node(2)?))?;
-    vote(c, 3, false)
-}
-
-fn change_devices(c: &mut Config) -> Result<(), Fail> {
-    change_device(c, 1, DeviceChange::Add)?;
-    change_device(c, 2, DeviceChange::Disable)?;
-    change_device(c, 3, DeviceChange::Remove)
-}
-
-fn create_limits(c: &mut Config) -> Result<(), Fail> {
-    create_limit(c, 3, b"mem", 4, 8)?;
-    create_limit(c, 2, b"mem", 1, 1)?;
-    create_limit(c, 1, b"cpu", 0, 1000000)?;
-    create_limit(c, 3, b"cpu", 2, 2)?;
-    c.apply(&Update::DeleteLimit {
-        node: node(3)?,
-        limit: name(b"cpu")?,
-    })?;
-    Ok(())
-}
-
-const AT_FIRST: &str =
-    "node.1\t1\nnode.2\t1\nnode.3\t1\ndevice.1\tabsent\ndevice.2\tenabled\ndevice.3\tenabled\n";
-
-const CHANGED_NODES: &str =
-    "node.1\t1\nnode.3\t0\nnode.4\t1\nnode.2\t0\ndevice.1\tenabled\ndevice.2\tdisabled\ndevice.3\tabsent\nload.3.mem\t4 8\nload.1.cpu\t0 1000000\n";
-
-fn change_infrastructure(rt: &impl Abort, a: Global, c: &mut Config) -> Result<(), Fail> {
-    expect(rt, a, c, Table::Infrastructure, 0, AT_FIRST)?;
-    create_limits(c)?;
-    change_nodes(c)?;
-    change_devices(c)?;
-    expect(rt, a, c, Table::Infrastructure, 13, CHANGED_NODES)
-}
-
-#[test]
-fn nodes_devices_and_limits(rt: HostRuntime) -> Result<(), Fail> {
-    let a = rt.alloc();
-    let mut c = second_version(a)?;
-    change_infrastructure(&rt, a, &mut c)
-}
-
-fn change_types(rt: &impl Abort, a: Global, c: &mut Config) -> Result<(), Fail> {
-    expect(rt, a, c, Table::Types, 0, "")?;
-    register(c, b"web", all_methods(), true, false)?;
-    register(c, b"old", least_methods(), true, true)?;
-    register(c, b"app", least_methods(), false, true)?;
-    c.apply(&Update::UnregisterType(name(b"old")?))?;
-    let text =
-        "web\tobedient PRENET_START,START,MONITOR_START,MONITOR_CHECK,MONITOR_STOP,STOP,POSTNET_STOP,VALIDATE,INIT,FINI,BOOT,UPDATE single any\napp\tobedient START,STOP multi failover\n";
-    expect(rt, a, c, Table::Types, 4, text)
-}
-
-#[test]
-fn types_with_their_methods(rt: HostRuntime) -> Result<(), Fail> {
-    let a = rt.alloc();
-    let mut c = second_version(a)?;
-    change_types(&rt, a, &mut c)
-}
-
-fn create_two(c: &mut Config, a: Global) -> Result<(), Fail> {
-    create_group(c, a, b"g", &[2, 1])?;
-    create_group(c, a, b"x", &[3])?;
-    create_group(c, a, b"h", &[1, 2, 3])?;
-    c.apply(&Update::DeleteGroup(name(b"x")?))?;
-    change_group(c, b"h", GroupChange::Manage)?;
-    change_group(c, b"h", GroupChange::Suspend)?;
-    change_group(c, b"g", GroupChange::Online)
-}
-
-fn set_groups(c: &mut Config, a: Global) -> Result<(), Fail> {
-    set_group(c, a, b"h", b"Maximum_primaries", b"3")?;
-    set_group(c, a, b"h", b"Desired_primaries", b"0")?;
-    set_group(c, a, b"h", b"RG_dependencies", b"g,g")?;
-    set_group(c, a, b"h", b"RG_affinities", b"+g,--g,+++g,-g,++g")?;
-    set_group(c, a, b"h", b"Pingpong_interval", b"60")?;
-    set_group(c, a, b"h", b"Failback", b"TRUE")?;
-    set_group(c, a, b"h", b"Load_factors", b"mem@6,cpu@0")?;
-    set_group(c, a, b"h", b"Priority", b"1000")
-}
-
-const TWO_GROUPS: &str =
-    "g.Nodelist\t2,1\ng.Maximum_primaries\t1\ng.Desired_primaries\t1\ng.RG_dependencies\tnone\ng.RG_affinities\tnone\ng.Pingpong_interval\t3600\ng.Failback\tFALSE\ng.managed\tFALSE\ng.wanted\tTRUE\ng.Suspend_automatic_recovery\tFALSE\ng.Load_factors\tnone\ng.Priority\t500\nh.Nodelist\t1,2,3\nh.Maximum_primaries\t3\nh.Desired_primaries\t0\nh.RG_dependencies\tg,g\nh.RG_affinities\t+g,--g,+++g,-g,++g\nh.Pingpong_interval\t60\nh.Failback\tTRUE\nh.managed\tTRUE\nh.wanted\tFALSE\nh.Suspend_automatic_recovery\tTRUE\nh.Load_factors\tmem@6,cpu@0\nh.Priority\t1000\n";
-
-fn change_groups(rt: &impl Abort, a: Global, c: &mut Config) -> Result<(), Fail> {
-    create_two(c, a)?;
-    set_groups(c, a)?;
-    expect(rt, a, c, Table::Groups, 15, TWO_GROUPS)
-}
-
-#[test]
-fn groups_with_their_properties(rt: HostRuntime) -> Result<(), Fail> {
-    let a = rt.alloc();
-    let mut c = second_version(a)?;
-    change_groups(&rt, a, &mut c)
-}
-
-fn create_three(c: &mut Config, a: Global) -> Result<(), Fail> {
-    create_group(c, a, b"g", &[1])?;
-    register(c, b"app", least_methods(), false, false)?;
-    create_resource(c, b"r", b"g")?;
-    create_resource(c, b"x", b"g")?;
-    create_resource(c, b"s", b"g")?;
-    c.apply(&Update::DeleteResource(name(b"x")?))?;
-    Ok(())
-}
-
-fn set_resources(c: &mut Config, a: Global) -> Result<(), Fail> {
-    change_resource(c, b"s", ResourceChange::Disable)?;
-    change_resource(c, b"r", ResourceChange::Unmonitor)?;
-    set_resource(c, a, b"s", b"Resource_dependencies", b"r,r")?;
-    set_resource(c, a, b"s", b"Resource_dependencies_weak", b"r")?;
-    set_resource(
-        c,
-        a,
-        b"s",
-        b"Resource_dependencies_offline_restart",
-        b"r,r,r",
-    )?;
-    set_resource(c, a, b"s", b"Failover_mode", b"RESTART_ONLY")?;
-    set_resource(c, a, b"s", b"Retry_count", b"1000")?;
-    set_resource(c, a, b"s", b"Retry_interval", b"0")
-}
-
-const TWO_RESOURCES: &str =
-    "r.group\tg\nr.type\tapp\nr.enabled\tTRUE\nr.monitored\tFALSE\nr.Resource_dependencies\tnone\nr.Resource_dependencies_weak\tnone\nr.Resource_dependencies_offline_restart\tnone\nr.Failover_mode\tNONE\nr.Retry_count\t2\nr.Retry_interval\t300\ns.group\tg\ns.type\tapp\ns.enabled\tFALSE\ns.monitored\tTRUE\ns.Resource_dependencies\tr,r\ns.Resource_dependencies_weak\tr\ns.Resource_dependencies_offline_restart\tr,r,r\ns.Failover_mode\tRESTART_ONLY\ns.Retry_count\t1000\ns.Retry_interval\t0\n";
-
-fn change_resources(rt: &impl Abort, a: Global, c: &mut Config) -> Result<(), Fail> {
-    create_three(c, a)?;
-    set_resources(c, a)?;
-    expect(rt, a, c, Table::Resources, 12, TWO_RESOURCES)
-}
-
-#[test]
-fn resources_with_their_properties(rt: HostRuntime) -> Result<(), Fail> {
-    let a = rt.alloc();
-    let mut c = second_version(a)?;
-    change_resources(&rt, a, &mut c)
-}
-
-fn with_mode(
-    rt: &impl Abort,
-    alloc: Global,
-    c: &mut Config,
-    mode: &str,
-    number: u64,
-) -> Result<(), Fail> {
-    set_resource(c, alloc, b"r", b"Failover_mode", mode.as_bytes())?;
-    let text = format!(in alloc;
-        "r.group\tg\nr.type\tapp\nr.enabled\tTRUE\nr.monitored\tTRUE\nr.Resource_dependencies\tnone\nr.Resource_dependencies_weak\tnone\nr.Resource_dependencies_offline_restart\tnone\nr.Failover_mode\t{mode}\nr.Retry_count\t2\nr.Retry_interval\t300\n"
-    )?;
-    expect(rt, alloc, c, Table::Resources, number, text.as_str())
-}
-
-fn each_mode(rt: &impl Abort, a: Global, c: &mut Config) -> Result<(), Fail> {
-    create_group(c, a, b"g", &[1])?;
-    register(c, b"app", least_methods(), false, false)?;
-    create_resource(c, b"r", b"g")?;
-    with_mode(rt, a, c, "SOFT", 2)?;
-    with_mode(rt, a, c, "HARD", 3)?;
-    with_mode(rt, a, c, "LOG_ONLY", 4)?;
-    with_mode(rt, a, c, "NONE", 5)
-}
-
-#[test]
-fn failover_modes(rt: HostRuntime) -> Result<(), Fail> {
-    let a = rt.alloc();
-    let mut c = first_version(a)?;
-    each_mode(&rt, a, &mut c)
-}
-
-fn create_addresses(c: &mut Config) -> Result<(), Fail> {
-    create_address(c, b"b", b"g", Policy::StickyPort)?;
-    create_address(c, b"x", b"g", Policy::Weighted)?;
-    create_address(c, b"a", b"g", Policy::Weighted)?;
-    create_address(c, b"d", b"g", Policy::Sticky)?;
-    c.apply(&Update::DeleteAddress(name(b"x")?))?;
-    Ok(())
-}
-
-const THREE_ADDRESSES: &str =
-    "b.group\tg\nb.policy\tSTICKY_PORT\nb.weights\tnone\na.group\tg\na.policy\tLB_WEIGHTED\na.weights\t1000@3,0@1\nd.group\tg\nd.policy\tLB_STICKY\nd.weights\tnone\n";
-
-fn change_addresses(rt: &impl Abort, a: Global, c: &mut Config) -> Result<(), Fail> {
-    create_group(c, a, b"g", &[1, 2, 3])?;
-    create_addresses(c)?;
-    weigh(c, a, b"a")?;
-    expect(rt, a, c, Table::Addresses, 6, THREE_ADDRESSES)
-}
-
-#[test]
-fn shared_addresses(rt: HostRuntime) -> Result<(), Fail> {
-    let a = rt.alloc();
-    let mut c = second_version(a)?;
-    change_addresses(&rt, a, &mut c)
-}
-
-const ONE_GROUP: &str =
-    "g.Nodelist\t2,1\ng.Maximum_primaries\t1\ng.Desired_primaries\t1\ng.RG_dependencies\tnone\ng.RG_affinities\tnone\ng.Pingpong_interval\t3600\ng.Failback\tFALSE\ng.managed\tFALSE\ng.wanted\tFALSE\ng.Suspend_automatic_recovery\tFALSE\n";
-
-fn change_all(rt: &impl Abort, a: Global, c: &mut Config) -> Result<(), Fail> {
-    create_group(c, a, b"g", &[2, 1])?;
-    change_device(c, 1, DeviceChange::Add)?;
-    vote(c, 2, false)?;
-    let text = "node.1\t1\nnode.2\t0\ndevice.1\tenabled\n";
-    expect(rt, a, c, Table::Infrastructure, 2, text)?;
-    expect(rt, a, c, Table::Groups, 1, ONE_GROUP)
-}
-
-#[test]
-fn the_first_version(rt: HostRuntime) -> Result<(), Fail> {
-    let a = rt.alloc();
-    let mut c = first_version(a)?;
-    change_all(&rt, a, &mut c)
-}
-
-fn no_rows(rt: &impl Abort, a: Global, c: &mut Config) -> Result<(), Fail> {
-    expect(rt, a, c, Table::Types, 0, "")?;
-    expect(rt, a, c, Table::Groups, 0, "")?;
-    expect(rt, a, c, Table::Resources, 0, "")?;
-    expect(rt, a, c, Table::Addresses, 0, "")
-}
-
-#[test]
-fn tables_without_rows(rt: HostRuntime) -> Result<(), Fail> {
-    let a = rt.alloc();
-    let mut c = first_version(a)?;
-    no_rows(&rt, a, &mut c)
-}
-
-/// The text of a table of a cluster of two nodes and a quorum device, before any update.
-fn text_at_first(alloc: Global, version: Version, t: Table) -> Result<Vec<u8>, Fail> {
-    let mut devices = Vec::new(alloc);
-    devices.push(device(DeviceKind::Quorum))?;
-    let header = Header {
+/// Two nodes, both configured, and a device.
+fn of_two(alloc: Global, version: Version, kind: DeviceKind) -> Result<Header, Fail>
+    ensures devices { IfOk result (λ header. length header.devices ≤ most_devices) }
+{
+    let devices = HeaderDevices::new(vec![in alloc; device(kind)]?);
+    Ok(Header {
         version,
         cluster: 42,
         nodes: 2,
         configured: NodeSet::first(2),
-        devices: Items::new(devices),
-    };
-    let config = Config::first(alloc, &header)?;
-    let (number, rows) = table(alloc, &config, t)?;
-    tables_have_their_form();
+        devices,
+    })
+}
+
+/// Five nodes, of which three are configured, a data device, a quorum device and a server.
+fn of_five(alloc: Global) -> Result<Header, Fail>
+    ensures devices { IfOk result (λ header. length header.devices ≤ most_devices) }
+{
+    let data = device(DeviceKind::Data);
+    let quorum = device(DeviceKind::Quorum);
+    let server = device(DeviceKind::Server);
+    let devices = HeaderDevices::new(vec![in alloc; data, quorum, server]?);
+    Ok(Header {
+        version: Version::Two,
+        cluster: 42,
+        nodes: 5,
+        configured: NodeSet::first(3),
+        devices,
+    })
+}
+
+fn header(alloc: Global, version: Version) -> Result<Header, Fail>
+    ensures devices { IfOk result (λ header. length header.devices ≤ most_devices) }
+{
+    match version {
+        Version::One => of_two(alloc, version, DeviceKind::Data),
+        Version::Two => of_five(alloc),
+    }
+}
+
+fn first(alloc: Global, version: Version) -> Result<Config, Fail> {
+    let header = header(alloc, version)?;
+    Ok(Config::first(alloc, &header)?)
+}
+
+fn tell_word(text: &mut Vec<u8>, word: &[u8], end: u8) -> Result<(), Fail> {
+    text.extend_from_slice(word)?;
+    Ok(text.push(end)?)
+}
+
+/// The rows' lines: key, tab, value, newline.
+fn tell_rows(text: &mut Vec<u8>, rows: &[Row]) -> Result<(), Fail> {
+    for row in rows {
+        tell_word(text, row.key.items(), b'\t')?;
+        tell_word(text, row.value.items(), b'\n')?;
+    }
+    Ok(())
+}
+
+/// The table's number, and its rows.
+fn tell_table(alloc: Global, text: &mut Vec<u8>, config: &Config, t: Table) -> Result<(), Fail> {
+    let (number, rows) = table(alloc, config, t)?;
+    tell_word(text, Buffer::new().format(number).as_bytes(), b'\n')?;
+    tell_rows(text, rows.items())
+}
+
+fn tell(alloc: Global, text: &mut Vec<u8>, config: &Config, name: &Name) -> Result<(), Fail> {
+    match table_named(Version::Two, name) {
+        Some(t) => tell_table(alloc, text, config, t),
+        None => Err(Fail::new("no table")),
+    }
+}
+
+/// An update changes the configuration, and a table that is asked for is told.
+fn obey(
+    alloc: Global,
+    text: &mut Vec<u8>,
+    config: &mut Config,
+    command: &AdminCommand,
+) -> Result<(), Fail> {
+    match command {
+        AdminCommand::Change(u) => Ok(config.apply(u)?),
+        AdminCommand::Rows(name) => tell(alloc, text, config, name),
+        _ => Err(Fail::new("neither an update nor a table")),
+    }
+}
+
+fn take(alloc: Global, text: &mut Vec<u8>, config: &mut Config, words: &[u8]) -> Result<(), Fail> {
+    let command = parse(alloc, config.version(), words)?;
+    obey(alloc, text, config, &command)
+}
+
+fn take_all(
+    alloc: Global,
+    text: &mut Vec<u8>,
+    config: &mut Config,
+    lines: &[u8],
+) -> Result<(), Fail> {
+    for words in lines.split(|b| *b == b'\n') {
+        take(alloc, text, config, words)?;
+    }
+    Ok(())
+}
+
+fn expect_text(rt: &impl Abort, text: &[u8], wanted: &[u8]) {
+    assert!(rt; text == wanted);
+}
+
+fn expect_told(
+    rt: &impl Abort,
+    alloc: Global,
+    config: &mut Config,
+    lines: &[u8],
+    wanted: &[u8],
+) -> Result<(), Fail> {
+    let mut text = Vec::new(alloc);
+    take_all(alloc, &mut text, config, lines)?;
+    expect_text(rt, text.as_slice(), wanted);
+    Ok(())
+}
+
+/// The lines are commands to a new configuration. This is told of the tables that they ask for.
+fn expect(
+    rt: &impl Abort,
+    alloc: Global,
+    version: Version,
+    lines: &[u8],
+    wanted: &[u8],
+) -> Result<(), Fail> {
+    let mut config = first(alloc, version)?;
+    expect_told(rt, alloc, &mut config, lines, wanted)
+}
+
+const NODES: &[u8] = b"ccr infrastructure
+clnode create-loadlimit 3 mem 4 8
+clnode create-loadlimit 2 mem 1 1
+clnode create-loadlimit 1 cpu 0 1000000
+clnode create-loadlimit 3 cpu 2 2
+clnode delete-loadlimit 3 cpu
+clnode add 4
+clq enable node 4
+clnode remove 2
+clnode add 2
+clq disable node 3
+clq add 1
+clq disable device 2
+clq remove 3
+ccr infrastructure";
+
+const OF_NODES: &[u8] = b"0
+node.1\t1
+node.2\t1
+node.3\t1
+device.1\tabsent
+device.2\tenabled
+device.3\tenabled
+13
+node.1\t1
+node.3\t0
+node.4\t1
+node.2\t0
+device.1\tenabled
+device.2\tdisabled
+device.3\tabsent
+load.3.mem\t4 8
+load.1.cpu\t0 1000000
+";
+
+const TYPES: &[u8] = b"ccr types
+clrt register web obedient STOP,START,UPDATE,BOOT,FINI,INIT,VALIDATE,POSTNET_STOP,MONITOR_STOP,MONITOR_CHECK,MONITOR_START,PRENET_START single
+clrt register old obedient STOP,START single failover
+clrt register app obedient STOP,START failover
+clrt unregister old
+ccr types";
+
+const OF_TYPES: &[u8] = b"0
+4
+web\tobedient PRENET_START,START,MONITOR_START,MONITOR_CHECK,MONITOR_STOP,STOP,POSTNET_STOP,VALIDATE,INIT,FINI,BOOT,UPDATE single any
+app\tobedient START,STOP multi failover
+";
+
+const GROUPS: &[u8] = b"clrg create g 2,1
+clrg create x 3
+clrg create h 1,2,3
+clrg delete x
+clrg manage h
+clrg suspend h
+clrg online g
+clrg set h Maximum_primaries 3
+clrg set h Desired_primaries 0
+clrg set h RG_dependencies g,g
+clrg set h RG_affinities +g,--g,+++g,-g,++g
+clrg set h Pingpong_interval 60
+clrg set h Failback TRUE
+clrg set h Load_factors mem@6,cpu@0
+clrg set h Priority 1000
+ccr groups";
+
+const OF_GROUPS: &[u8] = b"15
+g.Nodelist\t2,1
+g.Maximum_primaries\t1
+g.Desired_primaries\t1
+g.RG_dependencies\tnone
+g.RG_affinities\tnone
+g.Pingpong_interval\t3600
+g.Failback\tFALSE
+g.managed\tFALSE
+g.wanted\tTRUE
+g.Suspend_automatic_recovery\tFALSE
+g.Load_factors\tnone
+g.Priority\t500
+h.Nodelist\t1,2,3
+h.Maximum_primaries\t3
+h.Desired_primaries\t0
+h.RG_dependencies\tg,g
+h.RG_affinities\t+g,--g,+++g,-g,++g
+h.Pingpong_interval\t60
+h.Failback\tTRUE
+h.managed\tTRUE
+h.wanted\tFALSE
+h.Suspend_automatic_recovery\tTRUE
+h.Load_factors\tmem@6,cpu@0
+h.Priority\t1000
+";
+
+const RESOURCES: &[u8] = b"clrg create g 1
+clrt register app obedient STOP,START
+clrs create r g app
+clrs create x g app
+clrs create s g app
+clrs delete x
+clrs disable s
+clrs unmonitor r
+clrs set s Resource_dependencies r,r
+clrs set s Resource_dependencies_weak r
+clrs set s Resource_dependencies_offline_restart r,r,r
+clrs set s Failover_mode RESTART_ONLY
+clrs set s Retry_count 1000
+clrs set s Retry_interval 0
+ccr resources";
+
+const OF_RESOURCES: &[u8] = b"12
+r.group\tg
+r.type\tapp
+r.enabled\tTRUE
+r.monitored\tFALSE
+r.Resource_dependencies\tnone
+r.Resource_dependencies_weak\tnone
+r.Resource_dependencies_offline_restart\tnone
+r.Failover_mode\tNONE
+r.Retry_count\t2
+r.Retry_interval\t300
+s.group\tg
+s.type\tapp
+s.enabled\tFALSE
+s.monitored\tTRUE
+s.Resource_dependencies\tr,r
+s.Resource_dependencies_weak\tr
+s.Resource_dependencies_offline_restart\tr,r,r
+s.Failover_mode\tRESTART_ONLY
+s.Retry_count\t1000
+s.Retry_interval\t0
+";
+
+const MODES: &[u8] = b"clrg create g 1
+clrt register app obedient STOP,START
+clrs create r g app
+clrs set r Failover_mode SOFT
+ccr resources
+clrs set r Failover_mode HARD
+ccr resources
+clrs set r Failover_mode LOG_ONLY
+ccr resources
+clrs set r Failover_mode NONE
+ccr resources";
+
+const OF_MODES: &[u8] = b"2
+r.group\tg
+r.type\tapp
+r.enabled\tTRUE
+r.monitored\tTRUE
+r.Resource_dependencies\tnone
+r.Resource_dependencies_weak\tnone
+r.Resource_dependencies_offline_restart\tnone
+r.Failover_mode\tSOFT
+r.Retry_count\t2
+r.Retry_interval\t300
+3
+r.group\tg
+r.type\tapp
+r.enabled\tTRUE
+r.monitored\tTRUE
+r.Resource_dependencies\tnone
+r.Resource_dependencies_weak\tnone
+r.Resource_dependencies_offline_restart\tnone
+r.Failover_mode\tHARD
+r.Retry_count\t2
+r.Retry_interval\t300
+4
+r.group\tg
+r.type\tapp
+r.enabled\tTRUE
+r.monitored\tTRUE
+r.Resource_dependencies\tnone
+r.Resource_dependencies_weak\tnone
+r.Resource_dependencies_offline_restart\tnone
+r.Failover_mode\tLOG_ONLY
+r.Retry_count\t2
+r.Retry_interval\t300
+5
+r.group\tg
+r.type\tapp
+r.enabled\tTRUE
+r.monitored\tTRUE
+r.Resource_dependencies\tnone
+r.Resource_dependencies_weak\tnone
+r.Resource_dependencies_offline_restart\tnone
+r.Failover_mode\tNONE
+r.Retry_count\t2
+r.Retry_interval\t300
+";
+
+const ADDRESSES: &[u8] = b"clrg create g 1,2,3
+clsa create b g STICKY_PORT
+clsa create x g LB_WEIGHTED
+clsa create a g LB_WEIGHTED
+clsa create d g LB_STICKY
+clsa delete x
+clsa weights a 1000@3,0@1
+ccr addresses";
+
+const OF_ADDRESSES: &[u8] = b"6
+b.group\tg
+b.policy\tSTICKY_PORT
+b.weights\tnone
+a.group\tg
+a.policy\tLB_WEIGHTED
+a.weights\t1000@3,0@1
+d.group\tg
+d.policy\tLB_STICKY
+d.weights\tnone
+";
+
+const BOTH: &[u8] = b"clrg create g 2,1
+clq add 1
+clq disable node 2
+ccr infrastructure
+ccr groups";
+
+const OF_BOTH: &[u8] = b"2
+node.1\t1
+node.2\t0
+device.1\tenabled
+1
+g.Nodelist\t2,1
+g.Maximum_primaries\t1
+g.Desired_primaries\t1
+g.RG_dependencies\tnone
+g.RG_affinities\tnone
+g.Pingpong_interval\t3600
+g.Failback\tFALSE
+g.managed\tFALSE
+g.wanted\tFALSE
+g.Suspend_automatic_recovery\tFALSE
+";
+
+const EMPTY: &[u8] = b"ccr types
+ccr groups
+ccr resources
+ccr addresses";
+
+const OF_EMPTY: &[u8] = b"0
+0
+0
+0
+";
+
+#[test]
+fn nodes_and_types(rt: HostRuntime) -> Result<(), Fail> {
+    expect(&rt, rt.alloc(), Version::Two, NODES, OF_NODES)?;
+    expect(&rt, rt.alloc(), Version::Two, TYPES, OF_TYPES)
+}
+
+#[test]
+fn groups_resources_and_addresses(rt: HostRuntime) -> Result<(), Fail> {
+    expect(&rt, rt.alloc(), Version::Two, GROUPS, OF_GROUPS)?;
+    expect(&rt, rt.alloc(), Version::Two, RESOURCES, OF_RESOURCES)?;
+    expect(&rt, rt.alloc(), Version::Two, ADDRESSES, OF_ADDRESSES)
+}
+
+#[test]
+fn the_first_version(rt: HostRuntime) -> Result<(), Fail> {
+    expect(&rt, rt.alloc(), Version::One, MODES, OF_MODES)?;
+    expect(&rt, rt.alloc(), Version::One, BOTH, OF_BOTH)?;
+    expect(&rt, rt.alloc(), Version::One, EMPTY, OF_EMPTY)
+}
+
+const TEXT_AT_FIRST: &[u8] = b"ccr_gennum 0
+ccr_checksum 15f59bf3f234ab440546a9885701fc1e5a0ff4ce19d51ffb0e9ba14d9597b1f1
+node.1\t1
+node.2\t1
+device.1\tenabled
+";
+
+fn printed(alloc: Global, config: &Config) -> Result<Vec<u8>, Fail>
+    requires form { AreRows (rows_of config.now Infrastructure) }
+{
+    let (number, rows) = table(alloc, config, Table::Infrastructure)?;
     Ok(print_table(alloc, number, &rows)?)
 }
 
-const TEXT_AT_FIRST: &str =
-    "ccr_gennum 0\nccr_checksum 15f59bf3f234ab440546a9885701fc1e5a0ff4ce19d51ffb0e9ba14d9597b1f1\nnode.1\t1\nnode.2\t1\ndevice.1\tenabled\n";
+fn expect_printed(rt: &impl Abort, alloc: Global, config: &Config) -> Result<(), Fail>
+    requires form { AreRows (rows_of config.now Infrastructure) }
+{
+    let text = printed(alloc, config)?;
+    expect_text(rt, text.as_slice(), TEXT_AT_FIRST);
+    Ok(())
+}
+
+/// This is printed before any update.
+fn expect_first(rt: &impl Abort, alloc: Global, header: &Header) -> Result<(), Fail>
+    requires devices { length header.now.devices ≤ most_devices }
+{
+    let config = Config::first(alloc, header)?;
+    tables_have_their_form();
+    expect_printed(rt, alloc, &config)
+}
 
 #[test]
 fn the_text_of_a_table(rt: HostRuntime) -> Result<(), Fail> {
-    let a = rt.alloc();
-    let one = text_at_first(a, Version::One, Table::Infrastructure)?;
-    assert_eq!(rt; one.as_slice(), TEXT_AT_FIRST.as_bytes());
-    let two = text_at_first(a, Version::Two, Table::Infrastructure)?;
-    assert_eq!(rt; two.as_slice(), TEXT_AT_FIRST.as_bytes());
-    Ok(())
+    let one = of_two(rt.alloc(), Version::One, DeviceKind::Quorum)?;
+    expect_first(&rt, rt.alloc(), &one)?;
+    let two = of_two(rt.alloc(), Version::Two, DeviceKind::Quorum)?;
+    expect_first(&rt, rt.alloc(), &two)
 }

@@ -1,11 +1,11 @@
 -- Each act of a node keeps what is known of its requests.
 use Rattle.std.specs.Prelude.{ℕ, ◌≡◌, ◌≤◌, ◌<◌, ◌==◌, true, false, List, [], ◌∷◌, Option, None, Some, Ok, is_some, option_map}
 use Rattle.std.specs.List.{AllByRecursion}
-use Rattle.std.proofs.Common.{refl, sym, ap, subst, ◌∙◌, inl, inr}
+use Rattle.std.proofs.Common.{refl, sym, ap, subst, ◌∙◌, arith, inl, inr}
 use Rattle.cl_base.specs.Limits.{most_nodes}
 use Rattle.cl_base.specs.Numbers.{numbers_to}
 use Rattle.cl_base.specs.Sets.{has}
-use Rattle.cmm_attempt.proofs.Basics.{if_either, same_some}
+use Rattle.cmm_attempt.proofs.Basics.{if_either, none_some, same_some}
 use Rattle.device_queue.specs.Queue.{after_seize}
 use Rattle.heartbeats.specs.Views.{receivers_of}
 use Rattle.pgr_device.specs.declared.command.PrAnswer.TheVariants as given
@@ -50,22 +50,22 @@ use Rattle.run_requests.specs.Guards.Move.{Answers, Joins, Same}
 use Rattle.run_requests.proofs.Acts.{Before, NoMakes}
 use Rattle.run_requests.proofs.Causes.{PresidentAt}
 use Rattle.run_requests.proofs.Doings.{plain_act}
-use Rattle.run_requests.proofs.Plain.{ArePlain, plains_apart}
+use Rattle.run_requests.proofs.Plain.{ArePlain}
 use Rattle.run_requests.proofs.Queues.{Queued}
 use Rattle.run_answers.specs.Guards.{ActHand, BodyHand, CauseOf, OutputHand, PresidencyGoes}
-use Rattle.run_answers.specs.Steps.{Backed, Frame, Hand, HandIn, IsQuiet, ToldSo, Unused, UpSo}
+use Rattle.run_answers.specs.Steps.{Backed, Frame, FrameOf, Hand, HandIn, IsQuiet, ToldSo, Unused, UpSo}
 use Rattle.run_answers.proofs.Asides.{of_member}
-use Rattle.run_answers.proofs.Frames.{backed_stays, hand_stays, passing_frame, unused_stays}
+use Rattle.run_answers.proofs.Frames.{backed_stays, hand_stays, unused_of}
 use Rattle.run_answers.proofs.Moves.{Cause, cause_stays, hand_goes}
-use Rattle.run_answers.proofs.Saying.{AllSay, OutSays, SaysRequest, passing_told}
-use Rattle.run_answers.proofs.Waiting.{ReadsUpdates, oldest_says, own_backed}
+use Rattle.run_answers.proofs.Saying.{AllSay, OutSays, SaysRequest, passing_own, passing_told}
+use Rattle.run_answers.proofs.Waiting.{ReadsUpdates, oldest_goes, oldest_says, own_backed}
 
 -- a packet comes from a node; the Request in it is backed, in the membership in which the node took it
 abbrev pub CameHand : Setting → Cluster → ℕ → Option ℕ → Input → List Moment → Type 0
 CameHand S c n v (Packet from m) ms = ((1 ≤ from) × (from ≤ 32)) × ((e q : ℕ) (text : List ℕ) → m.body ≡ body.Request e q text → v ≡ Some e → coordinator e ≡ n → Backed S c e ms from q text)
 CameHand S c n v _ ms = Unit {0}
 
-pub came_frame : (S : Setting) (c : Cluster) (n : ℕ) (v : Option ℕ) (i : Input) (before after : List Moment) → Frame S n before after → CameHand S c n v i before → CameHand S c n v i after
+pub came_frame : {w : Option ℕ} {last : ℕ} (S : Setting) (c : Cluster) (n : ℕ) (v : Option ℕ) (i : Input) (before after : List Moment) → FrameOf S n w last before after → CameHand S c n v i before → CameHand S c n v i after
 came_frame S c n v (Packet from m) before after f h = (h.0, λ e q text is at own. backed_stays S c n e before after from q text f (h.1 e q text is at own))
 came_frame S c n v _ before after f h = tt
 
@@ -83,6 +83,7 @@ up_view S c n ms promised x y seat session asked quiet hand h = record {
   within = h.within;
   forming = λ none some. subst (λ e. Unused n e ms) (sym session) (h.forming (sym seat ∙ none) (subst (λ e. 0 < e) session some));
   member = λ e q is above. h.member e q (sym seat ∙ is) (subst (λ j. j < q) asked above);
+  requested = λ e q is above. h.requested e q (sym seat ∙ is) (subst (λ j. j < q) asked above);
   quiet = quiet;
   hand = subst (λ e. HandIn S c ms e y.presidency) (sym session) hand;
 }
@@ -93,15 +94,30 @@ same_node S c n ms promised x y seat requests presidency h =
     up_view S c n ms promised x y (ap membership_in seat) (ap (λ (z : Seat). session_of (record x { seat = z })) seat) (ap (λ (z : Queue). z.asked) requests)
     (subst (λ (z : Queue). AllByRecursion (IsQuiet c) z.waiting) (sym requests) h.quiet) (subst (λ o. HandIn S c ms (session_of x) o) (sym presidency) h.hand) h
 
-pub up_stays : (S : Setting) (c : Cluster) (n promised : ℕ) (x : UpNode) (before after : List Moment) → (is_some x.presidency ≡ true → PresidentAt x n) → Frame S n before after → UpSo S c n before promised x
-    → UpSo S c n after promised x
-up_stays S c n promised x before after president f h = record {
-  within = λ e above. unused_stays S n e before after f (h.within e above);
-  forming = λ none some. unused_stays S n (session_of x) before after f (h.forming none some);
+-- what may be sent leaves what is known
+record Allows (promised : ℕ) (x : UpNode) (v : Option ℕ) (last : ℕ) : Type 0 where
+  within : (e : ℕ) → promised < e → v ≡ Some e → ⊥
+  forming : membership_in x.seat ≡ None → v ≡ None
+  low : (e : ℕ) → v ≡ Some e → last ≤ x.requests.asked
+
+low_less : (a b q : ℕ) → a ≤ b → b < q → a < q
+low_less a b q h k = omega (arith, h, k)
+
+up_of : {v : Option ℕ} {last : ℕ} (S : Setting) (c : Cluster) (n promised : ℕ) (x : UpNode) (before after : List Moment) → (is_some x.presidency ≡ true → PresidentAt x n) → Allows promised x v last
+    → FrameOf S n v last before after → UpSo S c n before promised x → UpSo S c n after promised x
+up_of {v = v} {last = last} S c n promised x before after president may f h = record {
+  within = λ e above. unused_of S n e before after (may.within e above) f (h.within e above);
+  forming = λ none some. unused_of S n (session_of x) before after (λ is. none_some (session_of x) (sym (may.forming none) ∙ is)) f (h.forming none some);
   member = λ e q is above. f.asked q e ∙ h.member e q is above;
+  requested = λ e q is above. f.requested q e (λ so. low_less last x.requests.asked q (may.low e so) above) ∙ h.requested e q is above;
   quiet = h.quiet;
   hand = hand_stays S c n (session_of x) before after x.presidency f (λ so. let p : PresidentAt x n = president so in ap coordinator p.session ∙ p.own) h.hand;
 }
+
+pub up_stays : (S : Setting) (c : Cluster) (n promised : ℕ) (x : UpNode) (before after : List Moment) → (is_some x.presidency ≡ true → PresidentAt x n) → Frame S n before after → UpSo S c n before promised x
+    → UpSo S c n after promised x
+up_stays S c n promised x before after president f h =
+    up_of S c n promised x before after president (record { within = λ e above is. none_some e is; forming = λ none. refl; low = λ e is. absurd (none_some e is) }) f h
 
 -- ---- what is said
 
@@ -113,52 +129,53 @@ seat_session x e f is at = by x.seat refl at ∙ sym is
     by (Member s) same e = sym (same_some s.session f e) ∙ sym (ap (λ (z : Seat). session_of (record x { seat = z })) same)
 
 body_says : (S : Setting) (c : Cluster) (n : ℕ) (x : UpNode) (ms : List Moment) (b : Body) → ReadsUpdates c S → Queued S n ms (membership_in x.seat) x.requests → AllByRecursion (IsQuiet c) x.requests.waiting
-    → BodyAsk x b → BodyHand x b → SaysRequest S c n ms b
+    → BodyAsk x b → BodyHand x b → SaysRequest S c n (membership_in x.seat) x.requests.asked ms b
 body_says S c n x ms (body.Request e q text) reads queued quiet ask hand =
-    λ u read. oldest_says c S n e q text ms (membership_in x.seat) x.requests u reads (λ f at. seat_session x e f hand at) queued quiet ask read
+    let goes : (membership_in x.seat ≡ Some e) × (q ≤ x.requests.asked) = oldest_goes S n e q text ms (membership_in x.seat) x.requests (λ f at. seat_session x e f hand at) queued ask in
+    (λ u read. oldest_says c S n e q text ms (membership_in x.seat) x.requests u reads (λ f at. seat_session x e f hand at) queued quiet ask read, goes.0, goes.1)
 body_says S c n x ms _ reads queued quiet ask hand = tt
 
 outputs_say : (S : Setting) (c : Cluster) (n : ℕ) (i : Input) (o : Option Command) (h : Option ℕ) (x : UpNode) (ms : List Moment) (os : List Output) → ReadsUpdates c S → Queued S n ms (membership_in x.seat) x.requests
-    → AllByRecursion (IsQuiet c) x.requests.waiting → AllByRecursion (OutputAsk n i o h x) os → AllByRecursion (OutputHand x) os → AllSay S c n ms os
+    → AllByRecursion (IsQuiet c) x.requests.waiting → AllByRecursion (OutputAsk n i o h x) os → AllByRecursion (OutputHand x) os → AllSay S c n (membership_in x.seat) x.requests.asked ms os
 outputs_say S c n i o h x ms [] reads queued quiet ask hand = tt
 outputs_say S c n i o h x ms (Tells e ∷ os) reads queued quiet ask hand = (tt, outputs_say S c n i o h x ms os reads queued quiet ask.1 hand.1)
 outputs_say S c n i o h x ms (Sends to b ∷ os) reads queued quiet ask hand =
     (body_says S c n x ms b reads queued quiet ask.0 hand.0, outputs_say S c n i o h x ms os reads queued quiet ask.1 hand.1)
 
-spread_say : (S : Setting) (c : Cluster) (n : ℕ) (ms : List Moment) (receivers : ℕ) (b : Body) → SaysRequest S c n ms b → AllSay S c n ms (sent_to receivers b)
+spread_say : (S : Setting) (c : Cluster) (n : ℕ) (v : Option ℕ) (last : ℕ) (ms : List Moment) (receivers : ℕ) (b : Body) → SaysRequest S c n v last ms b → AllSay S c n v last ms (sent_to receivers b)
 unfolding sent_to
-spread_say S c n ms receivers b h = mapped (OutSays S c n ms) (λ k. Sends k b) (numbers_to receivers most_nodes) (λ k. h)
+spread_say S c n v last ms receivers b h = mapped (OutSays S c n v last ms) (λ k. Sends k b) (numbers_to receivers most_nodes) (λ k. h)
 
-beats_say : (S : Setting) (c : Cluster) (n : ℕ) (ms : List Moment) (receivers : ℕ) (x : UpNode) → AllSay S c n ms (heartbeats_to x receivers)
+beats_say : (S : Setting) (c : Cluster) (n : ℕ) (v : Option ℕ) (last : ℕ) (ms : List Moment) (receivers : ℕ) (x : UpNode) → AllSay S c n v last ms (heartbeats_to x receivers)
 unfolding heartbeats_to
-beats_say S c n ms receivers x = mapped (OutSays S c n ms) (λ k. Sends k (heartbeat_of x)) (numbers_to receivers most_nodes) (λ k. tt)
+beats_say S c n v last ms receivers x = mapped (OutSays S c n v last ms) (λ k. Sends k (heartbeat_of x)) (numbers_to receivers most_nodes) (λ k. tt)
 
 again_to_say : (S : Setting) (c : Cluster) (n : ℕ) (x : UpNode) (ms : List Moment) (r : Option Request) (to : Option ℕ) → ReadsUpdates c S → Queued S n ms (membership_in x.seat) x.requests
-    → AllByRecursion (IsQuiet c) x.requests.waiting → queue.oldest x.requests ≡ r → AllSay S c n ms (request_again_to x r to)
+    → AllByRecursion (IsQuiet c) x.requests.waiting → queue.oldest x.requests ≡ r → AllSay S c n (membership_in x.seat) x.requests.asked ms (request_again_to x r to)
 again_to_say S c n x ms (Some r) (Some president) reads queued quiet is =
     (body_says S c n x ms (body.Request (session_of x) r.number r.text) reads queued quiet (ap (λ z. option_map pair_of z) is) refl, tt)
 again_to_say S c n x ms None president reads queued quiet is = tt
 again_to_say S c n x ms (Some r) None reads queued quiet is = tt
 
 again_say : (S : Setting) (c : Cluster) (n : ℕ) (x : UpNode) (ms : List Moment) (p : Option Presidency) → ReadsUpdates c S → Queued S n ms (membership_in x.seat) x.requests → AllByRecursion (IsQuiet c) x.requests.waiting
-    → AllSay S c n ms (request_again_by x p)
+    → AllSay S c n (membership_in x.seat) x.requests.asked ms (request_again_by x p)
 again_say S c n x ms None reads queued quiet =
-    if_either (AllSay S c n ms) (queue.goes_again x.requests) (request_again_to x (queue.oldest x.requests) (coordinator_of x)) []
+    if_either (AllSay S c n (membership_in x.seat) x.requests.asked ms) (queue.goes_again x.requests) (request_again_to x (queue.oldest x.requests) (coordinator_of x)) []
     (again_to_say S c n x ms (queue.oldest x.requests) (coordinator_of x) reads queued quiet refl) tt
 again_say S c n x ms (Some p) reads queued quiet = tt
 
-write_say : (S : Setting) (c : Cluster) (n : ℕ) (ms : List Moment) (x : UpNode) (d value : ℕ) (a : Answer) → AllSay S c n ms (write_lines n x d value a)
-write_say S c n ms x d value (Ok given.Good) = (tt, tt)
-write_say S c n ms x d value (Ok given.Conflict) = (tt, tt)
-write_say S c n ms x d value _ = (tt, tt)
+write_say : (S : Setting) (c : Cluster) (n : ℕ) (v : Option ℕ) (last : ℕ) (ms : List Moment) (x : UpNode) (d value : ℕ) (a : Answer) → AllSay S c n v last ms (write_lines n x d value a)
+write_say S c n v last ms x d value (Ok given.Good) = (tt, tt)
+write_say S c n v last ms x d value (Ok given.Conflict) = (tt, tt)
+write_say S c n v last ms x d value _ = (tt, tt)
 
 act_say : (S : Setting) (c : Cluster) (n : ℕ) (i : Input) (v : Option ℕ) (o : Option Command) (h : Option ℕ) (x : UpNode) (a : Act) (ms : List Moment) → ReadsUpdates c S → NoMakes a → ActAsk n i o h x a
-    → ActHand c i n v x a → Queued S n ms (membership_in x.seat) x.requests → AllByRecursion (IsQuiet c) x.requests.waiting → AllSay S c n ms (said c n x a)
+    → ActHand c i n v x a → Queued S n ms (membership_in x.seat) x.requests → AllByRecursion (IsQuiet c) x.requests.waiting → AllSay S c n (membership_in x.seat) x.requests.asked ms (said c n x a)
 act_say S c n i v o h x (Hears from b) ms reads nm ask hand queued quiet = tt
 act_say S c n i v o h x Ticks ms reads nm ask hand queued quiet = (
   tt,
-  both (OutSays S c n ms) (heartbeats_to (later c x) (receivers_of (later c x).beats (configured_at c (later c x)))) (request_again x)
-      (beats_say S c n ms (receivers_of (later c x).beats (configured_at c (later c x))) (later c x)) (again_say S c n x ms x.presidency reads queued quiet),
+  both (OutSays S c n (membership_in x.seat) x.requests.asked ms) (heartbeats_to (later c x) (receivers_of (later c x).beats (configured_at c (later c x)))) (request_again x)
+      (beats_say S c n (membership_in x.seat) x.requests.asked ms (receivers_of (later c x).beats (configured_at c (later c x))) (later c x)) (again_say S c n x ms x.presidency reads queued quiet),
 )
 act_say S c n i v o h x Waits ms reads nm ask hand queued quiet = tt
 act_say S c n i v o h x (Goes_on a j) ms reads nm ask hand queued quiet = tt
@@ -166,11 +183,11 @@ act_say S c n i v o h x (Ends a e) ms reads nm ask hand queued quiet = (tt, tt)
 act_say S c n i v o h x (Queues a d kind) ms reads nm ask hand queued quiet = tt
 act_say S c n i v o h x (Accepts kind e members d) ms reads nm ask hand queued quiet = tt
 act_say S c n i v o h x (Takes at command a) ms reads nm ask hand queued quiet = (tt, tt)
-act_say S c n i v o h x (Stores d value a) ms reads nm ask hand queued quiet = (tt, write_say S c n ms x d value a)
+act_say S c n i v o h x (Stores d value a) ms reads nm ask hand queued quiet = (tt, write_say S c n (membership_in x.seat) x.requests.asked ms x d value a)
 act_say S c n i v o h x (Writes to b) ms reads nm ask hand queued quiet = (body_says S c n x ms b reads queued quiet ask hand, tt)
 act_say S c n i v o h x (Makes change) ms reads nm ask hand queued quiet = absurd nm
 act_say S c n i v o h x (Gives os) ms reads nm ask hand queued quiet = outputs_say S c n i o h x ms os reads queued quiet ask hand
-act_say S c n i v o h x (Spreads receivers b) ms reads nm ask hand queued quiet = spread_say S c n ms receivers b (body_says S c n x ms b reads queued quiet ask hand)
+act_say S c n i v o h x (Spreads receivers b) ms reads nm ask hand queued quiet = spread_say S c n (membership_in x.seat) x.requests.asked ms receivers b (body_says S c n x ms b reads queued quiet ask hand)
 act_say S c n i v o h x (Minds q p) ms reads nm ask hand queued quiet = tt
 act_say S c n i v o h x (Notes from place p) ms reads nm ask hand queued quiet = tt
 act_say S c n i v o h x (Dates now) ms reads nm ask hand queued quiet = tt
@@ -261,18 +278,22 @@ up_acts S c n told i v o h promised x (Spreads receivers b) ms nm may ask hand c
 up_acts S c n told i v o h promised x (Dates now) ms nm may ask hand cause held_so = same_node S c n ms promised x (acted c n x (Dates now)) refl refl refl held_so
 up_acts S c n told i v o h promised x (Works w) ms nm may ask hand cause held_so = same_node S c n ms promised x (acted c n x (Works w)) refl refl refl held_so
 
+no_less : (k : ℕ) → k ≤ k
+no_less k = omega arith
+
 pub act_holds : (S : Setting) (c : Cluster) (n : ℕ) (told : Delivered) (i : Input) (v : Option ℕ) (o : Option Command) (h : Option ℕ) (promised : ℕ) (x : UpNode) (a : Act) (s : Scene) → ReadsUpdates c S → (1 ≤ n) × (n ≤ 32)
-    → NoMakes a → MayAct c n told x a → IsSmallAct a → ActAsk n i o h x a → ActHand c i n v x a → AreGood n (said c n x a) → Before S n i o h x s → Holding S c n i v promised x s.moments
-    → Holding S c n i v promised (acted c n x a) (passing n (said c n x a) s).moments
-act_holds S c n told i v o h promised x a s reads range nm may small ask hand good b k =
+    → NoMakes a → MayAct c n told x a → IsSmallAct a → ActAsk n i o h x a → ActHand c i n v x a → AreGood n (said c n x a) → ((e : ℕ) → promised < e → membership_in x.seat ≡ Some e → ⊥) → Before S n i o h x s
+    → Holding S c n i v promised x s.moments → Holding S c n i v promised (acted c n x a) (passing n (said c n x a) s).moments
+act_holds S c n told i v o h promised x a s reads range nm may small ask hand good within b k =
     let os : List Output = said c n x a in
     let ms : List Moment = (passing n os s).moments in
     let plain : ArePlain os = plain_act c n i o h x a nm small ask in
-    let f : Frame S n s.moments ms = passing_frame S n n os s (plains_apart n os plain) in
+    let say : AllSay S c n (membership_in x.seat) x.requests.asked s.moments os = act_say S c n i v o h x a s.moments reads nm ask hand b.queued k.up.quiet in
+    let f : FrameOf S n (membership_in x.seat) x.requests.asked s.moments ms = passing_own S c n (membership_in x.seat) x.requests.asked os s good plain say in
     record {
       up = up_acts S c n told i v o h promised x a ms nm may ask hand
           (λ so z cause. cause_stays S c n (session_of x) s.moments ms z f (cause_backed S c n i v x s.moments reads range k.told k.came (b.president so) b.queued k.up.quiet z cause))
-          (up_stays S c n promised x s.moments ms b.president f k.up);
-      told = passing_told S c n os s good plain (act_say S c n i v o h x a s.moments reads nm ask hand b.queued k.up.quiet) k.told;
+          (up_of S c n promised x s.moments ms b.president (record { within = within; forming = λ none. none; low = λ e is. no_less x.requests.asked }) f k.up);
+      told = passing_told S c n (membership_in x.seat) x.requests.asked os s good plain say k.told;
       came = came_frame S c n v i s.moments ms f k.came;
     }

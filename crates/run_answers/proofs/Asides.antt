@@ -143,7 +143,7 @@ own_comes C s a Waits is cause = inl (refl, refl, refl)
 own_comes C s a Answered is cause = inl (refl, refl, refl)
 own_comes C s a Past is cause = inl (refl, refl, refl)
 
-with_own_goes : (C : Arrived → Type 0) (me : ℕ) (s : State) (o : Option Request) → ((r : Request) → o ≡ Some r → C (own_arrival me r)) → Stays_or_comes C s (with_own me s o)
+pub with_own_goes : (C : Arrived → Type 0) (me : ℕ) (s : State) (o : Option Request) → ((r : Request) → o ≡ Some r → C (own_arrival me r)) → Stays_or_comes C s (with_own me s o)
 with_own_goes C me s None so = inl (refl, refl, refl)
 with_own_goes C me s (Some r) so = own_comes C s (own_arrival me r) (arrival_of s me r.number) refl (so r refl)
 

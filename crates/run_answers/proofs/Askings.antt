@@ -83,7 +83,7 @@ again S n q e m r w ms first h = by_test (((m == n) && (r == q)) && is_number e 
         let same : _ = two_true (m == n) (r == q) two.0 in
         let at : m ≡ n = is_equal m n same.0 in
         let by : r ≡ q = is_equal r q same.1 in
-        let none : asked_as m r e ms ≡ false = first e (ap (λ k. member_of k ms) at ∙ number_is e (member_of n ms) two.1) in
+        let none : asked_as m r e ms ≡ false = (first e (ap (λ k. member_of k ms) at ∙ number_is e (member_of n ms) two.1)).0 in
         let here : asked_as n q e ms ≡ false = ap (λ k. asked_as n k e ms) (sym by) ∙ (ap (λ k. asked_as k r e ms) (sym at) ∙ none) in
         absurd (none_has w (sym (text_none S n q e ms here) ∙ h))
 

@@ -1,5 +1,5 @@
 -- Each change of a node keeps what is known of its requests.
-use Rattle.std.specs.Prelude.{ℕ, ◌+◌, ◌≡◌, ◌≤◌, ◌<◌, ◌==◌, ◌&&◌, Bool, true, false, cond, List, [], ◌∷◌, length, replicate, Option, None, Some, is_some}
+use Rattle.std.specs.Prelude.{ℕ, ◌+◌, ◌≡◌, ◌≢◌, ◌≤◌, ◌<◌, ◌==◌, ◌&&◌, Bool, true, false, cond, List, [], ◌∷◌, length, replicate, Option, None, Some, is_some}
 use Rattle.std.specs.List.{AllByRecursion}
 use Rattle.std.proofs.Common.{refl, sym, ap, subst, ◌∙◌, arith}
 use Rattle.std.proofs.lemmas.List.{length-replicate}
@@ -34,7 +34,7 @@ use Rattle.run_requests.specs.Guards.{ChangeAsk, Command}
 use Rattle.run_requests.proofs.Causes.{PresidentAt}
 use Rattle.run_requests.proofs.Changes.{state_with}
 use Rattle.run_requests.proofs.Plain.{IsSilent}
-use Rattle.run_answers.specs.Askings.{asked_as, held, proposals}
+use Rattle.run_answers.specs.Askings.{asked_as, held, proposals, requested_as}
 use Rattle.run_answers.specs.Guards.{CauseOf, ChangeHand}
 use Rattle.run_answers.specs.Steps.{Hand, HandIn, IsQuiet, Unused, UpSo, past_with}
 use Rattle.run_answers.proofs.Acts.{queue_quiet}
@@ -46,17 +46,28 @@ pub record Bound (promised : ℕ) (x : UpNode) : Type 0 where
   pub session : session_of x ≤ promised_of x
   pub alone : membership_in x.seat ≡ None → x.presidency ≡ None
 
-below_next : (e p q : ℕ) → p < q → q < e → p < e
+pub below_next : (e p q : ℕ) → p < q → q < e → p < e
 below_next e p q h k = omega (arith, h, k)
 
-seat_forming : (x : UpNode) (s : NodeState) → x.seat ≡ Forming s → membership_in x.seat ≡ None
+pub seat_forming : (x : UpNode) (s : NodeState) → x.seat ≡ Forming s → membership_in x.seat ≡ None
 seat_forming x s at = ap membership_in at
 
-seat_state : (x : UpNode) (seat : Seat) → x.seat ≡ seat → session_of x ≡ (state_of seat).session
+pub seat_state : (x : UpNode) (seat : Seat) → x.seat ≡ seat → session_of x ≡ (state_of seat).session
 seat_state x seat at = ap (λ (z : Seat). (state_of z).session) at
 
-seat_promise : (x : UpNode) (seat : Seat) → x.seat ≡ seat → promised_of x ≡ (state_of seat).saved.promised
+pub seat_promise : (x : UpNode) (seat : Seat) → x.seat ≡ seat → promised_of x ≡ (state_of seat).saved.promised
 seat_promise x seat at = ap (λ (z : Seat). (state_of z).saved.promised) at
+
+below : (a p e : ℕ) → a ≤ p → p < e → a ≢ e
+below a p e h k = grind (arith, h, k)
+
+-- a membership above the promise is not its own
+pub within_bound : (promised : ℕ) (x : UpNode) → Bound promised x → (e : ℕ) → promised < e → membership_in x.seat ≡ Some e → ⊥
+within_bound promised x bound e above is = below (session_of x) (promised_of x) e bound.session (subst (λ k. k < e) bound.promise above) (by x.seat refl is)
+  where
+    by : (seat : Seat) → x.seat ≡ seat → membership_in seat ≡ Some e → session_of x ≡ e
+    by (Forming s) at so = absurd (none_some e so)
+    by (Member s) at so = ap (λ (z : Seat). (state_of z).session) at ∙ same_some s.session e so
 
 -- ---- the promise rises
 
@@ -66,11 +77,11 @@ le_is a b h = omega (arith, h)
 le_less : (a b : ℕ) → a < b → a ≤ b
 le_less a b h = omega (arith, h)
 
-rested_promise : (x : UpNode) (p : ℕ) (o : Option AttemptState) → promised_of (rested_by (promising x p) o) ≡ p
+pub rested_promise : (x : UpNode) (p : ℕ) (o : Option AttemptState) → promised_of (rested_by (promising x p) o) ≡ p
 rested_promise x p None = refl
 rested_promise x p (Some a) = refl
 
-with_promise : (x : UpNode) (t : NodeState) → t.saved.promised ≡ promised_of x → (state_of (with_state x.seat t)).saved.promised ≡ promised_of x
+pub with_promise : (x : UpNode) (t : NodeState) → t.saved.promised ≡ promised_of x → (state_of (with_state x.seat t)).saved.promised ≡ promised_of x
 with_promise x t h = ap (λ (z : NodeState). z.saved.promised) (state_with x.seat t) ∙ h
 
 pub promise_rises : (c : Cluster) (n : ℕ) (told : Delivered) (x : UpNode) (change : Change) → MayChange c n told x change → promised_of x ≤ promised_of (changed c n x change)
@@ -99,6 +110,7 @@ steady S c n ms promised x y at seat session promise asked quiet hand h = record
   within = λ e above. h.within e (subst (λ k. k < e) (promise ∙ sym at) above);
   forming = λ none some. subst (λ e. Unused n e ms) (sym session) (h.forming (sym seat ∙ none) (subst (λ e. 0 < e) session some));
   member = λ e q is above. h.member e q (sym seat ∙ is) (subst (λ j. j < q) asked above);
+  requested = λ e q is above. h.requested e q (sym seat ∙ is) (subst (λ j. j < q) asked above);
   quiet = quiet;
   hand = subst (λ e. HandIn S c ms e y.presidency) (sym session) hand;
 }
@@ -110,6 +122,7 @@ promises S c n ms promised p x y above seat session promise waiting none h = rec
   within = λ e more. h.within e (below_next e promised p above (subst (λ k. k < e) promise more));
   forming = λ empty some. subst (λ e. Unused n e ms) (sym session) (h.within p above);
   member = λ e q is more. absurd (none_some e (sym seat ∙ is));
+  requested = λ e q is more. absurd (none_some e (sym seat ∙ is));
   quiet = subst (AllByRecursion (IsQuiet c)) (sym waiting) tt;
   hand = subst (λ o. HandIn S c ms (session_of y) o) (sym none) tt;
 }
@@ -129,6 +142,7 @@ enters S c n ms promised x y s at forms seat session promise waiting some hand h
       within = λ e above. h.within e (subst (λ k. k < e) (promise ∙ sym at) above);
       forming = λ none more. absurd (none_some s.session (sym none ∙ seat));
       member = λ e q is above. subst (λ f. asked_as n q f ms ≡ false) (same_some s.session e (sym seat ∙ is)) (unused.asked q);
+      requested = λ e q is above. subst (λ f. requested_as n q f ms ≡ false) (same_some s.session e (sym seat ∙ is)) (unused.requested q);
       quiet = subst (AllByRecursion (IsQuiet c)) (sym waiting) h.quiet;
       hand = subst (λ e. HandIn S c ms e y.presidency) (sym session) (hand unused);
     }
@@ -210,6 +224,7 @@ within_begun c n told promised x (Proposes s p text) ms may bound within e above
     let u : Unused n e ms = within e above in
     record {
       asked = u.asked;
+      requested = u.requested;
       proposed = λ own w. no_more ((s.session == e) && same_words text w) (proposals e w ms)
           (no_and (s.session == e) (same_words text w) (other_session s.session (promised_of x) e low (subst (λ k. k < e) bound.promise above))) ∙ u.proposed own w;
     }
@@ -234,6 +249,7 @@ up_proposes S c n told i v promised x s p text ms may hand bound held_so =
       within = λ e above. within_begun c n told promised x change ms may bound held_so.within e (subst (λ k. k < e) (with_promise x t refl ∙ sym bound.promise) above);
       forming = λ none some. absurd (none_some s.session (sym none ∙ (seat ∙ ap membership_in may.1)));
       member = λ e q is above. held_so.member e q (sym seat ∙ is) above;
+      requested = λ e q is above. held_so.requested e q (sym seat ∙ is) above;
       quiet = held_so.quiet;
       hand = subst (λ e. HandIn S c (begun ms change) e y.presidency) (sym (session ∙ here))
           (hand_proposes S c s.session (length (texts_of s.saved.entries) + 1) (next_place x) (others_of n x) text ms p.proposals (takes_first c n told i v x s p text may hand) old);

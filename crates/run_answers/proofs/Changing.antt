@@ -39,7 +39,7 @@ use Rattle.run_answers.specs.Guards.{ChangeHand}
 use Rattle.run_answers.specs.Steps.{Frame, Hand, HandIn, ToldSo, UpSo}
 use Rattle.run_answers.proofs.Acts.{CameHand, Holding, came_frame, cause_backed, up_stays}
 use Rattle.run_answers.proofs.Changes.{Bound, begun, takes_first, up_changes, up_proposes}
-use Rattle.run_answers.proofs.Frames.{passing_frame}
+use Rattle.run_answers.proofs.Frames.{passing_mute}
 use Rattle.run_answers.proofs.Moves.{asked_for, cause_stays}
 use Rattle.run_answers.proofs.Saying.{AllSay, passing_told}
 use Rattle.run_answers.proofs.Waiting.{ReadsUpdates}
@@ -111,7 +111,7 @@ silent_begun ms (Acks s p q left text) silent = refl
 silent_begun ms (Prepares s text) silent = refl
 silent_begun ms (Commits s) silent = refl
 
-mutes_say : (S : Setting) (c : Cluster) (n : ℕ) (ms : List Moment) (os : List Output) → AreMute os → AllSay S c n ms os
+mutes_say : (S : Setting) (c : Cluster) (n : ℕ) (ms : List Moment) (os : List Output) → AreMute os → AllSay S c n None 0 ms os
 mutes_say S c n ms [] h = tt
 mutes_say S c n ms (Tells e ∷ os) h = (tt, mutes_say S c n ms os h.1)
 mutes_say S c n ms (Sends to b ∷ os) h = absurd h.0
@@ -128,10 +128,11 @@ passed S c n change rest s plain mute good = by (silent_or change)
     by (inl silent) =
         let os : List Output = first_lines n change ++ rest in
         let all : ArePlain os = both IsPlainOutput (first_lines n change) rest (first_plain n change silent) plain in
+        let still : AreMute os = both IsMute (first_lines n change) rest (first_mute n change) mute in
         let same : begun s.moments change ≡ s.moments = silent_begun s.moments change silent in
         record {
-          frame = subst (λ ms. Frame S n ms (passing n os s).moments) (sym same) (passing_frame S n n os s (plains_apart n os all));
-          told = λ h. passing_told S c n os s good all (mutes_say S c n s.moments os (both IsMute (first_lines n change) rest (first_mute n change) mute)) (subst (ToldSo S c) same h);
+          frame = subst (λ ms. Frame S n ms (passing n os s).moments) (sym same) (passing_mute S n n os s still (plains_apart n os all));
+          told = λ h. passing_told S c n None 0 os s good all (mutes_say S c n s.moments os still) (subst (ToldSo S c) same h);
         }
     by (inr k) =
         subst (λ (y : Change). Passed S c n y rest s) (sym k.is) (proposed k.state k.presidency k.text (subst (λ (y : Change). AreGood n (first_lines n y ++ rest)) k.is good))
@@ -139,7 +140,7 @@ passed S c n change rest s plain mute good = by (silent_or change)
         proposed : (state : NodeState) (p : Presidency) (text : List ℕ) → AreGood n (first_lines n (Proposes state p text) ++ rest) → Passed S c n (Proposes state p text) rest s
         proposed state p text fine =
             let t : Scene = record s { moments = begun s.moments (Proposes state p text) } in
-            record { frame = passing_frame S n n rest t (plains_apart n rest plain); told = λ h. passing_told S c n rest t fine.1 plain (mutes_say S c n t.moments rest mute) h }
+            record { frame = passing_mute S n n rest t mute (plains_apart n rest plain); told = λ h. passing_told S c n None 0 rest t fine.1 plain (mutes_say S c n t.moments rest mute) h }
 
 -- the law at the line of a proposal
 pub told_begun : (S : Setting) (c : Cluster) (n : ℕ) (told : Delivered) (i : Input) (v : Option ℕ) (promised : ℕ) (x : UpNode) (change : Change) (ms : List Moment) → MayChange c n told x change → ChangeHand c i n v x change

@@ -13,7 +13,6 @@ use Rattle.request_queue.specs.Queue.{next_number, with_number}
 use Rattle.status_report.specs.declared.command_entry.CommandEntry.TheVariants as command
 use Rattle.status_report.specs.declared.entry.Entry.TheVariants as entry
 use Rattle.update_words.specs.Words.{ask_words_of}
-use Rattle.history.specs.Contents.{CarriedUpdates}
 use Rattle.history.specs.Member.{member_of}
 use Rattle.history.specs.Moment.{Moment, Told}
 use Rattle.history.specs.Seizing.{is_number}
@@ -41,6 +40,7 @@ use Rattle.run_history.specs.Scenes.{Scene, passing}
 use Rattle.run_messages.specs.Laws.{membership_in}
 use Rattle.run_messages.proofs.Doings.{first_good}
 use Rattle.run_requests.specs.Guards.{ActAsk, Command, GoesAsk}
+use Rattle.run_requests.specs.Steps.{CarriedSo}
 use Rattle.run_requests.proofs.Acting.{Ready, ready_act}
 use Rattle.run_requests.proofs.Acts.{NoMakes}
 use Rattle.run_requests.proofs.Causes.{ReadsAnswers}
@@ -52,7 +52,7 @@ use Rattle.run_answers.specs.Askings.{asked_as}
 use Rattle.run_answers.specs.Guards.{ActHand, GoesHand}
 use Rattle.run_answers.specs.Steps.{Unused}
 use Rattle.run_answers.proofs.Acts.{Holding, act_holds}
-use Rattle.run_answers.proofs.Changes.{Bound}
+use Rattle.run_answers.proofs.Changes.{Bound, within_bound}
 use Rattle.run_answers.proofs.Courses as hands
 use Rattle.run_answers.proofs.Frames.{hand_more}
 use Rattle.run_answers.proofs.Requests.{requests_grow}
@@ -82,7 +82,7 @@ pub hold_act : (S : Setting) (c : Cluster) (n : ℕ) (i : Input) (v : Option ℕ
     → Holding S c n i v disk.promised (acted c n x a) (passing n (said c n x a) s).moments
 hold_act S c n i v o h x disk a ds s reads range nm r ask hand b k =
     act_holds S c n (delivered_by i) i v o h disk.promised x a s reads.updates range nm r.may.0 r.small.0 ask hand (first_good n (said c n x a) (given_all c n (site (Up (acted c n x a)) disk) ds) r.good)
-    (before_of S c r.machine n i o h x.requests.asked x disk s r.tied b) k
+    (within_bound disk.promised x (bound_of c r.machine n x disk r.holds r.tied)) (before_of S c r.machine n i o h x.requests.asked x disk s r.tied b) k
 
 -- ---- a command
 
@@ -121,6 +121,7 @@ other_member e (Some f) h = h f refl
 unused_asked : (n q e : ℕ) (ms : List Moment) → is_number e (member_of n ms) ≡ false → Unused n e ms → Unused n e (asked_line n q ∷ ms)
 unused_asked n q e ms other h = record {
   asked = λ r. no_or (((n == n) && (q == r)) && is_number e (member_of n ms)) (asked_as n r e ms) (no_right ((n == n) && (q == r)) (is_number e (member_of n ms)) other) ∙ h.asked r;
+  requested = h.requested;
   proposed = h.proposed;
 }
 
@@ -132,7 +133,7 @@ seat_session x f is = by x.seat refl is
     by (Member s) same at = sym (same_some s.session f at) ∙ sym (ap (λ (z : Seat). session_of (record x { seat = z })) same)
 
 -- the command has its line, and its number
-numbered_holds : (S : Setting) (c : Cluster) (n : ℕ) (words : List ℕ) (promised : ℕ) (x : UpNode) (ms : List Moment) → next_number x.requests ≡ x.requests.asked + 1 → member_of n ms ≡ membership_in x.seat → Bound promised x
+pub numbered_holds : (S : Setting) (c : Cluster) (n : ℕ) (words : List ℕ) (promised : ℕ) (x : UpNode) (ms : List Moment) → next_number x.requests ≡ x.requests.asked + 1 → member_of n ms ≡ membership_in x.seat → Bound promised x
     → Holding S c n (input.Commanded words) (membership_in x.seat) promised x ms
     → Holding S c n (input.Commanded words) (membership_in x.seat) promised (numbered x) (asked_line n (next_number x.requests) ∷ ms)
 numbered_holds S c n words promised x ms is seated bound k =
@@ -145,16 +146,21 @@ numbered_holds S c n words promised x ms is seated bound k =
         forming = λ none some. unused_asked n q (session_of x) ms (ap (λ z. is_number (session_of x) z) (seated ∙ none)) (k.up.forming none some);
         member = λ e r at above. no_or (((n == n) && (q == r)) && is_number e (member_of n ms)) (asked_as n r e ms)
             (no_left ((n == n) && (q == r)) (is_number e (member_of n ms)) (no_right (n == n) (q == r) (not_above q r above))) ∙ k.up.member e r at (less_next x.requests.asked q r is above);
+        requested = λ e r at above. k.up.requested e r at (less_next x.requests.asked q r is above);
         quiet = k.up.quiet;
         hand = hand_more S c (session_of x) ms after x.presidency (λ T. requests_grow S T (session_of x) (asked_line n q) ms) (λ so w. refl) k.up.hand;
       };
-      told = record { once = (λ e at. k.up.member e q (sym seated ∙ at) (next_less x.requests.asked q is), k.told.once); letters = (tt, k.told.letters); asked = (tt, k.told.asked) };
+      told = record {
+        once = (λ e at. (k.up.member e q (sym seated ∙ at) (next_less x.requests.asked q is), k.up.requested e q (sym seated ∙ at) (next_less x.requests.asked q is)), k.told.once);
+        letters = (tt, k.told.letters);
+        asked = (tt, k.told.asked);
+      };
       came = tt;
     }
 
 pub command_left : (S : Setting) (c : Cluster) (n : ℕ) (replies : List Reply) (x : UpNode) (disk : NodeRecord) (words : List ℕ) (s : Scene) → Reads c S → (1 ≤ n) × (n ≤ 32) → All IsDevice c.attached
     → Ready c n None x disk (under replies (cuts.command_course c n x words)) s → x.requests.asked < 2 ^ 64 - 1 → slice_get s.moments 0 ≡ Some (gives_line n words) → leaving.UpSo S n x.requests.asked x s.moments
-    → CarriedUpdates S s.moments → Holding S c n (input.Commanded words) (membership_in x.seat) disk.promised x s.moments
+    → CarriedSo S s.moments → Holding S c n (input.Commanded words) (membership_in x.seat) disk.promised x s.moments
     → Left S c n (after_all c n (site (Up x) disk) (under replies (cuts.command_course c n x words))).disk.promised (after_all c n (site (Up x) disk) (under replies (cuts.command_course c n x words))).node
     (given_all c n (site (Up x) disk) (under replies (cuts.command_course c n x words))) s
 command_left S c n replies x disk words s reads range fits r room first known carried k =

@@ -8,7 +8,6 @@ use Rattle.machine_base.specs.Put.{put}
 use Rattle.machine_base.proofs.Puts.{put_here, put_there, same_or_not}
 use Rattle.membership_machine.specs.Invariant.{Holds}
 use Rattle.membership_machine.specs.State.{Memberships}
-use Rattle.history.specs.Contents.{CarriedUpdates}
 use Rattle.history.specs.Member.{in_collect}
 use Rattle.history.specs.Moment.{Moment, lines_of}
 use Rattle.history.specs.Setting.{Setting}
@@ -39,6 +38,7 @@ use Rattle.run_messages.proofs.Runs.{Knows}
 use Rattle.run_messages.specs.Laws.{IsSeated, membership_in}
 use Rattle.run_messages.specs.Outputs.{AreGood}
 use Rattle.run_messages.specs.Steps.{collecting}
+use Rattle.run_requests.specs.Steps.{CarriedSo}
 use Rattle.run_requests.proofs.Causes.{CameSo, president_at}
 use Rattle.run_requests.proofs.Kept.{NodeFits, step_leaves}
 use Rattle.run_requests.proofs.Reports.{Stepped}
@@ -77,7 +77,7 @@ moment_keeps S c v before after k f told h =
 step_by : (S : Setting) (c : Cluster) (n now : ℕ) (ends : method.Outcome) (i : Input) (replies : List Reply) (node : Node) (disk : NodeRecord) (M : Memberships) (s : Scene) → Reads c S → (1 ≤ n) × (n ≤ 32)
     → All IsDevice c.attached → Holds (setting_of c) M → Known M (delivered_by i) → Stands c M n node disk → in_collect n s.moments ≡ collecting (delivered_by i)
     → AreGood n (given_all c n (site node disk) (doings c n now ends replies i node)) → IsSeated s.moments n node → IsSaid s.moments n i → CameSo i n s.moments → length (lines_of s.moments) < 2 ^ 63
-    → NodeFits S n s.moments node → CarriedUpdates S s.moments → CameAt S c n i s.moments node → NodeSo S c n s.moments disk.promised node → ToldSo S c s.moments
+    → NodeFits S n s.moments node → CarriedSo S s.moments → CameAt S c n i s.moments node → NodeSo S c n s.moments disk.promised node → ToldSo S c s.moments
     → Left S c n (after_all c n (site node disk) (doings c n now ends replies i node)).disk.promised (after_all c n (site node disk) (doings c n now ends replies i node)).node
     (given_all c n (site node disk) (doings c n now ends replies i node)) s
 step_by S c n now ends i replies Down disk M s reads range fits holds known stands at good seated said came few fit carried hand own told = down_left S c n i replies disk s own told
@@ -99,7 +99,7 @@ step_by S c n now ends i replies (Up x) disk M s reads range fits holds known st
 
 step_left : (S : Setting) (c : Cluster) (v : Nodes) (n now : ℕ) (ends : method.Outcome) (i : Input) (s : Scene) → Reads c S → (1 ≤ n) × (n ≤ 32) → All IsDevice c.attached → (k : Knows c v) → Known k.machine (delivered_by i)
     → in_collect n s.moments ≡ collecting (delivered_by i) → AreGood n (given_by c n now ends i v) → IsSeated s.moments n (v.node n) → IsSaid s.moments n i → CameSo i n s.moments → length (lines_of s.moments) < 2 ^ 63
-    → NodeFits S n s.moments (v.node n) → CarriedUpdates S s.moments → CameAt S c n i s.moments (v.node n) → NodeSo S c n s.moments (v.disk n).kept.promised (v.node n) → ToldSo S c s.moments
+    → NodeFits S n s.moments (v.node n) → CarriedSo S s.moments → CameAt S c n i s.moments (v.node n) → NodeSo S c n s.moments (v.disk n).kept.promised (v.node n) → ToldSo S c s.moments
     → (let o : Outcome DiskState = stepped disk_rules c n now ends (v.node n) (v.disk n) i in Left S c n o.disk.kept.promised o.after o.given s)
 step_left S c v n now ends i s reads range fits k known at good seated said came few fit carried hand own told =
     let o : Outcome DiskState = stepped disk_rules c n now ends (v.node n) (v.disk n) i in
@@ -110,7 +110,7 @@ step_left S c v n now ends i s reads range fits k known at good seated said came
     step_by S c n now ends i cut.replies (v.node n) (v.disk n).kept k.machine s reads range fits k.holds known (k.stands n) at (subst (AreGood n) (sym cut.comes.given) good) seated said came few fit carried hand own told in
     subst (λ (z : Site). Left S c n z.disk.promised z.node o.given s) cut.comes.left (subst (λ os. Left S c n (after_all c n x ds).disk.promised (after_all c n x ds).node os s) cut.comes.given g)
 
-put_both : (P : ℕ → DiskState → Node → Type 0) (f : ℕ → Node) (g : ℕ → DiskState) (n : ℕ) (x : Node) (d : DiskState) → P n d x → ((k : ℕ) → k ≢ n → P k (g k) (f k)) → (k : ℕ) → P k (put g n d k) (put f n x k)
+pub put_both : (P : ℕ → DiskState → Node → Type 0) (f : ℕ → Node) (g : ℕ → DiskState) (n : ℕ) (x : Node) (d : DiskState) → P n d x → ((k : ℕ) → k ≢ n → P k (g k) (f k)) → (k : ℕ) → P k (put g n d k) (put f n x k)
 put_both P f g n x d here others k = go (same_or_not k n)
   where
     go : (k ≡ n) ⊎ (k ≢ n) → P k (put g n d k) (put f n x k)
@@ -120,7 +120,7 @@ put_both P f g n x d here others k = go (same_or_not k n)
 
 pub taking_keeps : (S : Setting) (c : Cluster) (s : Scene) (n now : ℕ) (ends : method.Outcome) (i : Input) → Reads c S → (1 ≤ n) × (n ≤ 32) → All IsDevice c.attached → (k : Knows c s.nodes) → Known k.machine (delivered_by i)
     → in_collect n s.moments ≡ collecting (delivered_by i) → AreGood n (given_by c n now ends i s.nodes) → IsSeated s.moments n (s.nodes.node n) → IsSaid s.moments n i → CameSo i n s.moments
-    → length (lines_of s.moments) < 2 ^ 63 → NodeFits S n s.moments (s.nodes.node n) → CarriedUpdates S s.moments → CameAt S c n i s.moments (s.nodes.node n) → KeepsIn S c s → KeepsIn S c (taking c n now ends i s)
+    → length (lines_of s.moments) < 2 ^ 63 → NodeFits S n s.moments (s.nodes.node n) → CarriedSo S s.moments → CameAt S c n i s.moments (s.nodes.node n) → KeepsIn S c s → KeepsIn S c (taking c n now ends i s)
 taking_keeps S c s n now ends i reads range fits k known at good seated said came few fit carried hand h =
     let v : Nodes = moved c s.nodes (Takes_in n now ends i) in
     let t : Scene = record s { nodes = v } in
@@ -131,6 +131,6 @@ taking_keeps S c s n now ends i reads range fits k known at good seated said cam
     step_leaves S c s.nodes n now ends i t (record { answers = reads.answers; requests = reads.requests }) range.1 fits k known at good seated said came few fit carried in
     subst (λ w. Keeps S c w end.moments) (sym (passing_nodes n o.given t)) (record {
       nodes = put_both (λ j d node. NodeSo S c j end.moments d.kept.promised node) s.nodes.node s.nodes.disk n o.after o.disk g.own
-          (λ j ne. node_stays S c k.machine j (s.nodes.disk j).kept.promised (s.nodes.disk j).kept (s.nodes.node j) s.moments end.moments (k.stands j).tied (passing_frame S j n o.given t (others.left.apart j ne)) (h.nodes j));
+          (λ j ne. node_stays S c k.machine j (s.nodes.disk j).kept.promised (s.nodes.disk j).kept (s.nodes.node j) s.moments end.moments (k.stands j).tied (passing_frame S j n o.given t (λ is. ne (sym is)) (others.left.apart j ne)) (h.nodes j));
       told = g.told;
     })

@@ -1,5 +1,5 @@
 -- The setting of a header reads updates as its nodes do, and a monitor asks for none, so the law holds of it.
-use Rattle.std.specs.Prelude.{ℕ, ◌≡◌, ◌∷◌, ◌++◌, Bool, true, false, if◌then◌else◌, List, [], Some, Result, Ok, Err, codes}
+use Rattle.std.specs.Prelude.{ℕ, ◌≡◌, ◌<◌, ◌^◌, ◌∷◌, ◌++◌, Bool, true, false, if◌then◌else◌, List, [], length, Some, Result, Ok, Err, codes}
 use Rattle.std.specs.Str.{bytes_eq}
 use Rattle.std.proofs.Common.{refl, sym, ap, subst, ◌∙◌}
 use Rattle.admin_words.specs.Answers.{Spelled}
@@ -19,13 +19,16 @@ use Rattle.restart_policy.specs.declared.policy.ProbeAction.{ProbeAction}
 use Rattle.restart_policy.specs.declared.policy.ProbeAction.TheVariants as action
 use Rattle.rg_props.specs.Words.{parts_at}
 use Rattle.update_words.specs.Words.{ask_words_of, words_of}
+use Rattle.history.specs.Moment.{lines_of}
+use Rattle.history_setting.specs.Laws.{OfEachRunIn}
 use Rattle.history_setting.specs.Settings.{canonical_in, canonical_words, setting_of}
 use Rattle.history_setting.proofs.Canonical.{canonical_words_are_read}
 use Rattle.node_model.specs.Groups.{asked_by}
 use Rattle.world_model.specs.First.{first_cluster}
 use Rattle.run_requests.proofs.Laws as requests
+use Rattle.run_answers.specs.Askings.{AskedOnce}
 use Rattle.run_answers.specs.Laws.{AskedOfEachRun}
-use Rattle.run_answers.proofs.Runs.{asked_in_each}
+use Rattle.run_answers.proofs.Runs.{asked_in_each, told_in_each}
 use Rattle.run_answers.proofs.Commands.{Reads}
 use Rattle.run_answers.proofs.Waiting.{ReadsUpdates}
 
@@ -92,3 +95,7 @@ reads h = record { answers = (requests.reads h).answers; requests = (requests.re
 
 pub asked_of_each_run : AskedOfEachRun
 asked_of_each_run h cells hs few small may lines = asked_in_each (setting_of h) h cells hs (reads h) (record { few = few; small = small }) may lines
+
+-- .. on the way: a member asks by a number once, before it sends a Request with it
+pub asked_once_in_each_run : OfEachRunIn (λ S moments. length (lines_of moments) < 2 ^ 63 → AskedOnce moments)
+asked_once_in_each_run h cells hs few small may lines = (told_in_each (setting_of h) h cells hs (reads h) (record { few = few; small = small }) may lines).once

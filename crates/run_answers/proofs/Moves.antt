@@ -1,5 +1,5 @@
 -- A president's hand goes on, and an update is proposed.
-use Rattle.std.specs.Prelude.{ℕ, ◌+◌, ◌≡◌, ◌≤◌, ◌<◌, ◌==◌, ◌&&◌, Bool, true, false, cond, List, [], ◌∷◌, None, Some, Ok}
+use Rattle.std.specs.Prelude.{ℕ, ◌+◌, ◌≡◌, ◌≤◌, ◌<◌, ◌==◌, ◌&&◌, Bool, true, false, cond, List, [], ◌∷◌, Option, None, Some, Ok}
 use Rattle.std.specs.List.{count_by}
 use Rattle.std.proofs.Common.{refl, sym, ap, subst, ◌∙◌, arith}
 use Rattle.admin_words.specs.Commands.{request_of}
@@ -17,7 +17,7 @@ use Rattle.node_model.specs.declared.cluster.Cluster.{Cluster}
 use Rattle.node_model.specs.Seats.{version_of}
 use Rattle.run_answers.specs.Askings.{held, is_it, passes_test, proposals}
 use Rattle.run_answers.specs.Hands.{HandGoes, is_past}
-use Rattle.run_answers.specs.Steps.{Backed, Frame, Hand, past_with}
+use Rattle.run_answers.specs.Steps.{Backed, FrameOf, Hand, past_with}
 use Rattle.run_answers.proofs.Askings.{is_equal, is_same, true_two, two_true}
 use Rattle.run_answers.proofs.Frames.{backed_stays, count_proposals}
 use Rattle.run_answers.proofs.Hands.{InRange, first_of, first_taken, first_waits, goes_all, goes_past, goes_sound, proposing_past, proposing_sound}
@@ -29,7 +29,7 @@ pub record Cause (S : Setting) (c : Cluster) (e : ℕ) (ms : List Moment) (a : A
   pub backed : Backed S c e ms a.from a.number a.text
   pub range : InRange a
 
-pub cause_stays : (S : Setting) (c : Cluster) (k e : ℕ) (before after : List Moment) (a : Arrived) → Frame S k before after → Cause S c e before a → Cause S c e after a
+pub cause_stays : {v : Option ℕ} {last : ℕ} (S : Setting) (c : Cluster) (k e : ℕ) (before after : List Moment) (a : Arrived) → FrameOf S k v last before after → Cause S c e before a → Cause S c e after a
 cause_stays S c k e before after a f h = record { backed = backed_stays S c k e before after a.from a.number a.text f h.backed; range = h.range }
 
 pub hand_goes : (S : Setting) (c : Cluster) (e : ℕ) (ms : List Moment) (C : Arrived → Type 0) (s t : State) → ((a : Arrived) → C a → Cause S c e ms a) → HandGoes C s t → Hand S c ms e s → Hand S c ms e t

@@ -48,13 +48,14 @@ use Rattle.run_answers.proofs.Commands.{Reads, hold_act, less_next, walked}
 -- ---- a monitor's report
 
 -- what a monitor asks waits with the next number
-asked_holds : (S : Setting) (c : Cluster) (n : ℕ) (i : Input) (v : Option ℕ) (promised : ℕ) (x : UpNode) (ask : Ask) (ms : List Moment) → next_number x.requests ≡ x.requests.asked + 1
+pub asked_holds : (S : Setting) (c : Cluster) (n : ℕ) (i : Input) (v : Option ℕ) (promised : ℕ) (x : UpNode) (ask : Ask) (ms : List Moment) → next_number x.requests ≡ x.requests.asked + 1
     → ((u : Update) → request_of (version_of c) (ask_words_of ask) ≡ Ok (wish.Change u) → ⊥) → Holding S c n i v promised x ms → Holding S c n i v promised (monitor_asked x ask) ms
 asked_holds S c n i v promised x ask ms is calm k = record {
   up = record {
     within = k.up.within;
     forming = k.up.forming;
     member = λ e r at above. k.up.member e r at (less_next x.requests.asked (next_number x.requests) r is above);
+    requested = λ e r at above. k.up.requested e r at (less_next x.requests.asked (next_number x.requests) r is above);
     quiet = all_and (IsQuiet c) x.requests.waiting (record { number = next_number x.requests; text = ask_words_of ask; told = false; second = x.second }) k.up.quiet (λ untold. calm);
     hand = k.up.hand;
   };

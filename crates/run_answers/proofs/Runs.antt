@@ -71,20 +71,20 @@ use Rattle.run_answers.proofs.Commands.{Reads}
 
 -- ---- a packet comes to a node
 
-sender_fits : (from : ℕ) (b : Body) (ls : List Sent) → IsAmong from b ls → AllByRecursion LetterFits ls → IsSender from
+pub sender_fits : (from : ℕ) (b : Body) (ls : List Sent) → IsAmong from b ls → AllByRecursion LetterFits ls → IsSender from
 sender_fits from b [] h all = absurd h
 sender_fits from b (l ∷ ls) (inl e) all = subst IsSender e.0 all.0.0
 sender_fits from b (l ∷ ls) (inr h) all = sender_fits from b ls h all.1
 
 -- the letter in which it came is of its sender
-record Brought (ms : List Moment) (number : ℕ) (x : Packet) (m : Message) : Type 0 where
-  letter : Letter
-  at : letter_of number ms ≡ Some letter
-  sender : letter.from ≡ x.from
-  called : letter.name ≡ named (name_of m.body)
-  says_so : says letter.bytes ≡ Some m.body
+pub record Brought (ms : List Moment) (number : ℕ) (x : Packet) (m : Message) : Type 0 where
+  pub letter : Letter
+  pub at : letter_of number ms ≡ Some letter
+  pub sender : letter.from ≡ x.from
+  pub called : letter.name ≡ named (name_of m.body)
+  pub says_so : says letter.bytes ≡ Some m.body
 
-brought : (c : Cluster) (s : Scene) (number : ℕ) (x : Packet) (m : Message) → packet_of s.links.packets number ≡ Some x → whole_of x.bytes ≡ Some m → Stage c s → ArrivedSo (delivered number x.from x.to ∷ s.moments) x.to x.from m
+pub brought : (c : Cluster) (s : Scene) (number : ℕ) (x : Packet) (m : Message) → packet_of s.links.packets number ≡ Some x → whole_of x.bytes ≡ Some m → Stage c s → ArrivedSo (delivered number x.from x.to ∷ s.moments) x.to x.from m
     → Brought s.moments number x m
 brought c s number x m is whole b came =
     let found : Posted s.moments s.links.next x = all_found (Posted s.moments s.links.next) (λ (p : Packet). p.number == number) s.links.packets x b.flying is in
@@ -98,22 +98,22 @@ request_backed S c s number x m e q text b told says_it member own u read =
     (other_comes S e number x.from x.to q (words_of u) b.letter s.moments told.once (sym own) member b.at (b.called ∙ ap (λ z. named (name_of z)) says_it)
     ((letter_is (LetterSo S c) number b.letter s.moments told.letters b.at) e q text u (b.says_so ∙ ap (λ z. Some z) says_it) read))
 
-came_hand : (S : Setting) (c : Cluster) (s : Scene) (number : ℕ) (x : Packet) (m : Message) (node : Node) → Brought s.moments number x m → IsSender x.from → ToldSo S c s.moments → member_of x.to s.moments ≡ membership_at node
+pub came_hand : (S : Setting) (c : Cluster) (s : Scene) (number : ℕ) (x : Packet) (m : Message) (node : Node) → Brought s.moments number x m → IsSender x.from → ToldSo S c s.moments → member_of x.to s.moments ≡ membership_at node
     → CameAt S c x.to (input.Packet x.from m) (delivered number x.from x.to ∷ s.moments) node
 came_hand S c s number x m Down b fits told seated = tt
 came_hand S c s number x m (Up y) b fits told seated = (fits, λ e q text says_it at own. request_backed S c s number x m e q text b told says_it (seated ∙ at) own)
 
-plain_hand : (S : Setting) (c : Cluster) (n : ℕ) (i : Input) (ms : List Moment) (node : Node) → IsPlain i → CameAt S c n i ms node
+pub plain_hand : (S : Setting) (c : Cluster) (n : ℕ) (i : Input) (ms : List Moment) (node : Node) → IsPlain i → CameAt S c n i ms node
 plain_hand S c n i ms Down plain = tt
 plain_hand S c n (input.Packet from m) ms (Up x) plain = absurd plain
 plain_hand S c n _ ms (Up x) plain = tt
 
 -- no packet
-abbrev IsNoPacket : Input → Type 0
+abbrev pub IsNoPacket : Input → Type 0
 IsNoPacket (input.Packet from m) = ⊥
 IsNoPacket _ = Unit {0}
 
-answer_hand : (S : Setting) (c : Cluster) (n : ℕ) (i : Input) (ms : List Moment) (node : Node) → IsNoPacket i → CameAt S c n i ms node
+pub answer_hand : (S : Setting) (c : Cluster) (n : ℕ) (i : Input) (ms : List Moment) (node : Node) → IsNoPacket i → CameAt S c n i ms node
 answer_hand S c n i ms Down plain = tt
 answer_hand S c n (input.Packet from m) ms (Up x) plain = absurd plain
 answer_hand S c n _ ms (Up x) plain = tt
@@ -141,15 +141,15 @@ armed_keeps S c (event.CrashAt n calls choice) s h = record {
 }
 armed_keeps S c _ s h = h
 
-commanded_keeps : (S : Setting) (c : Cluster) (s : Scene) (n d : ℕ) (o : Option Device) (k : PrCommand) → KeepsIn S c s → KeepsIn S c (commanded_at s n d o k).scene
+pub commanded_keeps : (S : Setting) (c : Cluster) (s : Scene) (n d : ℕ) (o : Option Device) (k : PrCommand) → KeepsIn S c s → KeepsIn S c (commanded_at s n d o k).scene
 commanded_keeps S c s n d None k h = h
 commanded_keeps S c s n d (Some x) k h = record { nodes = h.nodes; told = h.told }
 
-commanded_carries : (S : Setting) (s : Scene) (n d : ℕ) (o : Option Device) (k : PrCommand) → CarriesIn S s → CarriesIn S (commanded_at s n d o k).scene
+pub commanded_carries : (S : Setting) (s : Scene) (n d : ℕ) (o : Option Device) (k : PrCommand) → CarriesIn S s → CarriesIn S (commanded_at s n d o k).scene
 commanded_carries S s n d None k h = h
 commanded_carries S s n d (Some x) k h = record { nodes = h.nodes; carried = h.carried; flying = h.flying }
 
-commanded_few : (s : Scene) (n d : ℕ) (o : Option Device) (k : PrCommand) → FewLines s.moments → FewLines (commanded_at s n d o k).scene.moments
+pub commanded_few : (s : Scene) (n d : ℕ) (o : Option Device) (k : PrCommand) → FewLines s.moments → FewLines (commanded_at s n d o k).scene.moments
 commanded_few s n d None k h = h
 commanded_few s n d (Some x) k h = h
 
@@ -180,22 +180,22 @@ happening_keeps S c s (Arrives number x m now ends) reads fits may before b seat
     taking_keeps S c t x.to now ends (input.Packet x.from m) reads may.3 fits k (told_among k.machine x.from m.body s.nodes.sent may.4 before.sent) (arrival_collects c s number x m may.0 may.1 before)
     (taking_good c t x.to now ends (input.Packet x.from m) b) (seated x.to) tt came few (after.nodes x.to) after.carried
     (came_hand S c s number x m (s.nodes.node x.to) (brought c s number x m may.0 may.1 before came) (sender_fits x.from m.body s.nodes.sent may.4 before.fits.sent) h.told (seated x.to))
-    (moment_keeps S c s.nodes s.moments t.moments k (λ j. packet_frame S j e s.moments) (record { once = (tt, h.told.once); letters = (tt, h.told.letters); asked = (tt, h.told.asked) }) h)
+    (moment_keeps S c s.nodes s.moments t.moments k (λ j. packet_frame S j e s.moments tt) (record { once = (tt, h.told.once); letters = (tt, h.told.letters); asked = (tt, h.told.asked) }) h)
 happening_keeps S c s (Strays number x) reads fits may before b seated few carries h =
     let e : PacketEntry = packet.Delivered number x.from x.to in
-    moment_keeps S c s.nodes s.moments (Told (entry.Packet e) ∷ s.moments) (knows c s before) (λ j. packet_frame S j e s.moments) (record { once = (tt, h.told.once); letters = (tt, h.told.letters); asked = (tt, h.told.asked) }) h
+    moment_keeps S c s.nodes s.moments (Told (entry.Packet e) ∷ s.moments) (knows c s before) (λ j. packet_frame S j e s.moments tt) (record { once = (tt, h.told.once); letters = (tt, h.told.letters); asked = (tt, h.told.asked) }) h
 happening_keeps S c s (Misses number x) reads fits may before b seated few carries h =
     let e : PacketEntry = packet.Dropped number drop.Down in
-    moment_keeps S c s.nodes s.moments (Told (entry.Packet e) ∷ s.moments) (knows c s before) (λ j. packet_frame S j e s.moments) (record { once = (tt, h.told.once); letters = (tt, h.told.letters); asked = (tt, h.told.asked) }) h
+    moment_keeps S c s.nodes s.moments (Told (entry.Packet e) ∷ s.moments) (knows c s before) (λ j. packet_frame S j e s.moments tt) (record { once = (tt, h.told.once); letters = (tt, h.told.letters); asked = (tt, h.told.asked) }) h
 happening_keeps S c s (Loses number x) reads fits may before b seated few carries h =
     let e : PacketEntry = packet.Lost number in
-    moment_keeps S c s.nodes s.moments (Told (entry.Packet e) ∷ s.moments) (knows c s before) (λ j. packet_frame S j e s.moments) (record { once = (tt, h.told.once); letters = (tt, h.told.letters); asked = (tt, h.told.asked) }) h
+    moment_keeps S c s.nodes s.moments (Told (entry.Packet e) ∷ s.moments) (knows c s before) (λ j. packet_frame S j e s.moments tt) (record { once = (tt, h.told.once); letters = (tt, h.told.letters); asked = (tt, h.told.asked) }) h
 happening_keeps S c s (Repeats number x) reads fits may before b seated few carries h =
     let o : links.Outcome = sending s.links x.from x.to x.bytes in
     let e : PacketEntry = packet.Repeated number s.links.next in
     let t : Scene = telling (entry.Packet e) (with_links s o.after) in
     dropped_keeps S c o.sent.dropped t (knows c s before)
-    (moment_keeps S c s.nodes s.moments t.moments (knows c s before) (λ j. packet_frame S j e s.moments) (record { once = (tt, h.told.once); letters = (tt, h.told.letters); asked = (tt, h.told.asked) }) h)
+    (moment_keeps S c s.nodes s.moments t.moments (knows c s before) (λ j. packet_frame S j e s.moments tt) (record { once = (tt, h.told.once); letters = (tt, h.told.letters); asked = (tt, h.told.asked) }) h)
 happening_keeps S c s (Commands n d k now ends) reads fits may before b seated few carries h =
     let o : Option Device = slice_get s.devices (d - 1) in
     let t : Scene = (commanded s n d k).scene in
@@ -218,23 +218,27 @@ happening_keeps S c s (Refuses n d value cause) reads fits may before b seated f
 
 -- ---- a run
 
-abbrev KeptSo : Setting → Cluster → Scene → Type 0
+abbrev pub KeptSo : Setting → Cluster → Scene → Type 0
 KeptSo S c s = FewLines s.moments → KeepsIn S c s
 
-first_keeps : (S : Setting) (h : Header) (cells : ℕ) → KeepsIn S (first_cluster h) (first_scene h cells)
+pub first_keeps : (S : Setting) (h : Header) (cells : ℕ) → KeepsIn S (first_cluster h) (first_scene h cells)
 unfolding first_scene
 first_keeps S h cells = record {
-  nodes = λ k e above. record { asked = λ q. refl; proposed = λ own w. refl };
+  nodes = λ k e above. record { asked = λ q. refl; requested = λ q. refl; proposed = λ own w. refl };
   told = record { once = tt; letters = tt; asked = tt };
 }
 
-keeps_kept : (S : Setting) (h : Header) (cells : ℕ) → Reads (first_cluster h) S → IsSmall h → (s : Scene) (x : Happening) → MayHappen (first_cluster h) s x → IsReached h cells s
+pub keeps_kept : (S : Setting) (h : Header) (cells : ℕ) → Reads (first_cluster h) S → IsSmall h → (s : Scene) (x : Happening) → MayHappen (first_cluster h) s x → IsReached h cells s
     → IsReached h cells (happened (first_cluster h) s x) → KeptSo S (first_cluster h) s → KeptSo S (first_cluster h) (happened (first_cluster h) s x)
 keeps_kept S h cells reads size s x may at more keeps few =
     let before : FewLines s.moments = few_before (first_cluster h) s x few in
     happening_keeps S (first_cluster h) s x reads (first_fit h size.few) may (stage_of h cells s size at) (stage_of h cells (happened (first_cluster h) s x) size more) (seats_of h cells s size at) before
     (carries_of S h cells s (record { answers = reads.answers; requests = reads.requests }) size at before) (keeps before)
 
+pub told_in_each : (S : Setting) (h : Header) (cells : ℕ) (hs : List Happening) → Reads (first_cluster h) S → IsSmall h → MayAllHappen (first_cluster h) (first_scene h cells) hs
+    → FewLines (all_happened (first_cluster h) (first_scene h cells) hs).moments → ToldSo S (first_cluster h) (all_happened (first_cluster h) (first_scene h cells) hs).moments
+told_in_each S h cells hs reads size may few = (holds_of_each h cells (KeptSo S (first_cluster h)) (keeps_kept S h cells reads size) (λ first. first_keeps S h cells) hs may few).told
+
 pub asked_in_each : (S : Setting) (h : Header) (cells : ℕ) (hs : List Happening) → Reads (first_cluster h) S → IsSmall h → MayAllHappen (first_cluster h) (first_scene h cells) hs
     → FewLines (all_happened (first_cluster h) (first_scene h cells) hs).moments → Asked S (all_happened (first_cluster h) (first_scene h cells) hs).moments
-asked_in_each S h cells hs reads size may few = (holds_of_each h cells (KeptSo S (first_cluster h)) (keeps_kept S h cells reads size) (λ first. first_keeps S h cells) hs may few).told.asked
+asked_in_each S h cells hs reads size may few = (told_in_each S h cells hs reads size may few).asked

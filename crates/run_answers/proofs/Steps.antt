@@ -10,7 +10,6 @@ use Rattle.status_report.specs.declared.entry.Entry.TheVariants as entry
 use Rattle.status_report.specs.declared.node_entry.DownCause.{DownCause}
 use Rattle.status_report.specs.declared.node_entry.DownCause.TheVariants as down
 use Rattle.status_report.specs.declared.node_entry.NodeEntry.TheVariants as note
-use Rattle.history.specs.Contents.{CarriedUpdates}
 use Rattle.history.specs.Moment.{Moment, Told}
 use Rattle.history.specs.Setting.{Setting}
 use Rattle.node_model.specs.Configurations.{own_config}
@@ -30,7 +29,7 @@ use Rattle.refinement.specs.Doings.Act.{Dates}
 use Rattle.run_history.specs.Happenings.{IsSaid}
 use Rattle.run_history.specs.Scenes.{Scene}
 use Rattle.run_messages.specs.Laws.{membership_in}
-use Rattle.run_requests.specs.Steps.{Counted}
+use Rattle.run_requests.specs.Steps.{CarriedSo, Counted}
 use Rattle.run_requests.proofs.Acting.{Ready, ready_act}
 use Rattle.run_requests.proofs.Boots.{at_first}
 use Rattle.run_requests.proofs.Causes.{CameSo}
@@ -40,7 +39,7 @@ use Rattle.run_requests.proofs.Leaving as leaving
 use Rattle.run_answers.specs.Steps.{ToldSo, Unused}
 use Rattle.run_answers.proofs.Acts.{Holding}
 use Rattle.run_answers.proofs.Courses as hands
-use Rattle.run_answers.proofs.Frames.{frame_then, passing_frame, up_frame, unused_stays}
+use Rattle.run_answers.proofs.Frames.{frame_then, passing_mute, up_frame, unused_stays}
 use Rattle.run_answers.proofs.Saying.{passing_told}
 use Rattle.run_answers.proofs.Walk.{Left}
 use Rattle.run_answers.proofs.Commands.{Reads, command_left, walked}
@@ -48,9 +47,9 @@ use Rattle.run_answers.proofs.Reports.{reporting_left}
 
 -- ---- a node that is up
 
-dated_holds : (S : Setting) (c : Cluster) (n now : ℕ) (i : Input) (v : Option ℕ) (promised : ℕ) (x : UpNode) (ms : List Moment) → Holding S c n i v promised x ms → Holding S c n i v promised (at_second now x) ms
+pub dated_holds : (S : Setting) (c : Cluster) (n now : ℕ) (i : Input) (v : Option ℕ) (promised : ℕ) (x : UpNode) (ms : List Moment) → Holding S c n i v promised x ms → Holding S c n i v promised (at_second now x) ms
 dated_holds S c n now i v promised x ms k = record {
-  up = record { within = k.up.within; forming = k.up.forming; member = k.up.member; quiet = k.up.quiet; hand = k.up.hand };
+  up = record { within = k.up.within; forming = k.up.forming; member = k.up.member; requested = k.up.requested; quiet = k.up.quiet; hand = k.up.hand };
   told = k.told;
   came = k.came;
 }
@@ -62,16 +61,16 @@ LeftBy S c n now ends replies x disk i s =
 
 plain_left : (S : Setting) (c : Cluster) (n now : ℕ) (ends : method.Outcome) (i : Input) (replies : List Reply) (x : UpNode) (disk : NodeRecord) (s : Scene) → Reads c S → (1 ≤ n) × (n ≤ 32) → All IsDevice c.attached
     → asks.IsNoCommand c n i None i → hands.IsNoCommand c n i (membership_in x.seat) i → Ready c n (delivered_by i) x disk (under replies (course_at c n now ends x i)) s → leaving.UpSo S n x.requests.asked x s.moments
-    → CarriedUpdates S s.moments → CameSo i n s.moments → Holding S c n i (membership_in x.seat) disk.promised x s.moments → LeftBy S c n now ends replies x disk i s
+    → CarriedSo S s.moments → CameSo i n s.moments → Holding S c n i (membership_in x.seat) disk.promised x s.moments → LeftBy S c n now ends replies x disk i s
 plain_left S c n now ends i replies x disk s reads range fits plain calm r known carried came k =
     walked S c n i (membership_in x.seat) None replies (course_at c n now ends x i) None x.requests.asked x disk s reads range fits r (asks.course_at_so c n i None now ends x i refl plain)
     (hands.course_at_so c n i (membership_in x.seat) now ends x i refl refl calm) (at_first S n i x s known carried came) k
 
-up_dated : (S : Setting) (n now : ℕ) (x : UpNode) (ms : List Moment) → leaving.UpSo S n x.requests.asked x ms → leaving.UpSo S n x.requests.asked (at_second now x) ms
+pub up_dated : (S : Setting) (n now : ℕ) (x : UpNode) (ms : List Moment) → leaving.UpSo S n x.requests.asked x ms → leaving.UpSo S n x.requests.asked (at_second now x) ms
 up_dated S n now x ms known = record { last_so = refl; queued = known.queued; pending = λ text so is. known.pending text so is }
 
 pub up_left : (S : Setting) (c : Cluster) (n now : ℕ) (ends : method.Outcome) (i : Input) (replies : List Reply) (x : UpNode) (disk : NodeRecord) (s : Scene) → Reads c S → (1 ≤ n) × (n ≤ 32) → All IsDevice c.attached
-    → IsSaid s.moments n i → Ready c n (delivered_by i) x disk (under replies (course_at c n now ends x i)) s → leaving.UpSo S n x.requests.asked x s.moments → CarriedUpdates S s.moments → CameSo i n s.moments
+    → IsSaid s.moments n i → Ready c n (delivered_by i) x disk (under replies (course_at c n now ends x i)) s → leaving.UpSo S n x.requests.asked x s.moments → CarriedSo S s.moments → CameSo i n s.moments
     → Counted x.requests.asked s.moments → Holding S c n i (membership_in x.seat) disk.promised x s.moments → LeftBy S c n now ends replies x disk i s
 up_left S c n now ends (input.Commanded words) replies x disk s reads range fits said r known carried came counted k =
     let y : UpNode = at_second now x in
@@ -108,8 +107,8 @@ boot_falls : (S : Setting) (c : Cluster) (n promised : ℕ) (why : DownCause) (s
     → Left S c n promised Down (of_node n note.Up ∷ gone_line n why) s
 boot_falls S c n promised why s within told = record {
   own = λ e above. unused_stays S n e s.moments _ (frame_then S n s.moments (Told (entry.Node n note.Up) ∷ s.moments) _ (up_frame S n n s.moments)
-      (passing_frame S n n (gone_line n why) (record s { moments = Told (entry.Node n note.Up) ∷ s.moments }) (tt, tt))) (within e above);
-  told = passing_told S c n (gone_line n why) (record s { moments = Told (entry.Node n note.Up) ∷ s.moments }) (tt, tt) (tt, tt) (tt, tt) (told_up S c n s.moments told);
+      (passing_mute S n n (gone_line n why) (record s { moments = Told (entry.Node n note.Up) ∷ s.moments }) (tt, tt) (tt, tt))) (within e above);
+  told = passing_told S c n None 0 (gone_line n why) (record s { moments = Told (entry.Node n note.Up) ∷ s.moments }) (tt, tt) (tt, tt) (tt, tt) (told_up S c n s.moments told);
 }
 
 booted : (S : Setting) (c : Cluster) (n : ℕ) (replies : List Reply) (disk : NodeRecord) (s : Scene) → ((e : ℕ) → disk.promised < e → Unused n e s.moments) → ToldSo S c s.moments
@@ -120,6 +119,7 @@ booted S c n (Done ∷ replies) disk s within told = record {
     within = λ e above. unused_stays S n e s.moments (Told (entry.Node n note.Up) ∷ s.moments) (up_frame S n n s.moments) (within e above);
     forming = λ none some. absurd (none_above some);
     member = λ e q at above. absurd (none_some e at);
+    requested = λ e q at above. absurd (none_some e at);
     quiet = tt;
     hand = tt;
   };

@@ -1,5 +1,5 @@
 -- A request that waits at a node was asked for in its membership, with its words, if it is an update's.
-use Rattle.std.specs.Prelude.{ℕ, ◌≡◌, Bool, true, false, List, [], ◌∷◌, Option, None, Some, Ok, option_map}
+use Rattle.std.specs.Prelude.{ℕ, ◌≡◌, ◌≤◌, Bool, true, false, List, [], ◌∷◌, Option, None, Some, Ok, option_map}
 use Rattle.std.specs.List.{AllByRecursion}
 use Rattle.std.specs.Option.{option_and_then}
 use Rattle.std.proofs.Common.{refl, sym, ap, subst, ◌∙◌, inl, inr}
@@ -87,3 +87,21 @@ oldest_says c S n e k text ms v q u reads at h quiet is read = by_list q.waiting
       where
         some_one : (x : Request) (xs : List Request) → x ∷ xs ≡ [] → ⊥
         some_one x xs z = cc
+
+-- .. where the node is a member, and the number is no more than the last
+pub oldest_goes : (S : Setting) (n e k : ℕ) (text : List ℕ) (ms : List Moment) (v : Option ℕ) (q : Queue) → ((f : ℕ) → v ≡ Some f → f ≡ e) → Queued S n ms v q → option_map pair_of (oldest q) ≡ Some (k, text)
+    → (v ≡ Some e) × (k ≤ q.asked)
+oldest_goes S n e k text ms v q at h is = by_list q.waiting h.waits h.none is
+  where
+    by_seat : (w : Option ℕ) → v ≡ w → (w ≡ None → ⊥) → v ≡ Some e
+    by_seat None same some = absurd (some refl)
+    by_seat (Some f) same some = same ∙ ap (λ g. Some g) (at f same)
+
+    by_list : (rs : List Request) → AllByRecursion (Waits S n ms v q.asked) rs → (v ≡ None → rs ≡ []) → option_map pair_of (queue.oldest_in rs) ≡ Some (k, text) → (v ≡ Some e) × (k ≤ q.asked)
+    by_list [] all none z = absurd (none_some (k, text) z)
+    by_list (r ∷ rs) all none z =
+        let same : pair_of r ≡ (k, text) = same_some (pair_of r) (k, text) z in
+        (by_seat v refl (λ no. some_one r rs (none no)), subst (λ j. j ≤ q.asked) (ap (λ (p : ℕ × List ℕ). p.0) same) all.0.number)
+      where
+        some_one : (x : Request) (xs : List Request) → x ∷ xs ≡ [] → ⊥
+        some_one x xs y = cc

@@ -1,5 +1,5 @@
 -- A course of a node that is up keeps what is known of requests, under all replies of its disk.
-use Rattle.std.specs.Prelude.{ℕ, ◌≡◌, ◌≤◌, ◌<◌, ◌⊎◌, ◌++◌, All, true, List, [], ◌∷◌, Option, Some, is_some}
+use Rattle.std.specs.Prelude.{ℕ, ◌≡◌, ◌≤◌, ◌<◌, ◌⊎◌, ◌++◌, All, true, List, [], ◌∷◌, Option, None, Some, is_some}
 use Rattle.std.proofs.Common.{refl, sym, ap, subst, ◌∙◌, arith, inl, inr}
 use Rattle.cmm_attempt.specs.Calls.{IsDevice}
 use Rattle.cmm_member.specs.Records.{NodeRecord}
@@ -46,8 +46,8 @@ use Rattle.run_requests.proofs.Walk.{Between, before_of, under_last}
 use Rattle.run_answers.specs.Guards.{ActHand, ChangeHand, GoesHand}
 use Rattle.run_answers.specs.Steps.{NodeSo, ToldSo, UpSo}
 use Rattle.run_answers.proofs.Acts.{Holding, act_holds}
-use Rattle.run_answers.proofs.Changes.{Bound, begun, promise_rises, within_begun}
-use Rattle.run_answers.proofs.Frames.{passing_frame, unused_stays}
+use Rattle.run_answers.proofs.Changes.{Bound, begun, promise_rises, within_begun, within_bound}
+use Rattle.run_answers.proofs.Frames.{passing_mute, unused_stays}
 use Rattle.run_answers.proofs.Saying.{passing_told}
 use Rattle.run_answers.proofs.Waiting.{ReadsUpdates}
 use Rattle.run_answers.proofs.Changing.{Passed, bound_of, change_holds, member_some, passed, told_begun}
@@ -97,7 +97,7 @@ act_after : (S : Setting) (c : Cluster) (n : ℕ) (told : Delivered) (i : Input)
 act_after S c n told i v o h promised x a s reads range may small ask hand good bound president some b k = by (makes_or a)
   where
     by : (NoMakes a ⊎ ((change : Change) × (a ≡ Makes change))) → After S c n i v promised x a s
-    by (inl nm) = record { holds = act_holds S c n told i v o h promised x a s reads range nm may small ask hand good b k }
+    by (inl nm) = record { holds = act_holds S c n told i v o h promised x a s reads range nm may small ask hand good (within_bound promised x bound) b k }
     by (inr it) =
         subst (λ (z : Act). After S c n i v promised x z s) (sym it.1)
         (made it.0 (subst (λ (z : Act). MayAct c n told x z) it.1 may) (subst (λ (z : Act). ActAsk n i o h x z) it.1 ask) (subst (λ (z : Act). ActHand c i n v x z) it.1 hand)
@@ -165,6 +165,6 @@ walk_left S c n i v o (Lost_old why ∷ replies) (Keeps change rest) M h last x 
 walk_left S c n i v o replies (Falls why) M h last x disk s exact reads range fits holds known tied may small calm at good seated goes hand b k =
     let os : List Output = gone_line n why in
     then_left S c n disk.promised Down os [] s (record {
-      own = λ e above. unused_stays S n e s.moments (passing n os s).moments (passing_frame S n n os s (tt, tt)) (k.up.within e above);
-      told = passing_told S c n os s (first_good n os [] good) (tt, tt) (tt, tt) k.told;
+      own = λ e above. unused_stays S n e s.moments (passing n os s).moments (passing_mute S n n os s (tt, tt) (tt, tt)) (k.up.within e above);
+      told = passing_told S c n None 0 os s (first_good n os [] good) (tt, tt) (tt, tt) k.told;
     })

@@ -1,6 +1,8 @@
--- Which commands a node asked as a member of a membership, and what is done in it.
+-- Which commands a node asked as a member of a membership, which Requests it sent of it, and what is done in it.
 use Rattle.std.specs.Prelude.{ℕ, ◌≡◌, ◌==◌, ◌&&◌, ◌||◌, Bool, false, if◌then◌else◌, List, [], ◌∷◌, Option, None, Some, cond, ◌+◌}
-use Rattle.history.specs.Letters.{Letter}
+use Rattle.wire.specs.declared.message.Body.{Body}
+use Rattle.wire.specs.declared.message.Body.TheVariants as body
+use Rattle.history.specs.Letters.{Letter, says}
 use Rattle.history.specs.Member.{member_of}
 use Rattle.history.specs.Moment.{Moment}
 use Rattle.history.specs.Names.{named}
@@ -22,9 +24,20 @@ text_asked S n q e [] = None
 text_asked S n q e (asked m r ∷ before) = if ((m == n) && (r == q)) && is_number e (member_of n before) then command_before S before else text_asked S n q e before
 text_asked S n q e (_ ∷ before) = text_asked S n q e before
 
--- a member asks by a number once
+-- whether it is a Request of e with this number
+abbrev pub is_request : ℕ → ℕ → Option Body → Bool
+is_request q e (Some (body.Request f r text)) = (f == e) && (r == q)
+is_request q e _ = false
+
+-- whether n sent a Request of e with this number
+abbrev pub requested_as : ℕ → ℕ → ℕ → List Moment → Bool
+requested_as n q e [] = false
+requested_as n q e (sent p m b called bytes ∷ before) = ((m == n) && is_request q e (says bytes)) || requested_as n q e before
+requested_as n q e (_ ∷ before) = requested_as n q e before
+
+-- a member asks by a number once, before it sends a Request with it
 abbrev pub IsFirst : List Moment → Moment → Type 0
-IsFirst before (asked n q) = (e : ℕ) → member_of n before ≡ Some e → asked_as n q e before ≡ false
+IsFirst before (asked n q) = (e : ℕ) → member_of n before ≡ Some e → (asked_as n q e before ≡ false) × (requested_as n q e before ≡ false)
 IsFirst before _ = Unit {0}
 
 abbrev pub AskedOnce : List Moment → Type 0

@@ -5,3 +5,6 @@ pub mod Askings
 pub mod Hands
 pub mod Guards
 pub mod Steps
+pub mod Requested
+pub mod Followed
+pub mod AnsweringGuards

@@ -19,14 +19,15 @@ use Rattle.node_model.specs.declared.node.UpNode.{UpNode}
 use Rattle.node_model.specs.declared.presidency.Presidency.{Presidency}
 use Rattle.node_model.specs.Seats.{session_of, version_of}
 use Rattle.run_messages.specs.Laws.{membership_in}
-use Rattle.run_answers.specs.Askings.{AskedOnce, LettersAre, Test, asked_as, held, is_it, proposals}
+use Rattle.run_answers.specs.Askings.{AskedOnce, LettersAre, Test, asked_as, held, is_it, proposals, requested_as}
 use Rattle.run_answers.specs.Hands.{Sound, is_past}
 
 -- ---- a membership, for a node
 
--- the node asked nothing as a member of it, and proposed nothing in it
+-- the node asked nothing as a member of it, sent no Request of it, and proposed nothing in it
 pub record Unused (k e : ℕ) (ms : List Moment) : Type 0 where
   pub asked : (q : ℕ) → asked_as k q e ms ≡ false
+  pub requested : (q : ℕ) → requested_as k q e ms ≡ false
   pub proposed : coordinator e ≡ k → (words : List ℕ) → proposals e words ms ≡ 0
 
 -- ---- a president
@@ -60,6 +61,7 @@ pub record UpSo (S : Setting) (c : Cluster) (k : ℕ) (ms : List Moment) (promis
   pub within : (e : ℕ) → promised < e → Unused k e ms
   pub forming : membership_in x.seat ≡ None → 0 < session_of x → Unused k (session_of x) ms
   pub member : (e q : ℕ) → membership_in x.seat ≡ Some e → x.requests.asked < q → asked_as k q e ms ≡ false
+  pub requested : (e q : ℕ) → membership_in x.seat ≡ Some e → x.requests.asked < q → requested_as k q e ms ≡ false
   pub quiet : AllByRecursion (IsQuiet c) x.requests.waiting
   pub hand : HandIn S c ms (session_of x) x.presidency
 
@@ -79,8 +81,14 @@ pub record ToldSo (S : Setting) (c : Cluster) (ms : List Moment) : Type 0 where
   pub letters : LettersAre (LetterSo S c) ms
   pub asked : Asked S ms
 
--- what moments leave of a node's memberships: it asks nothing and proposes nothing, and no request is lost
-pub record Frame (S : Setting) (k : ℕ) (before after : List Moment) : Type 0 where
+-- what moments leave of a node's memberships: it asks nothing and proposes nothing, no request is lost, and no Request is sent but of the
+-- membership v, with numbers up to the last
+pub record FrameOf (S : Setting) (k : ℕ) (v : Option ℕ) (last : ℕ) (before after : List Moment) : Type 0 where
   pub asked : (q e : ℕ) → asked_as k q e after ≡ asked_as k q e before
+  pub requested : (q e : ℕ) → (v ≡ Some e → last < q) → requested_as k q e after ≡ requested_as k q e before
   pub proposed : (e : ℕ) (words : List ℕ) → coordinator e ≡ k → proposals e words after ≡ proposals e words before
   pub grows : (T : Test) (e : ℕ) → held T (requests_of S e before) ≤ held T (requests_of S e after)
+
+-- .. and the node sends none
+abbrev pub Frame : Setting → ℕ → List Moment → List Moment → Type 0
+Frame S k before after = FrameOf S k None 0 before after

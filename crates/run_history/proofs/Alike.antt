@@ -31,7 +31,7 @@ use Rattle.interconnect.specs.Links.{Packet}
 use Rattle.refinement.specs.Worlds.{DeviceFits, PacketSent, Played, Shows}
 use Rattle.refinement.proofs.Worlds.{all_append, links_show, put_shows, run_more}
 
--- The world is that of a run, each node has its disk, and a node that is not in the world is down.
+-- The world is that of a run, each node has its disk, and a node that is not in the world is down; it has the nodes and the devices of the header.
 pub record Alike (c : Cluster) (v : Nodes) (w : WorldState) : Type 0 where
   pub moves : List Move
   pub run : Moves c (first_nodes c) moves v
@@ -40,13 +40,14 @@ pub record Alike (c : Cluster) (v : Nodes) (w : WorldState) : Type 0 where
   pub paired : length w.disks ≡ length w.nodes
   pub absent : (k : ℕ) → 1 ≤ k → slice_get w.nodes (k - 1) ≡ None → v.node k ≡ Down
   pub count : length w.devices ≡ length c.header.devices
+  pub placed : length w.nodes ≡ c.header.nodes
 
 pub played : (c : Cluster) (v : Nodes) (w : WorldState) → Alike c v w → Played c w
 played c v w h = record { moves = h.moves; nodes = v; run = h.run; in_time = h.in_time; shows = h.shows }
 
 pub alike_links : (c : Cluster) (v : Nodes) (w : WorldState) (l : Links) → AllByRecursion (PacketSent v.sent) l.packets → Alike c v w → Alike c v (record w { links = l })
 alike_links c v w l sent h =
-    record { moves = h.moves; run = h.run; in_time = h.in_time; shows = links_show c w v l h.shows sent; paired = h.paired; absent = h.absent; count = h.count }
+    record { moves = h.moves; run = h.run; in_time = h.in_time; shows = links_show c w v l h.shows sent; paired = h.paired; absent = h.absent; count = h.count; placed = h.placed }
 
 abbrev pub with_calls : WorldState → List Scripted → List AgentState → WorldState
 with_calls w script agents = record w { script = script; agents = agents }
@@ -61,6 +62,7 @@ alike_calls c v w script agents h = record {
   paired = h.paired;
   absent = h.absent;
   count = h.count;
+  placed = h.placed;
 }
 
 pub alike_clock : (c : Cluster) (v : Nodes) (w : WorldState) (second : ℕ) → second < 2 ^ 64 → Alike c v w → Alike c v (record w { clock = second })
@@ -72,6 +74,7 @@ alike_clock c v w second time h = record {
   paired = h.paired;
   absent = h.absent;
   count = h.count;
+  placed = h.placed;
 }
 
 abbrev pub AreFit : List Device → Type 0
@@ -87,6 +90,7 @@ alike_devices c v w ds faults fit same h = record {
   paired = h.paired;
   absent = h.absent;
   count = same ∙ h.count;
+  placed = h.placed;
 }
 
 -- Places of a list.
@@ -169,6 +173,7 @@ alike_step c v w n ends i node disk may at_node at_disk h =
       paired = length-set w.disks (n - 1) o.disk ∙ h.paired ∙ sym (length-set w.nodes (n - 1) o.after);
       absent = absent_still v.node w.nodes n node o.after at_node h.absent;
       count = h.count;
+      placed = length-set w.nodes (n - 1) o.after ∙ h.placed;
     }
 
 -- A stop is armed.
@@ -195,6 +200,7 @@ alike_stop c v w n calls choice disk low is h = record {
   paired = length-set w.disks (n - 1) (disks.armed disk calls choice) ∙ h.paired;
   absent = h.absent;
   count = h.count;
+  placed = h.placed;
 }
 
 -- where the world has no such disk it stays as it is
@@ -215,4 +221,5 @@ alike_no_stop c v w n calls choice is h = record {
   paired = h.paired;
   absent = h.absent;
   count = h.count;
+  placed = h.placed;
 }

@@ -32,6 +32,7 @@ use Rattle.refinement.proofs.Lines.{few_attached}
 use Rattle.refinement.proofs.Widths.{devices_fit, gives_fit}
 use Rattle.run_history.specs.Telling.{IsSeen, IsTold, WorldsAreTold, lines_upon}
 use Rattle.run_history.specs.Scenes.{Scene, first_scene, text_of}
+use Rattle.run_history.specs.Shapes.{nothing}
 use Rattle.run_history.proofs.Alike.{Alike, AreFit}
 use Rattle.run_history.proofs.Lines.{lines_so}
 use Rattle.run_history.proofs.Stands.{Stands}
@@ -95,6 +96,7 @@ first_alike h cells agents few fits = record {
   paired = disks_length (first_cluster h) h.nodes ∙ sym (length-replicate h.nodes Down);
   absent = λ k low e. refl;
   count = length-map h.devices (first_device h);
+  placed = length-replicate h.nodes Down;
 }
 
 first_same : (h : Header) (cells : ℕ) (agents : List AgentState) → first_scene h cells ≡ view (first_nodes (first_cluster h)) (first_world h cells agents) []
@@ -102,11 +104,11 @@ unfolding first_scene first_world
 first_same h cells agents = refl
 
 first_stands : (h : Header) (cells : ℕ) (agents : List AgentState) (text : List ℕ) → h.nodes ≤ 32 → AreFit (map (first_device h) h.devices)
-    → Stands (first_cluster h) (first_scene h cells) text [] (play (first_world h cells agents) text)
+    → Stands (first_cluster h) (first_scene h cells) text [] nothing (play (first_world h cells agents) text)
 first_stands h cells agents text few fits = record {
   nodes = first_nodes (first_cluster h);
   moments = [];
-  reached = record { happenings = []; may = tt; is = first_same h cells agents };
+  reached = record { happenings = []; may = tt; shaped = refl; is = first_same h cells agents };
   alike = first_alike h cells agents few fits;
   spoken = refl;
   written = sym (append-nil text);
@@ -156,11 +158,12 @@ numbers_high k l = omega arith
 
 -- The law.
 
-told_of : (h : Header) (cells : ℕ) (text : List ℕ) (events : List Event) (p : Play) → Stands (first_cluster h) (first_scene h cells) text (lines_upon [] events) p
+told_of : (h : Header) (cells : ℕ) (text : List ℕ) (events : List Event) (p : Play) → Stands (first_cluster h) (first_scene h cells) text (lines_upon [] events) nothing p
     → IsTold h cells text events p
 told_of h cells text events p k = record {
   happenings = k.reached.happenings;
   may = k.reached.may;
+  shaped = k.reached.shaped;
   seen = subst (λ s. IsSeen (first_cluster h) p.world s) (sym k.reached.is) (record { nodes = k.alike.shows; devices = refl; faults = refl; links = refl });
   said = ap (λ (s : Scene). lines_of s.moments) k.reached.is ∙ k.spoken;
   text = k.written ∙ ap (λ (s : Scene). text ++ text_of s.moments) (sym k.reached.is);

@@ -2,6 +2,7 @@
 pub mod Scenes
 pub mod Bringing
 pub mod Happenings
+pub mod Shapes
 pub mod Telling
 pub mod CommandLines
 pub mod Names

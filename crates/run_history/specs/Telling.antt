@@ -15,9 +15,11 @@ use Rattle.node_model.specs.declared.cluster.Cluster.{Cluster}
 use Rattle.refinement.specs.Worlds.{IsNamed, Shows, lines_on}
 use Rattle.run_history.specs.Happenings.{Happening, IsKept, MayAllHappen, all_happened}
 use Rattle.run_history.specs.Scenes.{Scene, first_scene, text_of}
+use Rattle.run_history.specs.Shapes.{IsShaped}
 
--- a fault is of a node and a device of the header
+-- a boot is of a node of the header, and a fault of a node and a device
 abbrev pub IsInHeader : Header → Event → Type 0
+IsInHeader h (event.Boot n) = n ≤ h.nodes
 IsInHeader h (event.Fault n d done) = (1 ≤ n) × (n ≤ h.nodes) × (1 ≤ d) × (d ≤ length h.devices)
 IsInHeader h e = Unit {0}
 
@@ -33,11 +35,12 @@ abbrev pub lines_upon : List Line → List Event → List Line
 lines_upon before [] = before
 lines_upon before (e ∷ events) = lines_upon (line.Event e ∷ before) events
 
--- The lines lead to this play by things that happen: the world is that of the scene, exactly these lines were said, and what was told is what is printed
--- after the text that stood before.
+-- The lines lead to this play by things that happen, each of which is due when it comes: the world is that of the scene, exactly these lines were said, and
+-- what was told is what is printed after the text that stood before.
 pub record IsTold (h : Header) (cells : ℕ) (before : List ℕ) (events : List Event) (p : Play) : Type 0 where
   pub happenings : List Happening
   pub may : MayAllHappen (first_cluster h) (first_scene h cells) happenings
+  pub shaped : IsShaped (first_cluster h) (first_scene h cells) happenings
   pub seen : IsSeen (first_cluster h) p.world (all_happened (first_cluster h) (first_scene h cells) happenings)
   pub said : lines_of (all_happened (first_cluster h) (first_scene h cells) happenings).moments ≡ lines_upon [] events
   pub text : p.text ≡ before ++ text_of (all_happened (first_cluster h) (first_scene h cells) happenings).moments

@@ -1,11 +1,11 @@
 //! What each run of the simulated world keeps, and what its lines tell.
 //!
 //! A run is things that happen, one after another: `specs/Scenes` has the world with what was said and told of it, `specs/Happenings` what can
-//! happen and when, and `specs/Telling` says that each run of the world is that. What holds at first and is kept by each thing that happens
-//! holds of each run: `kept_holds` of `proofs/Reached`, which is no law function, since it speaks of every property. Over such runs stand the
-//! laws: what the lines tell of links and devices (`specs/WorldLines`, `NodeLines`), of members (`Members`), of starts and updates (`Runs`,
-//! `Starts`), that each run is one of the abstract machine of the whole cluster (`Wholes`), the disk rule (`DiskRules`), the messages behind the
-//! lines (`ContactRuns`), and the votes of a start (`VoteRuns`).
+//! happen and when, `specs/Shapes` what each line brings, and `specs/Telling` says that each run of the world is that. What holds at first and is
+//! kept by each thing that happens holds of each run: `kept_holds` of `proofs/Reached`, which is no law function, since it speaks of every
+//! property. Over such runs stand the laws: what the lines tell of links and devices (`specs/WorldLines`, `NodeLines`), of members (`Members`), of
+//! starts and updates (`Runs`, `Starts`), that each run is one of the abstract machine of the whole cluster (`Wholes`), the disk rule
+//! (`DiskRules`), the messages behind the lines (`ContactRuns`), and the votes of a start (`VoteRuns`).
 //!
 //! Each function here is a law. It has no body, and its contract is proved of every header, every list of lines, everything that happens and
 //! all agents.
@@ -22,9 +22,10 @@ ghost use Rattle.run_history.specs.Telling.{WorldsAreTold};
 ghost use Rattle.run_history.specs.Wholes.{RepositoriesAreKept, RunsAreWhole, RunsWriteSafely, WholeRunsAreInOrder, WholeRunsAreSafe};
 ghost use Rattle.run_history.specs.WorldLines.{DevicesOfEachRun, DiskRuleByWrites, LinksOfEachRun};
 
-/// From its header on each run of the simulated world through any lines is things that happen: its world is that of the scene, exactly these lines
-/// were said, and the entries told are what is printed. The header has at most 32 nodes, at most 16 devices and a cluster below 2^32; the lines
-/// name nodes from number 1 on, seconds below 2^64, and for a fault a node and a device of the header; nothing else is supposed.
+/// From its header on each run of the simulated world through any lines is things that happen: each is due when it comes, and at the end nothing is
+/// due; its world is that of the scene, exactly these lines were said, and the entries told are what is printed. The header has at most 32 nodes, at
+/// most 16 devices and a cluster below 2^32; the lines name nodes from number 1 on, seconds below 2^64, for a boot a node of the header, and for a
+/// fault a node and a device of it; nothing else is supposed.
 pub fn worlds_are_told()
     ensures { WorldsAreTold }
 {}

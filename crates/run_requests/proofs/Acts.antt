@@ -17,7 +17,7 @@ use Rattle.status_report.specs.declared.entry.Entry.{Entry}
 use Rattle.status_report.specs.declared.entry.Entry.TheVariants as entry
 use Rattle.wire.specs.declared.message.Body.{Body}
 use Rattle.wire.specs.declared.message.Body.TheVariants as body
-use Rattle.history.specs.Contents.{CarriedUpdates, proposed_at}
+use Rattle.history.specs.Contents.{proposed_at}
 use Rattle.history.specs.Member.{member_of}
 use Rattle.history.specs.Moment.{Moment}
 use Rattle.history.specs.Setting.{Setting, coordinator}
@@ -45,7 +45,7 @@ use Rattle.run_messages.specs.Outputs.{AreGood, AreStill, NoPacket}
 use Rattle.run_messages.proofs.Lines.{evens_still}
 use Rattle.run_messages.proofs.Seats.{ended_even, given_even, spread_even, ticked_still, write_even, written_even}
 use Rattle.run_requests.specs.Guards.{ActAsk, BodyAsk, Command, OutputAsk, pair_of}
-use Rattle.run_requests.specs.Steps.{HandSo, PendingSo}
+use Rattle.run_requests.specs.Steps.{CarriedSo, HandSo, PendingSo}
 use Rattle.run_requests.proofs.Carried.{AllFine, LineFine, OutFine, SaysWords, passing_carried}
 use Rattle.run_requests.proofs.Causes.{CameSo, PresidentAt, ReadsAnswers, cause_fine}
 use Rattle.run_requests.proofs.Lines.{SameAsk, SameAsked, passing_ask}
@@ -58,7 +58,7 @@ pub record Acted (S : Setting) (n : ℕ) (o : Option Command) (h : Option ℕ) (
   pub now : IfSome o (NowSo S n (passing n os s).moments y.requests.asked)
   pub hand : HandSo n (passing n os s).moments y h
   pub pending : PendingSo (passing n os s).moments y
-  pub carried : CarriedUpdates S (passing n os s).moments
+  pub carried : CarriedSo S (passing n os s).moments
   pub last_so : y.requests.asked ≡ last
 
 -- what is known before
@@ -67,7 +67,7 @@ pub record Before (S : Setting) (n : ℕ) (i : Input) (o : Option Command) (h : 
   pub now : IfSome o (NowSo S n s.moments x.requests.asked)
   pub hand : HandSo n s.moments x h
   pub pending : PendingSo s.moments x
-  pub carried : CarriedUpdates S s.moments
+  pub carried : CarriedSo S s.moments
   pub came : CameSo i n s.moments
   pub president : is_some x.presidency ≡ true → PresidentAt x n
 
@@ -114,13 +114,13 @@ IsMuteLine (Tells (entry.Command e)) = ⊥
 IsMuteLine (Tells e) = Unit {0}
 IsMuteLine (Sends to b) = ⊥
 
-line_fine : (S : Setting) (n : ℕ) (i : Input) (o : Option Command) (h : Option ℕ) (x : UpNode) (s : Scene) (e : Entry) → ReadsAnswers S → NoPacket e → OutputAsk n i o h x (Tells e) → Before S n i o h x s
-    → LineFine S s.moments n e
-line_fine S n i o h x s (entry.Command (command.Asked m q)) exact good ask b = tt
-line_fine S n i o h x s (entry.Command (command.Answered m q reply)) exact good ask b =
-    (ask.0, cause_fine S s.moments n q i o h x reply exact b.president b.queued b.now b.hand b.came ask.1)
-line_fine S n i o h x s (entry.Packet e) exact good ask b = absurd good
-line_fine S n i o h x s _ exact good ask b = tt
+line_fine : (S : Setting) (n : ℕ) (i : Input) (o : Option Command) (h : Option ℕ) (x : UpNode) (s : Scene) (e : Entry) → ReadsAnswers S → NoPacket e → OutputAsk n i o h x (Tells e) → member_of n s.moments ≡ membership_in x.seat
+    → Before S n i o h x s → LineFine S s.moments n e
+line_fine S n i o h x s (entry.Command (command.Asked m q)) exact good ask seated b = tt
+line_fine S n i o h x s (entry.Command (command.Answered m q reply)) exact good ask seated b =
+    (ask.0, cause_fine S s.moments n q i o h x reply exact b.president seated b.queued b.now b.hand b.came ask.1)
+line_fine S n i o h x s (entry.Packet e) exact good ask seated b = absurd good
+line_fine S n i o h x s _ exact good ask seated b = tt
 
 -- no Prepare
 abbrev NoPrepare : Body → Type 0
@@ -148,10 +148,10 @@ written_fine S n i o h x s _ seated may ask b = tt
 
 -- orders, and messages of requests
 given_fine : (S : Setting) (n : ℕ) (i : Input) (o : Option Command) (h : Option ℕ) (x : UpNode) (s : Scene) (os : List Output) → ReadsAnswers S → AreGood n os → TellNothing os
-    → AllByRecursion (OutputAsk n i o h x) os → Before S n i o h x s → AllFine S s.moments n os
-given_fine S n i o h x s [] exact good may ask b = tt
-given_fine S n i o h x s (Tells e ∷ os) exact good may ask b = (line_fine S n i o h x s e exact good.0 ask.0 b, given_fine S n i o h x s os exact good.1 may.1 ask.1 b)
-given_fine S n i o h x s (Sends to c ∷ os) exact good may ask b = (body_fine S n i o h x s c (no_prepare to c may.0) ask.0 b, given_fine S n i o h x s os exact good.1 may.1 ask.1 b)
+    → AllByRecursion (OutputAsk n i o h x) os → member_of n s.moments ≡ membership_in x.seat → Before S n i o h x s → AllFine S s.moments n os
+given_fine S n i o h x s [] exact good may ask seated b = tt
+given_fine S n i o h x s (Tells e ∷ os) exact good may ask seated b = (line_fine S n i o h x s e exact good.0 ask.0 seated b, given_fine S n i o h x s os exact good.1 may.1 ask.1 seated b)
+given_fine S n i o h x s (Sends to c ∷ os) exact good may ask seated b = (body_fine S n i o h x s c (no_prepare to c may.0) ask.0 b, given_fine S n i o h x s os exact good.1 may.1 ask.1 seated b)
   where
     no_prepare : (to : ℕ) (c : Body) → TellsNothing (Sends to c) → NoPrepare c
     no_prepare to (body.Prepare e v text) m = absurd m
@@ -248,7 +248,7 @@ act_so S c n told i o h x (Writes to b) s exact nm may small ask good seated k =
     acted_so S n i o h x x (Sends to b ∷ []) s good (tt, tt) (tt, tt) (written_fine S n i o h x s b seated may ask k, tt) refl refl (λ ms now q. q) (λ ms p. p) k
 act_so S c n told i o h x (Makes change) s exact nm may small ask good seated k = absurd nm
 act_so S c n told i o h x (Gives os) s exact nm may small ask good seated k =
-    acted_so S n i o h x x os s good (evens_still n os (given_even os small may)) (given_plain n i o h x os small ask) (given_fine S n i o h x s os exact good may ask k) refl refl (λ ms now q. q) (λ ms p. p) k
+    acted_so S n i o h x x os s good (evens_still n os (given_even os small may)) (given_plain n i o h x os small ask) (given_fine S n i o h x s os exact good may ask seated k) refl refl (λ ms now q. q) (λ ms p. p) k
 act_so S c n told i o h x (Spreads receivers b) s exact nm may small ask good seated k =
     acted_so S n i o h x x (sent_to receivers b) s good (evens_still n (sent_to receivers b) (spread_even receivers b (written_even x b may))) (spread_plain receivers b)
     (spread_fine S s.moments n receivers b (written_fine S n i o h x s b seated may ask k)) refl refl (λ ms now q. q) (λ ms p. p) k

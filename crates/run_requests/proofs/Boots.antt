@@ -7,7 +7,6 @@ use Rattle.membership_machine.specs.Invariant.{Holds}
 use Rattle.membership_machine.specs.State.{Memberships}
 use Rattle.status_report.specs.declared.entry.Entry.TheVariants as entry
 use Rattle.status_report.specs.declared.node_entry.NodeEntry.TheVariants as note
-use Rattle.history.specs.Contents.{CarriedUpdates}
 use Rattle.history.specs.Member.{in_collect}
 use Rattle.history.specs.Moment.{Moment, Told}
 use Rattle.history.specs.Setting.{Setting}
@@ -26,6 +25,7 @@ use Rattle.run_history.specs.Scenes.{Scene}
 use Rattle.run_messages.specs.Laws.{IsSeated}
 use Rattle.run_messages.specs.Outputs.{AreGood}
 use Rattle.run_messages.specs.Steps.{AreCollected, collecting}
+use Rattle.run_requests.specs.Steps.{CarriedSo}
 use Rattle.run_requests.proofs.Causes.{CameSo, ReadsAnswers}
 use Rattle.run_requests.proofs.Leaving.{Leaves, UpSo}
 use Rattle.cl_base.specs.declared.method.Outcome.{Outcome}
@@ -41,7 +41,7 @@ use Rattle.run_requests.proofs.Lines.{has_asked}
 use Rattle.run_requests.proofs.Walk.{Between, walk_so}
 
 -- a node that is up, as it is known at a scene
-pub at_first : (S : Setting) (n : ℕ) (i : Input) (x : UpNode) (s : Scene) → UpSo S n x.requests.asked x s.moments → CarriedUpdates S s.moments → CameSo i n s.moments → Between S n i None None x.requests.asked x s
+pub at_first : (S : Setting) (n : ℕ) (i : Input) (x : UpNode) (s : Scene) → UpSo S n x.requests.asked x s.moments → CarriedSo S s.moments → CameSo i n s.moments → Between S n i None None x.requests.asked x s
 at_first S n i x s up carried came =
     record { so = record { queued = up.queued; now = tt; hand = tt; pending = up.pending; last_so = refl }; carried = carried; came = came }
 
@@ -50,7 +50,7 @@ pub plain_leaves : (S : Setting) (c : Cluster) (n now : ℕ) (ends : Outcome) (i
     → MayAll c n (delivered_by i) (site (Up x) disk) (under replies (course_at c n now ends x i)) → AllSmall (under replies (course_at c n now ends x i))
     → AreCollected (collecting (delivered_by i)) (under replies (course_at c n now ends x i)) → in_collect n s.moments ≡ collecting (delivered_by i)
     → AreGood n (given_all c n (site (Up x) disk) (under replies (course_at c n now ends x i))) → IsSeated s.moments n (Up x)
-    → UpSo S n x.requests.asked x s.moments → CarriedUpdates S s.moments → CameSo i n s.moments
+    → UpSo S n x.requests.asked x s.moments → CarriedSo S s.moments → CameSo i n s.moments
     → Leaves S n x.requests.asked (after_all c n (site (Up x) disk) (under replies (course_at c n now ends x i))).node (given_all c n (site (Up x) disk) (under replies (course_at c n now ends x i))) s
 plain_leaves S c n now ends i replies M x disk s exact fits holds known tied plain may small calm at good seated up carried came =
     walk_so S c n i None replies (course_at c n now ends x i) M None x.requests.asked x disk s exact fits holds known tied may small calm at good seated
@@ -66,7 +66,7 @@ if_so false x y h = cc
 fresh_boot : (n k : ℕ) (ms : List Moment) → has_asked n k (Told (entry.Node n note.Up) ∷ ms) ≡ false
 fresh_boot n k ms = ap (λ xs. list_any (is_asking n k) xs) (if_so (n == n) [] (Told (entry.Node n note.Up) ∷ since (is_boot n) ms) (is_same n))
 
-pub boot_so : (S : Setting) (c : Cluster) (n : ℕ) (disk : NodeRecord) (s : Scene) → CarriedUpdates S s.moments
+pub boot_so : (S : Setting) (c : Cluster) (n : ℕ) (disk : NodeRecord) (s : Scene) → CarriedSo S s.moments
     → Leaves S n 0 (Up (up_with n (first_valid_of c n) disk)) (of_node n note.Up ∷ []) s
 boot_so S c n disk s carried = record {
   own = record {

@@ -1,7 +1,7 @@
 -- What is told and sent keeps it that messages carry the words that they are to carry.
-use Rattle.std.specs.Prelude.{ℕ, ◌≡◌, ◌≤◌, ◌==◌, ◌&&◌, nat_le, true, List, [], ◌∷◌, length, Option, None, Some, IfSome, option_map}
+use Rattle.std.specs.Prelude.{ℕ, ◌≡◌, ◌⊎◌, ◌≤◌, ◌==◌, ◌&&◌, nat_le, true, List, [], ◌∷◌, length, Option, None, Some, IfSome, option_map}
 use Rattle.std.specs.List.{AllByRecursion}
-use Rattle.std.proofs.Common.{refl, sym, ap, subst, ◌∙◌, arith}
+use Rattle.std.proofs.Common.{refl, sym, ap, subst, ◌∙◌, inl, inr, arith}
 use Rattle.attempt_laws.proofs.Walk.{if_with}
 use Rattle.cl_base.specs.declared.packet.DropCause.{DropCause}
 use Rattle.cmm_attempt.proofs.Basics.{and_cases}
@@ -27,6 +27,7 @@ use Rattle.history.specs.Moment.{Moment, Told}
 use Rattle.history.specs.Names.{named}
 use Rattle.history.specs.Requests.{are_words, before_asking, command_of}
 use Rattle.history.specs.Setting.{Setting, coordinator}
+use Rattle.history.specs.Trace.{answered}
 use Rattle.node_model.specs.declared.output.Output.{Output}
 use Rattle.node_model.specs.declared.output.Output.TheVariants.{Sends, Tells}
 use Rattle.node_widths.proofs.Lengths.{sent_messages_fit}
@@ -36,6 +37,8 @@ use Rattle.run_history.specs.Scenes.{Scene, dropped_so, passing, posting, sent_a
 use Rattle.run_messages.specs.Outputs.{AreGood, AreStill}
 use Rattle.run_messages.proofs.Lines.{passing_arrived, passing_still}
 use Rattle.run_requests.specs.Guards.{is_silent}
+use Rattle.run_requests.specs.Replies.{AnswersAreMembers, IsMembers, IsRepeated}
+use Rattle.run_requests.specs.Steps.{CarriedSo, CarriesSo}
 use Rattle.run_requests.proofs.Lines.{AreApart, SameAsk, passing_ask}
 
 -- the update of a Prepare is proposed in the membership of its sender; the words of a Request are those of its command
@@ -51,7 +54,7 @@ SaysWords S ms n (body.Request e q text) = IfSome (command_of S n q ms) (λ word
 SaysWords S ms n _ = Unit {0}
 
 abbrev pub LineFine : Setting → List Moment → ℕ → Entry → Type 0
-LineFine S ms n (entry.Command (command.Answered m q reply)) = (m ≡ n) × CarriesUpdate S ms (Told (entry.Command (command.Answered n q reply)))
+LineFine S ms n (entry.Command (command.Answered m q reply)) = (m ≡ n) × CarriesSo S ms (Told (entry.Command (command.Answered n q reply)))
 LineFine S ms n (entry.Packet e) = ⊥
 LineFine S ms n _ = Unit {0}
 
@@ -94,8 +97,24 @@ answer_stays S before after n q None f h = tt
 answer_stays S before after n q (Some t) f h =
     subst (λ (ms : List Moment). IsPresidents (member_of n ms) n q t after) (sym (f.ask.asks.asking q)) (presidents_stay before after n q t (member_of n (before_asking n q before)) f.here h)
 
+repeated_stays : (n q e : ℕ) (before after : List Moment) → arrived after ≡ arrived before → IsRepeated n q e before → IsRepeated n q e after
+repeated_stays n q e before after here h = record { letter = h.letter; came = here ∙ h.came; to = h.to; from = h.from; text = h.text; says_so = h.says_so; ok = h.ok }
+
+told_stays : (n q e : ℕ) (before after : List Moment) → arrived after ≡ arrived before → (coordinator e ≡ n) ⊎ IsRepeated n q e before → (coordinator e ≡ n) ⊎ IsRepeated n q e after
+told_stays n q e before after here (inl own) = inl own
+told_stays n q e before after here (inr h) = inr (repeated_stays n q e before after here h)
+
+members_stay : (S : Setting) (before after : List Moment) (n q : ℕ) (reply : Answer) → SameView S n before after → IsMembers before (answered n q reply) → IsMembers after (answered n q reply)
+members_stay S before after n q answer.Ok f h = record {
+  epoch = h.epoch;
+  member = f.member ∙ h.member;
+  asked_so = ap (λ ms. member_of n ms) (f.ask.asks.asking q) ∙ h.asked_so;
+  told = told_stays n q h.epoch before after f.here h.told;
+}
+members_stay S before after n q _ f h = tt
+
 line_stays : (S : Setting) (before after : List Moment) (n : ℕ) (e : Entry) → SameView S n before after → LineFine S before n e → LineFine S after n e
-line_stays S before after n (entry.Command (command.Answered m q reply)) f h = (h.0, answer_stays S before after n q (answer_text S reply) f h.1)
+line_stays S before after n (entry.Command (command.Answered m q reply)) f h = (h.0, (answer_stays S before after n q (answer_text S reply) f h.1.0, members_stay S before after n q reply f h.1.1))
 line_stays S before after n (entry.Command (command.Asked m q)) f h = tt
 line_stays S before after n (entry.Packet e) f h = absurd h
 line_stays S before after n _ f h = tt
@@ -142,23 +161,23 @@ shows_words S ms n (body.Excluded epoch newest) fits h = tt
 size : (k : ℕ) → nat_le k 131072 ≡ true → k ≤ 131072
 size k e = grind arith
 
-dropped_carried : (S : Setting) (o : Option (ℕ × DropCause)) (s : Scene) → CarriedUpdates S s.moments → CarriedUpdates S (dropped_so o s).moments
+dropped_carried : (S : Setting) (o : Option (ℕ × DropCause)) (s : Scene) → CarriedSo S s.moments → CarriedSo S (dropped_so o s).moments
 dropped_carried S None s h = h
 dropped_carried S (Some drop) s h = (tt, h)
 
-posting_carried : (S : Setting) (n to : ℕ) (b : Body) (s : Scene) → LetterFits (record { from = n; body = b }) → SaysWords S s.moments n b → CarriedUpdates S s.moments
-    → CarriedUpdates S (posting n to (record { sender = n; body = b }) s).moments
+posting_carried : (S : Setting) (n to : ℕ) (b : Body) (s : Scene) → LetterFits (record { from = n; body = b }) → SaysWords S s.moments n b → CarriedSo S s.moments
+    → CarriedSo S (posting n to (record { sender = n; body = b }) s).moments
 posting_carried S n to b s fits so h =
     let m : Message = record { sender = n; body = b } in
     let o : links.Outcome = sending s.links n to (spelling m) in
-    if_with (λ (t : Scene). CarriedUpdates S t.moments) (is_sent s.links m) (is_sent s.links m) (sent_as n to m o s) s refl
+    if_with (λ (t : Scene). CarriedSo S t.moments) (is_sent s.links m) (is_sent s.links m) (sent_as n to m o s) s refl
     (λ e. dropped_carried S o.sent.dropped (telling (entry.Packet (packet.Sent s.links.next n to (name_of m.body) (spelling m))) (with_links s o.after))
     (shows_words S s.moments n b (sent_messages_fit m fits.0 fits.1 (size (length (spelling m)) (and_cases _ _ e).0)) so, h))
     (λ e. h)
 
-told_carried : (S : Setting) (n : ℕ) (e : Entry) (ms : List Moment) → LineFine S ms n e → CarriedUpdates S ms → CarriedUpdates S (Told e ∷ ms)
+told_carried : (S : Setting) (n : ℕ) (e : Entry) (ms : List Moment) → LineFine S ms n e → CarriedSo S ms → CarriedSo S (Told e ∷ ms)
 told_carried S n (entry.Command (command.Answered m q reply)) ms h all =
-    (subst (λ k. CarriesUpdate S ms (Told (entry.Command (command.Answered k q reply)))) (sym h.0) h.1, all)
+    (subst (λ k. CarriesSo S ms (Told (entry.Command (command.Answered k q reply)))) (sym h.0) h.1, all)
 told_carried S n (entry.Command (command.Asked m q)) ms h all = (tt, all)
 told_carried S n (entry.Packet e) ms h all = absurd h
 told_carried S n _ ms h all = (tt, all)
@@ -167,8 +186,8 @@ one_view : (S : Setting) (n : ℕ) (o : Output) (s : Scene) → AreGood n (o ∷
 one_view S n o s good still apart = record { ask = passing_ask S n n (o ∷ []) s apart; member = passing_still n n (o ∷ []) s still; here = passing_arrived n (o ∷ []) s good }
 
 -- while nothing changes of what the node asked, its membership and the event, all that is fine at first
-pub passing_carried : (S : Setting) (n : ℕ) (os : List Output) (s : Scene) → AreGood n os → AreStill n os → AreApart n os → AllFine S s.moments n os → CarriedUpdates S s.moments
-    → CarriedUpdates S (passing n os s).moments
+pub passing_carried : (S : Setting) (n : ℕ) (os : List Output) (s : Scene) → AreGood n os → AreStill n os → AreApart n os → AllFine S s.moments n os → CarriedSo S s.moments
+    → CarriedSo S (passing n os s).moments
 passing_carried S n [] s good still apart fine h = h
 passing_carried S n (Tells e ∷ os) s good still apart fine h =
     let f : SameView S n s.moments (telling e s).moments = one_view S n (Tells e) s (good.0, tt) (still.0, tt) (apart.0, tt) in
@@ -191,16 +210,39 @@ silent_text S answer.Ok h = cc
 silent_text S (answer.Refused refusal) h = cc
 silent_text S _ h = refl
 
-pub mute_line : (S : Setting) (ms : List Moment) (n q : ℕ) (reply : Answer) → is_silent reply ≡ true → CarriesUpdate S ms (Told (entry.Command (command.Answered n q reply)))
-mute_line S ms n q reply h = subst (λ (o : Option (List ℕ)). IfSome o (λ t. IsPresidents (member_of n (before_asking n q ms)) n q t ms)) (sym (silent_text S reply h)) tt
+silent_members : (ms : List Moment) (n q : ℕ) (reply : Answer) → is_silent reply ≡ true → IsMembers ms (answered n q reply)
+silent_members ms n q answer.Ok h = cc
+silent_members ms n q _ h = tt
 
-mute_told : (S : Setting) (e : Entry) (ms : List Moment) → IsMute (Tells e) → CarriedUpdates S ms → CarriedUpdates S (Told e ∷ ms)
+pub mute_line : (S : Setting) (ms : List Moment) (n q : ℕ) (reply : Answer) → is_silent reply ≡ true → CarriesSo S ms (Told (entry.Command (command.Answered n q reply)))
+mute_line S ms n q reply h =
+    (subst (λ (o : Option (List ℕ)). IfSome o (λ t. IsPresidents (member_of n (before_asking n q ms)) n q t ms)) (sym (silent_text S reply h)) tt, silent_members ms n q reply h)
+
+mute_told : (S : Setting) (e : Entry) (ms : List Moment) → IsMute (Tells e) → CarriedSo S ms → CarriedSo S (Told e ∷ ms)
 mute_told S (entry.Command (command.Answered m q reply)) ms h all = (mute_line S ms m q reply h, all)
 mute_told S (entry.Command (command.Asked m q)) ms h all = (tt, all)
 mute_told S (entry.Packet e) ms h all = absurd h
 mute_told S _ ms h all = (tt, all)
 
-pub passing_mute : (S : Setting) (n : ℕ) (os : List Output) (s : Scene) → AllByRecursion IsMute os → CarriedUpdates S s.moments → CarriedUpdates S (passing n os s).moments
+pub passing_mute : (S : Setting) (n : ℕ) (os : List Output) (s : Scene) → AllByRecursion IsMute os → CarriedSo S s.moments → CarriedSo S (passing n os s).moments
 passing_mute S n [] s h all = all
 passing_mute S n (Tells e ∷ os) s h all = passing_mute S n os (telling e s) h.1 (mute_told S e s.moments h.0 all)
 passing_mute S n (Sends to b ∷ os) s h all = absurd h.0
+
+-- ---- what is carried, and who answers
+
+updates_line : (S : Setting) (ms : List Moment) (x : Moment) → CarriesSo S ms x → CarriesUpdate S ms x
+updates_line S ms (answered n q reply) h = h.0
+updates_line S ms x h = h
+
+replies_line : (S : Setting) (ms : List Moment) (x : Moment) → CarriesSo S ms x → IsMembers ms x
+replies_line S ms (answered n q reply) h = h.1
+replies_line S ms x h = tt
+
+pub updates_in : (S : Setting) (ms : List Moment) → CarriedSo S ms → CarriedUpdates S ms
+updates_in S [] h = tt
+updates_in S (x ∷ ms) h = (updates_line S ms x h.0, updates_in S ms h.1)
+
+pub replies_in : (S : Setting) (ms : List Moment) → CarriedSo S ms → AnswersAreMembers ms
+replies_in S [] h = tt
+replies_in S (x ∷ ms) h = (replies_line S ms x h.0, replies_in S ms h.1)

@@ -1,4 +1,4 @@
--- An answer that is told for a cause is the president's.
+-- An answer that is told for a cause is the president's, and a member tells it.
 use Rattle.std.specs.Prelude.{ℕ, ◌≡◌, ◌==◌, ◌&&◌, nat_le, Bool, true, false, List, [], ◌∷◌, Option, None, Some, IfSome, is_some}
 use Rattle.std.proofs.Common.{refl, sym, ap, subst, ◌∙◌, inl, inr}
 use Rattle.answer_words.specs.Answers.{answer_in}
@@ -6,12 +6,13 @@ use Rattle.cmm_attempt.proofs.Basics.{and_cases, same_number, same_some}
 use Rattle.machine_base.specs.Epochs.{coordinator as machine_coordinator}
 use Rattle.membership_machine.specs.State.{Memberships}
 use Rattle.status_report.specs.declared.command_entry.Answer.{Answer}
+use Rattle.status_report.specs.declared.command_entry.Answer.TheVariants as answer
 use Rattle.status_report.specs.declared.command_entry.CommandEntry.TheVariants as command
 use Rattle.status_report.specs.declared.entry.Entry.TheVariants as entry
 use Rattle.wire.specs.declared.message.Body.{Body}
 use Rattle.wire.specs.declared.message.Body.TheVariants as body
 use Rattle.wire.specs.declared.message.Message.{Message}
-use Rattle.history.specs.Contents.{CarriesUpdate, IsPresidents, answer_text}
+use Rattle.history.specs.Contents.{IsPresidents, answer_text}
 use Rattle.history.specs.Letters.{Letter, arrived, is_letter, passes, says, text_in}
 use Rattle.history.specs.Member.{member_of}
 use Rattle.history.specs.Moment.{Moment, Told}
@@ -20,6 +21,7 @@ use Rattle.history.specs.Names.{named, same_name}
 use Rattle.history.specs.Order.{Unless}
 use Rattle.history.specs.Requests.{are_words, before_asking, same_words}
 use Rattle.history.specs.Setting.{Setting, coordinator}
+use Rattle.history.specs.Trace.{answered}
 use Rattle.node_model.specs.Seats.{is_in, is_member, session_of}
 use Rattle.node_model.specs.declared.input.Input.{Input}
 use Rattle.node_model.specs.declared.input.Input.TheVariants.{Packet}
@@ -32,6 +34,8 @@ use Rattle.world_model.specs.Sends.{name_of}
 use Rattle.run_history.proofs.Heard.{and_both, is_same}
 use Rattle.run_messages.specs.Laws.{membership_in}
 use Rattle.run_requests.specs.Guards.{Cause, Command, IsNow}
+use Rattle.run_requests.specs.Replies.{IsMembers}
+use Rattle.run_requests.specs.Steps.{CarriesSo}
 use Rattle.run_requests.proofs.Carried.{mute_line}
 use Rattle.run_requests.proofs.Queues.{NowSo, Queued, found_member}
 
@@ -95,9 +99,13 @@ unless_true true P h = tt
 unless_true false P h = cc
 
 -- in a membership that the node coordinates every answer is its own
-own_line : (S : Setting) (ms : List Moment) (n q e : ℕ) (reply : Answer) → member_of n (before_asking n q ms) ≡ Some e → coordinator e ≡ n
-    → CarriesUpdate S ms (Told (entry.Command (command.Answered n q reply)))
-own_line S ms n q e reply at own = by_text (answer_text S reply)
+own_members : (ms : List Moment) (n q e : ℕ) (reply : Answer) → member_of n ms ≡ Some e → member_of n (before_asking n q ms) ≡ Some e → coordinator e ≡ n → IsMembers ms (answered n q reply)
+own_members ms n q e answer.Ok here at own = record { epoch = e; member = here; asked_so = at; told = inl own }
+own_members ms n q e _ here at own = tt
+
+own_line : (S : Setting) (ms : List Moment) (n q e : ℕ) (reply : Answer) → member_of n ms ≡ Some e → member_of n (before_asking n q ms) ≡ Some e → coordinator e ≡ n
+    → CarriesSo S ms (Told (entry.Command (command.Answered n q reply)))
+own_line S ms n q e reply here at own = (by_text (answer_text S reply), own_members ms n q e reply here at own)
   where
     by_text : (o : Option (List ℕ)) → IfSome o (λ t. IsPresidents (member_of n (before_asking n q ms)) n q t ms)
     by_text None = tt
@@ -128,9 +136,16 @@ session_in x e h =
     by_seat (Forming s) at so = cc
     by_seat (Member s) at so = ap (λ k. Some k) (sym (ap (λ (z : Seat). session_of (record x { seat = z })) at))
 
-repeated_so : (S : Setting) (ms : List Moment) (n q : ℕ) (x : UpNode) (reply : Answer) (from : ℕ) (m : Message) (e : ℕ) (text : List ℕ) (b : Body) → ReadsAnswers S → m.body ≡ b → b ≡ body.Answer e q text
-    → answer_in text ≡ Some reply → member_of n (before_asking n q ms) ≡ Some e → ArrivedSo ms n from m → CarriesUpdate S ms (Told (entry.Command (command.Answered n q reply)))
-repeated_so S ms n q x reply from m e text b exact is body_so reads at came = by_text (answer_text S reply) refl
+repeated_members : (ms : List Moment) (n q e : ℕ) (reply : Answer) (l : Letter) (text : List ℕ) → member_of n ms ≡ Some e → member_of n (before_asking n q ms) ≡ Some e → arrived ms ≡ Some l → l.to ≡ n
+    → l.from ≡ coordinator e → says l.bytes ≡ Some (body.Answer e q text) → answer_in text ≡ Some reply → IsMembers ms (answered n q reply)
+repeated_members ms n q e answer.Ok l text here at came to from said reads =
+    record { epoch = e; member = here; asked_so = at; told = inr (record { letter = l; came = came; to = to; from = from; text = text; says_so = said; ok = reads }) }
+repeated_members ms n q e _ l text here at came to from said reads = tt
+
+repeated_so : (S : Setting) (ms : List Moment) (n q : ℕ) (reply : Answer) (from : ℕ) (m : Message) (e : ℕ) (text : List ℕ) → ReadsAnswers S → m.body ≡ body.Answer e q text → answer_in text ≡ Some reply
+    → member_of n ms ≡ Some e → member_of n (before_asking n q ms) ≡ Some e → ArrivedSo ms n from m → CarriesSo S ms (Told (entry.Command (command.Answered n q reply)))
+repeated_so S ms n q reply from m e text exact is reads here at came =
+    (by_text (answer_text S reply) refl, repeated_members ms n q e reply came.letter text here at came.here came.to (own m.body is came.own) (came.says_so ∙ ap (λ z. Some z) is) reads)
   where
     own : (z : Body) → z ≡ body.Answer e q text → AnswerOwn came.letter.from z → came.letter.from ≡ coordinator e
     own z same h = subst (λ y. AnswerOwn came.letter.from y) same h
@@ -141,8 +156,8 @@ repeated_so S ms n q x reply from m e text b exact is body_so reads at came = by
         subst (λ (k : Option ℕ). IsPresidents k n q t ms) (sym at)
         (unless_so (coordinator e == n) _
         (ap (λ (o : Option Letter). passes (λ l. is_letter (name.Answer q) (coordinator e) n l && are_words t (text_in (says l.bytes))) o) came.here
-        ∙ letter_so came.letter q (coordinator e) n e t text (came.called ∙ ap (λ z. named (name_of z)) (is ∙ body_so)) (own m.body (is ∙ body_so) came.own) came.to
-        (came.says_so ∙ ap (λ z. Some z) (is ∙ body_so)) (exact text reply t reads so)))
+        ∙ letter_so came.letter q (coordinator e) n e t text (came.called ∙ ap (λ z. named (name_of z)) is) (own m.body is came.own) came.to
+        (came.says_so ∙ ap (λ z. Some z) is) (exact text reply t reads so)))
 
 same_packet : (from other : ℕ) (m k : Message) → Packet from m ≡ Packet other k → m ≡ k
 same_packet from other m k e = cc
@@ -150,30 +165,30 @@ same_packet from other m k e = cc
 -- ---- each cause
 
 pub cause_fine : (S : Setting) (ms : List Moment) (n q : ℕ) (i : Input) (o : Option Command) (h : Option ℕ) (x : UpNode) (reply : Answer) → ReadsAnswers S
-    → (is_some x.presidency ≡ true → PresidentAt x n) → Queued S n ms (membership_in x.seat) x.requests → IfSome o (NowSo S n ms x.requests.asked)
+    → (is_some x.presidency ≡ true → PresidentAt x n) → member_of n ms ≡ membership_in x.seat → Queued S n ms (membership_in x.seat) x.requests → IfSome o (NowSo S n ms x.requests.asked)
     → IfSome h (λ k. member_of n (before_asking n k ms) ≡ membership_in x.seat) → CameSo i n ms → Cause i o h x q reply
-    → CarriesUpdate S ms (Told (entry.Command (command.Answered n q reply)))
-cause_fine S ms n q i o h x reply exact president queued now hand came (inl silent) = mute_line S ms n q reply silent
-cause_fine S ms n q i o h x reply exact president queued now hand came (inr (inl (pr, inl found))) =
+    → CarriesSo S ms (Told (entry.Command (command.Answered n q reply)))
+cause_fine S ms n q i o h x reply exact president seated queued now hand came (inl silent) = mute_line S ms n q reply silent
+cause_fine S ms n q i o h x reply exact president seated queued now hand came (inr (inl (pr, inl found))) =
     let p : PresidentAt x n = president pr in
-    own_line S ms n q p.epoch reply (found_member S n ms (membership_in x.seat) x q queued found ∙ p.member) p.own
-cause_fine S ms n q i None h x reply exact president queued now hand came (inr (inl (pr, inr (inl here)))) = absurd (none_now here)
+    own_line S ms n q p.epoch reply (seated ∙ p.member) (found_member S n ms (membership_in x.seat) x q queued found ∙ p.member) p.own
+cause_fine S ms n q i None h x reply exact president seated queued now hand came (inr (inl (pr, inr (inl here)))) = absurd (none_now here)
   where
     none_now : IsNow None x q → ⊥
     none_now z = by z.command z.is
       where
         by : (k : Command) → None ≡ Some k → ⊥
         by k e = cc
-cause_fine S ms n q i (Some k) h x reply exact president queued now hand came (inr (inl (pr, inr (inl here)))) =
+cause_fine S ms n q i (Some k) h x reply exact president seated queued now hand came (inr (inl (pr, inr (inl here)))) =
     let p : PresidentAt x n = president pr in
     let same : k ≡ here.command = same_some k here.command here.is in
     let number : k.number ≡ q = ap (λ (z : Command). z.number) same ∙ here.number in
-    own_line S ms n q p.epoch reply
+    own_line S ms n q p.epoch reply (seated ∙ p.member)
     (subst (λ j. member_of n (before_asking n j ms) ≡ membership_in x.seat) number (now.member ∙ (ap (λ (z : Command). z.session) same ∙ here.session)) ∙ p.member) p.own
-cause_fine S ms n q i o None x reply exact president queued now hand came (inr (inl (pr, inr (inr at)))) = cc
-cause_fine S ms n q i o (Some k) x reply exact president queued now hand came (inr (inl (pr, inr (inr at)))) =
+cause_fine S ms n q i o None x reply exact president seated queued now hand came (inr (inl (pr, inr (inr at)))) = cc
+cause_fine S ms n q i o (Some k) x reply exact president seated queued now hand came (inr (inl (pr, inr (inr at)))) =
     let p : PresidentAt x n = president pr in
-    own_line S ms n q p.epoch reply (subst (λ j. member_of n (before_asking n j ms) ≡ membership_in x.seat) (same_some k q at) hand ∙ p.member) p.own
-cause_fine S ms n q i o h x reply exact president queued now hand came (inr (inr r)) =
-    repeated_so S ms n q x reply r.from r.message r.epoch r.text (r.message.body) exact refl r.says r.reads
+    own_line S ms n q p.epoch reply (seated ∙ p.member) (subst (λ j. member_of n (before_asking n j ms) ≡ membership_in x.seat) (same_some k q at) hand ∙ p.member) p.own
+cause_fine S ms n q i o h x reply exact president seated queued now hand came (inr (inr r)) =
+    repeated_so S ms n q reply r.from r.message r.epoch r.text exact r.says r.reads (seated ∙ session_in x r.epoch r.here)
     (found_member S n ms (membership_in x.seat) x q queued r.waits ∙ session_in x r.epoch r.here) (subst (λ z. CameSo z n ms) r.input came)

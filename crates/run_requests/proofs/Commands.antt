@@ -7,7 +7,6 @@ use Rattle.cmm_member.specs.Records.{NodeRecord}
 use Rattle.membership_machine.specs.Invariant.{Holds}
 use Rattle.membership_machine.specs.State.{Memberships}
 use Rattle.status_report.specs.declared.entry.Entry.TheVariants as entry
-use Rattle.history.specs.Contents.{CarriedUpdates}
 use Rattle.history.specs.Member.{in_collect, member_of}
 use Rattle.history.specs.Moment.{Moment, Told}
 use Rattle.history.specs.Setting.{Setting}
@@ -32,7 +31,7 @@ use Rattle.run_messages.specs.Outputs.{AreGood}
 use Rattle.run_messages.specs.Steps.{AreCollected, Leads as Leads_so}
 use Rattle.run_messages.proofs.Doings.{doing_leads}
 use Rattle.run_requests.specs.Guards.{Command}
-use Rattle.run_requests.specs.Steps.{PendingSo}
+use Rattle.run_requests.specs.Steps.{CarriedSo, PendingSo}
 use Rattle.run_requests.proofs.Causes.{ReadsAnswers}
 use Rattle.run_requests.proofs.Changes.{Changed}
 use Rattle.run_requests.proofs.Queues.{Queued}
@@ -169,7 +168,7 @@ pub command_leaves : (S : Setting) (c : Cluster) (n : ℕ) (replies : List Reply
     → Holds (setting_of c) M → NodeTied c M n disk (Up x) → MayAll c n None (site (Up x) disk) (under replies (cuts.command_course c n x words)) → AllSmall (under replies (cuts.command_course c n x words))
     → AreCollected false (under replies (cuts.command_course c n x words)) → in_collect n s.moments ≡ false
     → AreGood n (given_all c n (site (Up x) disk) (under replies (cuts.command_course c n x words))) → IsSeated s.moments n (Up x) → x.requests.asked < 2 ^ 64 - 1
-    → slice_get s.moments 0 ≡ Some (gives_line n words) → UpSo S n x.requests.asked x s.moments → CarriedUpdates S s.moments
+    → slice_get s.moments 0 ≡ Some (gives_line n words) → UpSo S n x.requests.asked x s.moments → CarriedSo S s.moments
     → Leaves S n (next_number x.requests) (after_all c n (site (Up x) disk) (under replies (cuts.command_course c n x words))).node
     (given_all c n (site (Up x) disk) (under replies (cuts.command_course c n x words))) s
 command_leaves S c n replies M x disk words s exact reads fits holds tied may small calm at good seated room first up carried =

@@ -5,7 +5,6 @@ use Rattle.std.proofs.Common.{refl, sym, ap, subst, ◌∙◌, inl, inr}
 use Rattle.cmm_member.specs.Records.{NodeRecord}
 use Rattle.membership_machine.specs.Invariant.{Holds}
 use Rattle.membership_machine.specs.State.{Memberships}
-use Rattle.history.specs.Contents.{CarriedUpdates}
 use Rattle.history.specs.Member.{member_of}
 use Rattle.history.specs.Setting.{Setting, coordinator}
 use Rattle.node_model.specs.declared.cluster.Cluster.{Cluster}
@@ -38,6 +37,7 @@ use Rattle.wire.specs.declared.message.Body.{Body}
 use Rattle.wire.specs.declared.message.Body.TheVariants as body
 use Rattle.refinement.specs.Doings.{write_lines}
 use Rattle.run_requests.specs.Guards.{BodyAsk, OutputAsk}
+use Rattle.run_requests.specs.Steps.{CarriedSo}
 use Rattle.run_requests.proofs.Causes.{AnswerOwn}
 use Rattle.run_requests.proofs.Flying.{OwnOutput}
 use Rattle.run_history.proofs.Small.{IsSmallAct}
@@ -54,7 +54,7 @@ use Rattle.run_requests.proofs.Leaving.{ChangeLeaves, change_leaves, change_line
 
 pub record ActLeaves (S : Setting) (n : ℕ) (o : Option Command) (h : Option ℕ) (last : ℕ) (y : UpNode) (os : List Output) (s : Scene) : Type 0 where
   pub acted_to : Changed S n o h last y (passing n os s).moments
-  pub carried : CarriedUpdates S (passing n os s).moments
+  pub carried : CarriedSo S (passing n os s).moments
   pub apart : (k : ℕ) → k ≢ n → AreApart k os
   pub answers : AllByRecursion (OwnOutput n) os
 

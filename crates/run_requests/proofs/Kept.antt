@@ -9,7 +9,6 @@ use Rattle.machine_base.specs.Put.{put}
 use Rattle.machine_base.proofs.Puts.{put_here, put_there, same_or_not}
 use Rattle.membership_machine.specs.Invariant.{Holds}
 use Rattle.membership_machine.specs.State.{Memberships}
-use Rattle.history.specs.Contents.{CarriedUpdates, CarriesUpdate}
 use Rattle.history.specs.Member.{in_collect}
 use Rattle.history.specs.Moment.{Moment, lines_of}
 use Rattle.history.specs.Setting.{Setting}
@@ -42,7 +41,7 @@ use Rattle.run_messages.proofs.Runs.{Knows}
 use Rattle.run_messages.specs.Laws.{IsSeated}
 use Rattle.run_messages.specs.Outputs.{AreGood}
 use Rattle.run_messages.specs.Steps.{collecting}
-use Rattle.run_requests.specs.Steps.{used_lines}
+use Rattle.run_requests.specs.Steps.{CarriedSo, CarriesSo, used_lines}
 use Rattle.run_requests.proofs.Acts.{pending_each}
 use Rattle.run_requests.proofs.Causes.{CameSo, PresidentAt, president_at}
 use Rattle.run_requests.proofs.Counts.{more_used, passing_used, then_le}
@@ -60,7 +59,7 @@ NodeFits S k ms (Up x) = UpSo S k x.requests.asked x ms × (x.requests.asked ≤
 
 pub record Carries (S : Setting) (v : Nodes) (ms : List Moment) (l : Links) : Type 0 where
   pub nodes : (k : ℕ) → NodeFits S k ms (v.node k)
-  pub carried : CarriedUpdates S ms
+  pub carried : CarriedSo S ms
   pub flying : Flying ms l
 
 abbrev pub CarriesIn : Setting → Scene → Type 0
@@ -81,7 +80,7 @@ node_stays S c M k disk Down before after tied f used h = tt
 node_stays S c M k disk (Up x) before after tied f used h = up_stays S k x before after (president_at M k x tied.1) f used h
 
 -- a moment in which no node does anything
-pub moment_carries : (S : Setting) (c : Cluster) (v : Nodes) (m : Moment) (ms : List Moment) (l more : Links) → Knows c v → ((k : ℕ) → SameAsk S k ms (m ∷ ms)) → CarriesUpdate S ms m → Flying (m ∷ ms) more
+pub moment_carries : (S : Setting) (c : Cluster) (v : Nodes) (m : Moment) (ms : List Moment) (l more : Links) → Knows c v → ((k : ℕ) → SameAsk S k ms (m ∷ ms)) → CarriesSo S ms m → Flying (m ∷ ms) more
     → Carries S v ms l → Carries S v (m ∷ ms) more
 moment_carries S c v m ms l more k same here flying h = record {
   nodes = λ j. node_stays S c k.machine j (v.disk j).kept (v.node j) ms (m ∷ ms) (k.stands j).tied (same j) (more_used ms) (h.nodes j);
@@ -94,7 +93,7 @@ moment_carries S c v m ms l more k same here flying h = record {
 step_by : (S : Setting) (c : Cluster) (n now : ℕ) (ends : method.Outcome) (i : Input) (replies : List Reply) (node : Node) (disk : NodeRecord) (M : Memberships) (s : Scene) → Reads c S → n ≤ 32
     → All IsDevice c.attached → Holds (setting_of c) M → Known M (delivered_by i) → Stands c M n node disk → in_collect n s.moments ≡ collecting (delivered_by i)
     → AreGood n (given_all c n (site node disk) (doings c n now ends replies i node)) → IsSeated s.moments n node → IsSaid s.moments n i → CameSo i n s.moments → length (lines_of s.moments) < 2 ^ 63
-    → NodeFits S n s.moments node → CarriedUpdates S s.moments
+    → NodeFits S n s.moments node → CarriedSo S s.moments
     → Stepped S n (after_all c n (site node disk) (doings c n now ends replies i node)).node (given_all c n (site node disk) (doings c n now ends replies i node)) s
 step_by S c n now ends i replies Down disk M s reads low fits holds known stands at good seated said came few h carried = down_step S c n i replies disk s carried
 step_by S c n now ends i replies (Up x) disk M s reads low fits holds known stands at good seated said came few h carried =
@@ -115,7 +114,7 @@ step_by S c n now ends i replies (Up x) disk M s reads low fits holds known stan
 
 pub step_leaves : (S : Setting) (c : Cluster) (v : Nodes) (n now : ℕ) (ends : method.Outcome) (i : Input) (s : Scene) → Reads c S → n ≤ 32 → All IsDevice c.attached → (k : Knows c v) → Known k.machine (delivered_by i)
     → in_collect n s.moments ≡ collecting (delivered_by i) → AreGood n (given_by c n now ends i v) → IsSeated s.moments n (v.node n) → IsSaid s.moments n i → CameSo i n s.moments
-    → length (lines_of s.moments) < 2 ^ 63 → NodeFits S n s.moments (v.node n) → CarriedUpdates S s.moments
+    → length (lines_of s.moments) < 2 ^ 63 → NodeFits S n s.moments (v.node n) → CarriedSo S s.moments
     → (let o : Outcome DiskState = stepped disk_rules c n now ends (v.node n) (v.disk n) i in Stepped S n o.after o.given s)
 step_leaves S c v n now ends i s reads low fits k known at good seated said came few h carried =
     let o : Outcome DiskState = stepped disk_rules c n now ends (v.node n) (v.disk n) i in

@@ -1,4 +1,4 @@
--- The setting of a header reads words and answers as its nodes do, so the law holds of it.
+-- The setting of a header reads words and answers as its nodes do, so the laws hold of it.
 use Rattle.std.specs.Prelude.{ℕ, ◌≡◌, List, Some}
 use Rattle.std.proofs.Common.{ap, ◌∙◌}
 use Rattle.ccr_tables.specs.declared.command.AdminCommand.{AdminCommand}
@@ -7,10 +7,10 @@ use Rattle.cl_base.specs.declared.header.Header.{Header}
 use Rattle.cmm_attempt.proofs.Basics.{none_some}
 use Rattle.history_setting.specs.Settings.{canonical_in, canonical_words, setting_of}
 use Rattle.world_model.specs.First.{first_cluster}
-use Rattle.run_requests.specs.Laws.{UpdatesOfEachRun}
+use Rattle.run_requests.specs.Laws.{RepliesOfEachRun, UpdatesOfEachRun}
 use Rattle.run_requests.proofs.Asides.{text_of}
 use Rattle.run_requests.proofs.Commands.{ReadsRequests}
-use Rattle.run_requests.proofs.Runs.{carried_in_each}
+use Rattle.run_requests.proofs.Runs.{carried_in_each, replies_in_each}
 use Rattle.run_requests.proofs.Steps.{Reads}
 use Rattle.run_requests.proofs.Texts.{answers_read}
 
@@ -29,3 +29,6 @@ reads h = record { answers = answers_read h; requests = requests_read h }
 
 pub updates_of_each_run : UpdatesOfEachRun
 updates_of_each_run h cells hs few small may lines = carried_in_each (setting_of h) h cells hs (reads h) (record { few = few; small = small }) may lines
+
+pub replies_of_each_run : RepliesOfEachRun
+replies_of_each_run h cells hs few small may lines = replies_in_each (setting_of h) h cells hs (reads h) (record { few = few; small = small }) may lines

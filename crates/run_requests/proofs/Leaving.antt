@@ -11,7 +11,6 @@ use Rattle.status_report.specs.declared.entry.Entry.TheVariants as entry
 use Rattle.status_report.specs.declared.node_entry.DownCause.{DownCause}
 use Rattle.status_report.specs.declared.node_entry.NodeEntry.TheVariants as note
 use Rattle.status_report.specs.declared.update_entry.UpdateEntry.TheVariants as update
-use Rattle.history.specs.Contents.{CarriedUpdates}
 use Rattle.history.specs.Moment.{Moment, Told}
 use Rattle.history.specs.Setting.{Setting, coordinator}
 use Rattle.node_model.specs.declared.cluster.Cluster.{Cluster}
@@ -32,7 +31,7 @@ use Rattle.run_requests.proofs.Flying.{OwnOutput}
 use Rattle.run_history.specs.Scenes.{Scene, passing}
 use Rattle.run_messages.specs.Laws.{membership_in}
 use Rattle.run_requests.specs.Guards.{ChangeAsk, Command, hand_change}
-use Rattle.run_requests.specs.Steps.{PendingSo}
+use Rattle.run_requests.specs.Steps.{CarriedSo, PendingSo}
 use Rattle.run_requests.proofs.Acts.{Before, hand_each, now_each, pending_each}
 use Rattle.run_requests.proofs.Carried.{IsMute, passing_mute}
 use Rattle.run_requests.proofs.Causes.{PresidentAt}
@@ -55,7 +54,7 @@ NodeSo S n last (Up x) ms = UpSo S n last x ms
 -- after these outputs of node n, which is so then
 pub record Leaves (S : Setting) (n last : ℕ) (node : Node) (os : List Output) (s : Scene) : Type 0 where
   pub own : NodeSo S n last node (passing n os s).moments
-  pub carried : CarriedUpdates S (passing n os s).moments
+  pub carried : CarriedSo S (passing n os s).moments
   pub apart : (k : ℕ) → k ≢ n → AreApart k os
   pub answers : AllByRecursion (OwnOutput n) os
 
@@ -70,7 +69,7 @@ mutes_own n (Sends to b ∷ os) h = absurd h.0
 none_down : (n k : ℕ) (why : DownCause) → AreApart k (gone_line n why)
 none_down n k why = (tt, tt)
 
-pub down_ends : (S : Setting) (n last : ℕ) (os : List Output) (why : DownCause) (s : Scene) → AllByRecursion IsMute os → ((k : ℕ) → k ≢ n → AreApart k os) → CarriedUpdates S s.moments
+pub down_ends : (S : Setting) (n last : ℕ) (os : List Output) (why : DownCause) (s : Scene) → AllByRecursion IsMute os → ((k : ℕ) → k ≢ n → AreApart k os) → CarriedSo S s.moments
     → Leaves S n last Down (os ++ gone_line n why) s
 down_ends S n last os why s mute apart carried = record {
   own = tt;
@@ -214,7 +213,7 @@ after_change S c n told i o h x change middle s may saving b = by_kind (silent_o
 
 pub record ChangeLeaves (S : Setting) (n : ℕ) (o : Option Command) (h : Option ℕ) (last : ℕ) (y : UpNode) (os : List Output) (s : Scene) : Type 0 where
   pub changed_to : Changed S n o h last y (passing n os s).moments
-  pub carried : CarriedUpdates S (passing n os s).moments
+  pub carried : CarriedSo S (passing n os s).moments
   pub apart : (k : ℕ) → k ≢ n → AreApart k os
   pub answers : AllByRecursion (OwnOutput n) os
 

@@ -45,6 +45,9 @@ use Rattle.run_messages.proofs.Reaching.{IsReached, IsSmall, holds_of_each, stag
 use Rattle.run_messages.proofs.Runs.{Knows, memberships_of_each_run}
 use Rattle.run_messages.specs.Laws.{AreSeated, IsSeated}
 use Rattle.run_messages.specs.Steps.{collecting}
+use Rattle.run_requests.specs.Replies.{AnswersAreMembers}
+use Rattle.run_requests.specs.Steps.{CarriedSo}
+use Rattle.run_requests.proofs.Carried.{replies_in, updates_in}
 use Rattle.run_requests.proofs.Causes.{CameSo}
 use Rattle.run_requests.proofs.Counts.{dropped_used, few_longer, passing_used}
 use Rattle.run_requests.proofs.Flying.{arrived_so, flying_stays, removing_posted, repeated_posted}
@@ -238,7 +241,15 @@ carries_kept S h cells reads size s x may at more keeps few =
 pub carries_of : (S : Setting) (h : Header) (cells : ℕ) (s : Scene) → Reads (first_cluster h) S → IsSmall h → IsReached h cells s → Keeps S s
 carries_of S h cells s reads size r = subst (Keeps S) r.is (holds_of_each h cells (Keeps S) (carries_kept S h cells reads size) (λ first. first_carries S h cells) r.happenings r.may)
 
+carried_so : (S : Setting) (h : Header) (cells : ℕ) (hs : List Happening) → Reads (first_cluster h) S → IsSmall h → MayAllHappen (first_cluster h) (first_scene h cells) hs
+    → FewLines (all_happened (first_cluster h) (first_scene h cells) hs).moments → CarriedSo S (all_happened (first_cluster h) (first_scene h cells) hs).moments
+carried_so S h cells hs reads size may few =
+    (holds_of_each h cells (Keeps S) (carries_kept S h cells reads size) (λ first. first_carries S h cells) hs may few).carried
+
 pub carried_in_each : (S : Setting) (h : Header) (cells : ℕ) (hs : List Happening) → Reads (first_cluster h) S → IsSmall h → MayAllHappen (first_cluster h) (first_scene h cells) hs
     → FewLines (all_happened (first_cluster h) (first_scene h cells) hs).moments → CarriedUpdates S (all_happened (first_cluster h) (first_scene h cells) hs).moments
-carried_in_each S h cells hs reads size may few =
-    (holds_of_each h cells (Keeps S) (carries_kept S h cells reads size) (λ first. first_carries S h cells) hs may few).carried
+carried_in_each S h cells hs reads size may few = updates_in S (all_happened (first_cluster h) (first_scene h cells) hs).moments (carried_so S h cells hs reads size may few)
+
+pub replies_in_each : (S : Setting) (h : Header) (cells : ℕ) (hs : List Happening) → Reads (first_cluster h) S → IsSmall h → MayAllHappen (first_cluster h) (first_scene h cells) hs
+    → FewLines (all_happened (first_cluster h) (first_scene h cells) hs).moments → AnswersAreMembers (all_happened (first_cluster h) (first_scene h cells) hs).moments
+replies_in_each S h cells hs reads size may few = replies_in S (all_happened (first_cluster h) (first_scene h cells) hs).moments (carried_so S h cells hs reads size may few)

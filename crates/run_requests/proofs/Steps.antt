@@ -4,7 +4,6 @@ use Rattle.std.proofs.Common.{refl, sym, arith}
 use Rattle.cl_base.specs.declared.method.Outcome as method
 use Rattle.cmm_attempt.specs.Calls.{IsDevice}
 use Rattle.cmm_member.specs.Records.{NodeRecord}
-use Rattle.history.specs.Contents.{CarriedUpdates}
 use Rattle.history.specs.Moment.{Moment, lines_of}
 use Rattle.history.specs.Setting.{Setting}
 use Rattle.node_model.specs.declared.cluster.Cluster.{Cluster}
@@ -36,7 +35,7 @@ use Rattle.status_report.specs.declared.node_entry.DownCause.TheVariants as down
 use Rattle.status_report.specs.declared.node_entry.NodeEntry.TheVariants as note
 use Rattle.run_history.specs.Happenings.{IsSaid}
 use Rattle.run_history.specs.Scenes.{Scene, passing}
-use Rattle.run_requests.specs.Steps.{Counted, used_lines}
+use Rattle.run_requests.specs.Steps.{CarriedSo, Counted, used_lines}
 use Rattle.run_requests.proofs.Acting.{Ready, ready_act}
 use Rattle.run_requests.proofs.Boots.{boot_so, plain_leaves}
 use Rattle.run_requests.proofs.Causes.{CameSo, ReadsAnswers}
@@ -60,7 +59,7 @@ none_used : (k : ℕ) → 0 ≤ k
 none_used k = omega arith
 
 plain_step : (S : Setting) (c : Cluster) (n now : ℕ) (ends : method.Outcome) (i : Input) (replies : List Reply) (x : UpNode) (disk : NodeRecord) (s : Scene) → ReadsAnswers S → All IsDevice c.attached
-    → IsNoCommand c n i None i → Ready c n (delivered_by i) x disk (under replies (course_at c n now ends x i)) s → UpSo S n x.requests.asked x s.moments → CarriedUpdates S s.moments → CameSo i n s.moments
+    → IsNoCommand c n i None i → Ready c n (delivered_by i) x disk (under replies (course_at c n now ends x i)) s → UpSo S n x.requests.asked x s.moments → CarriedSo S s.moments → CameSo i n s.moments
     → Counted x.requests.asked s.moments
     → Stepped S n (after_all c n (site (Up x) disk) (under replies (course_at c n now ends x i))).node (given_all c n (site (Up x) disk) (under replies (course_at c n now ends x i))) s
 plain_step S c n now ends i replies x disk s exact fits plain r up carried came k =
@@ -75,7 +74,7 @@ up_dated : (S : Setting) (n now : ℕ) (x : UpNode) (ms : List Moment) → UpSo 
 up_dated S n now x ms up = record { last_so = refl; queued = up.queued; pending = λ text so is. up.pending text so is }
 
 pub up_step : (S : Setting) (c : Cluster) (n now : ℕ) (ends : method.Outcome) (i : Input) (replies : List Reply) (x : UpNode) (disk : NodeRecord) (s : Scene) → Reads c S → All IsDevice c.attached
-    → IsSaid s.moments n i → Ready c n (delivered_by i) x disk (under replies (course_at c n now ends x i)) s → UpSo S n x.requests.asked x s.moments → CarriedUpdates S s.moments → CameSo i n s.moments
+    → IsSaid s.moments n i → Ready c n (delivered_by i) x disk (under replies (course_at c n now ends x i)) s → UpSo S n x.requests.asked x s.moments → CarriedSo S s.moments → CameSo i n s.moments
     → Counted x.requests.asked s.moments
     → Stepped S n (after_all c n (site (Up x) disk) (under replies (course_at c n now ends x i))).node (given_all c n (site (Up x) disk) (under replies (course_at c n now ends x i))) s
 up_step S c n now ends (input.Commanded words) replies x disk s reads fits said r up carried came k =
@@ -107,21 +106,21 @@ up_step S c n now ends (input.Client name client port) replies x disk s reads fi
 
 -- ---- a node that is down
 
-boot_ends : (S : Setting) (n : ℕ) (why : DownCause) (s : Scene) → CarriedUpdates S s.moments → Stepped S n Down (of_node n note.Up ∷ gone_line n why) s
+boot_ends : (S : Setting) (n : ℕ) (why : DownCause) (s : Scene) → CarriedSo S s.moments → Stepped S n Down (of_node n note.Up ∷ gone_line n why) s
 boot_ends S n why s carried =
     record { last = 0; left = down_ends S n 0 (of_node n note.Up ∷ []) why s (tt, tt) (λ k ne. (λ same. ne (sym same), tt)) carried; low = none_used (used_lines (passing n (of_node n note.Up ∷ gone_line n why) s).moments) }
 
-booted : (S : Setting) (c : Cluster) (n : ℕ) (replies : List Reply) (disk : NodeRecord) (s : Scene) → CarriedUpdates S s.moments
+booted : (S : Setting) (c : Cluster) (n : ℕ) (replies : List Reply) (disk : NodeRecord) (s : Scene) → CarriedSo S s.moments
     → Stepped S n (after_all c n (site Down disk) (cuts.boot_doings replies)).node (given_all c n (site Down disk) (cuts.boot_doings replies)) s
 booted S c n [] disk s carried = boot_ends S n down.Stopped s carried
 booted S c n (Done ∷ replies) disk s carried = record { last = 0; left = boot_so S c n disk s carried; low = none_used (used_lines (passing n (of_node n note.Up ∷ []) s).moments) }
 booted S c n (Lost_new why ∷ replies) disk s carried = boot_ends S n why s carried
 booted S c n (Lost_old why ∷ replies) disk s carried = boot_ends S n why s carried
 
-nothing_taken : (S : Setting) (n : ℕ) (s : Scene) → CarriedUpdates S s.moments → Stepped S n Down [] s
+nothing_taken : (S : Setting) (n : ℕ) (s : Scene) → CarriedSo S s.moments → Stepped S n Down [] s
 nothing_taken S n s carried = record { last = 0; left = record { own = tt; carried = carried; apart = λ k ne. tt; answers = tt }; low = none_used (used_lines s.moments) }
 
-pub down_step : (S : Setting) (c : Cluster) (n : ℕ) (i : Input) (replies : List Reply) (disk : NodeRecord) (s : Scene) → CarriedUpdates S s.moments
+pub down_step : (S : Setting) (c : Cluster) (n : ℕ) (i : Input) (replies : List Reply) (disk : NodeRecord) (s : Scene) → CarriedSo S s.moments
     → Stepped S n (after_all c n (site Down disk) (down_doings replies i)).node (given_all c n (site Down disk) (down_doings replies i)) s
 down_step S c n input.Boot replies disk s carried = booted S c n replies disk s carried
 down_step S c n input.Crash replies disk s carried = nothing_taken S n s carried

@@ -8,7 +8,6 @@ use Rattle.membership_machine.specs.Invariant.{Holds}
 use Rattle.membership_machine.specs.State.{Memberships}
 use Rattle.status_report.specs.declared.node_entry.DownCause.{DownCause}
 use Rattle.status_report.specs.declared.node_entry.NodeEntry.TheVariants as note
-use Rattle.history.specs.Contents.{CarriedUpdates}
 use Rattle.history.specs.Member.{in_collect}
 use Rattle.history.specs.Moment.{Moment}
 use Rattle.history.specs.Setting.{Setting}
@@ -38,6 +37,7 @@ use Rattle.run_messages.specs.Steps.{AreCollected, Leads as Leads_so, collecting
 use Rattle.run_messages.proofs.Doings.{collects_after, doing_leads, first_good, then_good}
 use Rattle.run_messages.proofs.Lines.{passing_arrived}
 use Rattle.run_requests.specs.Guards.{Command, GoesAsk, hand_act, hand_change}
+use Rattle.run_requests.specs.Steps.{CarriedSo}
 use Rattle.run_requests.proofs.Acts.{Before}
 use Rattle.run_requests.proofs.Causes.{CameSo, PresidentAt, ReadsAnswers, came_stays, president_at}
 use Rattle.run_requests.proofs.Changes.{Changed}
@@ -50,7 +50,7 @@ use Rattle.run_requests.proofs.Leaving.{ChangeLeaves, Leaves, NodeSo, change_lea
 -- what is known between two small steps, but for the machine
 pub record Between (S : Setting) (n : ℕ) (i : Input) (o : Option Command) (h : Option ℕ) (last : ℕ) (x : UpNode) (s : Scene) : Type 0 where
   pub so : Changed S n o h last x s.moments
-  pub carried : CarriedUpdates S s.moments
+  pub carried : CarriedSo S s.moments
   pub came : CameSo i n s.moments
 
 pub before_of : (S : Setting) (c : Cluster) (M : Memberships) (n : ℕ) (i : Input) (o : Option Command) (h : Option ℕ) (last : ℕ) (x : UpNode) (disk : NodeRecord) (s : Scene) → NodeTied c M n disk (Up x) → Between S n i o h last x s
@@ -68,7 +68,7 @@ before_of S c M n i o h last x disk s tied b = record {
 pub then_leaves : (S : Setting) (n last : ℕ) (node : Node) (os more : List Output) (s : Scene) → ((k : ℕ) → k ≢ n → AreApart k os) → AllByRecursion (OwnOutput n) os → Leaves S n last node more (passing n os s) → Leaves S n last node (os ++ more) s
 then_leaves S n last node os more s apart own r = record {
   own = subst (λ (z : Scene). NodeSo S n last node z.moments) (sym (passing_append n os more s)) r.own;
-  carried = subst (λ (z : Scene). CarriedUpdates S z.moments) (sym (passing_append n os more s)) r.carried;
+  carried = subst (λ (z : Scene). CarriedSo S z.moments) (sym (passing_append n os more s)) r.carried;
   apart = λ k ne. both _ os more (apart k ne) (r.apart k ne);
   answers = both _ os more own r.answers;
 }
@@ -77,7 +77,7 @@ stays_up : (S : Setting) (n : ℕ) (i : Input) (o : Option Command) (h : Option 
 stays_up S n i o h last x s b = record { own = record { last_so = b.so.last_so; queued = b.so.queued; pending = b.so.pending }; carried = b.carried; apart = λ k ne. tt; answers = tt }
 
 falls : (S : Setting) (c : Cluster) (n last : ℕ) (told : Delivered) (x : UpNode) (change : Change) (why : DownCause) (s : Scene) → MayChange c n told x change → (is_some x.presidency ≡ true → PresidentAt x n)
-    → CarriedUpdates S s.moments → Leaves S n last Down ((first_lines n change ++ gone_line n why) ++ []) s
+    → CarriedSo S s.moments → Leaves S n last Down ((first_lines n change ++ gone_line n why) ++ []) s
 falls S c n last told x change why s may president carried =
     let d : Leaves S n last Down (first_lines n change ++ gone_line n why) s = down_ends S n last (first_lines n change) why s (first_mute n change) (first_apart c n told x change may president) carried in
     then_leaves S n last Down (first_lines n change ++ gone_line n why) [] s d.apart d.answers (record { own = tt; carried = d.carried; apart = λ k ne. tt; answers = tt })

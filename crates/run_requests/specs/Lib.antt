@@ -1,4 +1,5 @@
 -- what a reader must believe
+pub mod Replies
 pub mod Laws
 -- what only the proofs need
 pub mod Guards

@@ -1,13 +1,25 @@
 -- What a small step of a node leaves of its requests, and of what messages carry.
 use Rattle.std.specs.Prelude.{ℕ, ◌≡◌, ◌≤◌, ◌<◌, ◌^◌, true, List, [], ◌∷◌, length, Option, Some, IfSome, is_some}
-use Rattle.history.specs.Contents.{proposed_at}
+use Rattle.history.specs.Contents.{CarriesUpdate, proposed_at}
 use Rattle.history.specs.Member.{member_of}
 use Rattle.history.specs.Moment.{Moment, lines_of}
+use Rattle.history.specs.Order.{Always}
 use Rattle.history.specs.Requests.{before_asking}
+use Rattle.history.specs.Setting.{Setting}
+use Rattle.history.specs.Trace.{answered}
 use Rattle.node_model.specs.Presidents.{last_place}
 use Rattle.node_model.specs.Seats.{record_of, session_of}
 use Rattle.node_model.specs.declared.node.UpNode.{UpNode}
 use Rattle.run_messages.specs.Laws.{membership_in}
+use Rattle.run_requests.specs.Replies.{IsMembers}
+
+-- a line carries what it is to carry, and an answer `ok` is a member's
+abbrev pub CarriesSo : Setting → List Moment → Moment → Type 0
+CarriesSo S before (answered n q reply) = CarriesUpdate S before (answered n q reply) × IsMembers before (answered n q reply)
+CarriesSo S before x = CarriesUpdate S before x
+
+abbrev pub CarriedSo : Setting → List Moment → Type 0
+CarriedSo S moments = Always (CarriesSo S) moments
 
 -- what a president has pending was proposed, at its last place
 abbrev pub PendingSo : List Moment → UpNode → Type 0

@@ -6,8 +6,7 @@ ghost use Rattle.sequencer.specs.Loads.{brought, is_too_much, others_load};
 
 use crate::groups::is_group_up;
 use cl_base::{Name, NodeId};
-use load_limits::{Factor, Limit, Limits};
-use placement::load_of;
+use load_limits::{Factor, Limit, Limits, load_of};
 use rg_props::Groups;
 use rg_view::GroupView;
 

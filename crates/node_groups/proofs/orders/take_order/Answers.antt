@@ -1,4 +1,4 @@
-use Rattle.node_groups.specs.Obeying.{left_so}
+use Rattle.node_model.specs.Left.{left_so}
 use Rattle.node_groups.proofs.CarriedOut.{order_taken}
 use Rattle.node_groups.proofs.orders.take_order.Goals as goal
 

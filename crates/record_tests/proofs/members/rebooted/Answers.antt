@@ -4,7 +4,7 @@ use Rattle.cmm_member.proofs.RowLemmas.{record_text}
 use Rattle.record_tests.proofs.members.rebooted.Goals as goal
 
 pub boot-requires : goal.boot-requires
-boot-requires g c =
+boot-requires c =
     let table : AreRows c.in_ok-rows.rows = search rules in
     let fits : c.args.saves < 2 ^ 64 = omega arith in
     record {

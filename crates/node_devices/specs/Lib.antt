@@ -1,2 +1,0 @@
--- what only the proofs need
-pub mod Left

@@ -1,0 +1,17 @@
+pub mod Staid
+pub mod Courses
+pub mod Views
+pub mod Mild
+pub mod Ages
+pub mod Sets
+pub mod Alike
+pub mod Ticks
+pub mod Walk
+pub mod Begins
+pub mod Steps
+pub mod Configured
+pub mod Known
+pub mod Tried
+pub mod Installs
+pub mod Members
+pub mod Runs

@@ -1,0 +1,5 @@
+use Rattle.run_attempts.proofs.Runs as proof
+use Rattle.run_attempts.proofs.beats_are_due_in_each_run.Goals as goal
+
+pub returns : goal.returns
+returns c = proof.beats_are_due_in_each_run

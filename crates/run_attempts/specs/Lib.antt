@@ -1,0 +1,7 @@
+-- what a reader must believe
+pub mod Laws
+-- what only the proofs need
+pub mod Heard
+pub mod Judged
+pub mod Members
+pub mod Steps

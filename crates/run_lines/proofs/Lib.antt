@@ -1,0 +1,5 @@
+pub mod Adds
+pub mod Outputs
+pub mod Answered
+pub mod Steps
+pub mod Runs
