@@ -1,7 +1,7 @@
 -- What the nodes know of their cluster.
-use Rattle.std.specs.Prelude.{ℕ, ◌==◌, ◌&&◌, Bool, List, bit_or, if◌then◌else◌}
+use Rattle.std.specs.Prelude.{ℕ, ◌==◌, ◌&&◌, Bool, List, bit_or, fold, if◌then◌else◌}
 use Rattle.std.specs.List.{list_any}
-use Rattle.cl_base.specs.Sets.{has}
+use Rattle.cl_base.specs.Sets.{has, set_with}
 use Rattle.cmm_attempt.specs.declared.attached.AttachedDevice.{AttachedDevice}
 use Rattle.node_model.specs.declared.cluster.Cluster.{Cluster}
 
@@ -13,6 +13,9 @@ has_path attached n d = list_any (λ a. (a.device == d) && has a.nodes n) attach
 abbrev pub is_within : ℕ → ℕ → Bool
 is_within set all = bit_or set all == all
 
--- the devices that are valid to a node before its first record: the quorum devices where it is configured at first, else none
+-- whether a device is valid to a node before its first record: a quorum device to which it has a path, where it is configured at first
+abbrev pub is_first_valid : Cluster → ℕ → AttachedDevice → Bool
+is_first_valid c me a = has c.configured me && has c.first_valid a.device && has a.nodes me
+
 abbrev pub first_valid_of : Cluster → ℕ → ℕ
-first_valid_of c me = if has c.configured me then c.first_valid else 0
+first_valid_of c me = fold (λ set a. if is_first_valid c me a then set_with set a.device else set) 0 c.attached

@@ -1,9 +1,9 @@
 ghost use Rattle.std.specs.Prelude.{◌≡◌};
-ghost use Rattle.node_model.specs.Clusters.{first_valid_of, has_path, is_within};
+ghost use Rattle.node_model.specs.Clusters.{first_valid_of, has_path, is_first_valid, is_within};
 
 use crate::first_header::FirstHeader;
 use cl_base::{DevId, DevSet, NodeId, NodeSet};
-use cmm_attempt::AttachedDevices;
+use cmm_attempt::{AttachedDevice, AttachedDevices};
 use quorum_votes::Votes;
 
 /// What every node knows of its cluster from the beginning.
@@ -21,7 +21,7 @@ pub struct Cluster {
     pub devices: DevSet,
     /// These devices, by number, and the nodes that have a path to each.
     pub attached: AttachedDevices,
-    /// The devices that are valid to each configured node before its first record: the quorum devices.
+    /// The devices that are valid before its first record to each configured node with a path: the quorum devices.
     pub first_valid: DevSet,
     /// The votes at first.
     pub votes: Votes,
@@ -42,11 +42,20 @@ impl Cluster {
     pub fn first_valid_of(&self, me: NodeId) -> DevSet
         ensures value { result ≡ first_valid_of self.now me }
     {
-        if self.configured.has(me) {
-            self.first_valid
-        } else {
-            DevSet::empty()
-        }
+        let none = DevSet::empty();
+        self.attached.items().iter().fold(none, |set, a| {
+            if self.is_first_valid(me, a) {
+                set.with(a.device)
+            } else {
+                set
+            }
+        })
+    }
+
+    fn is_first_valid(&self, me: NodeId, a: &AttachedDevice) -> bool
+        ensures { result ≡ is_first_valid self.now me a.now }
+    {
+        self.configured.has(me) && self.first_valid.has(a.device) && a.nodes.has(me)
     }
 
     /// Whether each of these nodes is there.

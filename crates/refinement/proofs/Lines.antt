@@ -11,8 +11,6 @@ use Rattle.agents.specs.Calls.{AgentState}
 use Rattle.cl_base.specs.Limits.{most_nodes}
 use Rattle.cl_base.specs.Numbers.{numbers_to}
 use Rattle.cl_base.specs.Sets.{has}
-use Rattle.cl_base.specs.declared.header.DeviceKind.{DeviceKind}
-use Rattle.cl_base.specs.declared.header.DeviceKind.TheVariants.{Data, Quorum, Server}
 use Rattle.cl_base.specs.declared.header.Header.{Header}
 use Rattle.cl_base.specs.declared.header.HeaderDevice.{HeaderDevice}
 use Rattle.cmm_attempt.specs.Calls.{IsDevice}
@@ -39,8 +37,6 @@ use Rattle.status_report.specs.declared.schedule_entry.SkipCause.{SkipCause}
 use Rattle.status_report.specs.declared.schedule_entry.SkipCause.TheVariants as skip
 use Rattle.wire.specs.declared.message.Message.{Message}
 use Rattle.wire.specs.Reads.{whole_of}
-use Rattle.wire.specs.Spelling as wire
-use Rattle.wire.specs.Spelling.{IsDevices}
 use Rattle.node_model.specs.Clusters.{first_valid_of}
 use Rattle.node_model.specs.declared.cluster.Cluster.{Cluster}
 use Rattle.node_model.specs.declared.input.Input.{Input}
@@ -53,14 +49,13 @@ use Rattle.world_model.specs.Sends.{giving, with_links}
 use Rattle.world_model.specs.Packets.{copying, delivering, delivering_as, losing, losing_as, repeating_as, repeating_one, taking, with_oldest}
 use Rattle.world_model.specs.Devices.{Commanded, Executed, commanded, commanded_at, doing_command, doing_due, due, executed, fault_at, on_disk, on_disk_due, with_fault, writing_at, writing_if}
 use Rattle.world_model.specs.Rounds.{bringing, bringing_all, bringing_below, doing_all, doing_one, doing_some, for_each, is_between, round_of, rounds, rounds_of, ticking_one}
-use Rattle.world_model.specs.First.{attached_from, first_cluster, first_device, first_disks, first_world, quorum_from, with_quorum}
+use Rattle.world_model.specs.First.{attached_from, first_cluster, first_device, first_disks, first_world}
 use Rattle.world_model.specs.Lines.{asking, asking_at, giving_up, left_by, line_on, monitors, on_packets, probing, probing_up, refusal_in, with_stop_at}
 use Rattle.node_widths.specs.Widths.{AnswerFits}
 use Rattle.refinement.specs.Runs.{AnswersFit, InTime, IsAmong, Nodes, WasSent, first_nodes, moved}
 use Rattle.refinement.specs.Runs.Move.{Arms}
 use Rattle.refinement.specs.Widths.{ClusterFits}
 use Rattle.refinement.specs.Worlds.{DeviceFits, DevicesFit, GivesFit, IsNamed, Keeps, PacketSent, Played, Shows, WorldRunsAreOne, lines_on}
-use Rattle.node_widths.proofs.Sets.{device_with}
 use Rattle.refinement.proofs.DeviceWidths.{first_devices_fit}
 use Rattle.refinement.proofs.EveryRun.{every_run_is_one}
 use Rattle.refinement.proofs.Widths.{devices_fit, gives_fit}
@@ -452,26 +447,6 @@ few_attached number ds h = subst (λ k. k ≤ 16) (sym (as_many number ds)) h
     as_many k [] = refl
     as_many k (e ∷ es) = ap suc (as_many (k + 1) es)
 
--- the quorum devices are devices
-quorum_one : (kind : DeviceKind) (number set : ℕ) → wire.IsDevice number → IsDevices set → IsDevices (with_quorum kind number set)
-quorum_one Data number set is h = h
-quorum_one Quorum number set is h = device_with set number h is
-quorum_one Server number set is h = h
-
-quorum_fits : (number : ℕ) (ds : List HeaderDevice) (set : ℕ) → 1 ≤ number → number + length ds ≤ 17 → IsDevices set → IsDevices (quorum_from number ds set)
-quorum_fits number [] set low high h = h
-quorum_fits number (d ∷ ds) set low high h =
-    quorum_fits (number + 1) ds (with_quorum d.kind number set) (more number) (same number (length ds) high) (quorum_one d.kind number set (low, below number (length ds) high) h)
-  where
-    below : (a b : ℕ) → a + suc b ≤ 17 → a ≤ 16
-    below a b k = omega arith
-
-    more : (a : ℕ) → 1 ≤ a + 1
-    more a = omega arith
-
-    same : (a b : ℕ) → a + suc b ≤ 17 → (a + 1) + b ≤ 17
-    same a b k = omega arith
-
 one_is_low : 1 ≤ 1
 one_is_low = omega arith
 
@@ -488,7 +463,6 @@ world_played h cells agents text events few devices small named =
     let c : Cluster = first_cluster h in
     let whole : ClusterFits c = record {
       devices = record { few = few_attached 1 h.devices devices; attached = attached_are h devices };
-      first_valid = quorum_fits 1 h.devices 0 one_is_low (numbers_high (length h.devices) devices) (omega arith);
     } in
     let gives : GivesFit c = gives_fit c whole in
     let fit : DevicesFit c = devices_fit c whole small in

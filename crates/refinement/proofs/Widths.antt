@@ -6,7 +6,7 @@ use Rattle.std.specs.List.{AllByRecursion}
 use Rattle.std.proofs.lemmas.Option.{slice_get_within}
 use Rattle.cl_base.specs.Keys.{key_of}
 use Rattle.cl_base.specs.declared.method.Outcome as method
-use Rattle.cmm_attempt.proofs.Basics.{none_some, same_some, if_either}
+use Rattle.cmm_attempt.proofs.Basics.{none_some, same_some}
 use Rattle.cmm_member.specs.Records.{NodeRecord}
 use Rattle.device_queue.specs.declared.task.Task.{Task}
 use Rattle.device_queue.specs.declared.task.Work.{Work}
@@ -27,8 +27,7 @@ use Rattle.status_report.specs.declared.node_entry.DownCause.{DownCause}
 use Rattle.status_report.specs.declared.entry.Entry.TheVariants as entry
 use Rattle.status_report.specs.declared.node_entry.NodeEntry.TheVariants as note
 use Rattle.wire.specs.declared.message.Body.{Body}
-use Rattle.wire.specs.Spelling.{IsDevices, IsNode}
-use Rattle.cl_base.specs.Sets.{has}
+use Rattle.wire.specs.Spelling.{IsNode}
 use Rattle.node_model.specs.Clusters.{first_valid_of}
 use Rattle.node_model.specs.declared.cluster.Cluster.{Cluster}
 use Rattle.node_model.specs.declared.input.Input.{Input}
@@ -47,6 +46,7 @@ use Rattle.node_widths.specs.Widths as widths
 use Rattle.node_widths.specs.Widths.{InputFits, NodeFits, RecordFits, TaskFits, UpFits, WorkFits}
 use Rattle.node_widths.proofs.Handlers.{steps_keep_widths}
 use Rattle.node_widths.proofs.Lengths.{sent_messages_fit}
+use Rattle.node_widths.proofs.Sets.{first_valid_fits}
 use Rattle.world_model.specs.Devices.{due_at}
 use Rattle.world_model.specs.Worlds.{node_at}
 use Rattle.refinement.specs.Runs.{AnswersFit, InTime, IsAmong, Letter, MayMove, Move, Moves, Nodes, WasSent, first_nodes, letters_of, moved}
@@ -196,7 +196,7 @@ fits_moves c fits v (m ∷ moves) w run time h = fits_moves c fits (moved c v m)
 run_fits : (c : Cluster) → ClusterFits c → (moves : List Move) (w : Nodes) → Moves c (first_nodes c) moves w → AllByRecursion InTime moves → RunFits c w
 run_fits c fits moves w run time = fits_moves c fits (first_nodes c) moves w run time (record {
   nodes = λ n. tt;
-  disks = λ n. record { promised = none_fits; installed = none_fits; members = omega arith; valid = if_either IsDevices (has c.configured n) c.first_valid 0 fits.first_valid (omega arith); places = none_fits };
+  disks = λ n. record { promised = none_fits; installed = none_fits; members = omega arith; valid = first_valid_fits c n fits.devices; places = none_fits };
   sent = tt;
 })
 

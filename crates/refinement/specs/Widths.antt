@@ -3,15 +3,14 @@ use Rattle.std.specs.Prelude.{ℕ, ◌<◌, ◌^◌, Option, None, Some}
 use Rattle.std.specs.List.{AllByRecursion}
 use Rattle.pgr_device.specs.declared.command.PrCommand.{PrCommand}
 use Rattle.pgr_device.specs.declared.command.PrCommand.TheVariants as command
-use Rattle.wire.specs.Spelling.{IsDevices, IsNode}
+use Rattle.wire.specs.Spelling.{IsNode}
 use Rattle.node_model.specs.declared.cluster.Cluster.{Cluster}
 use Rattle.node_widths.specs.Widths.{AreDevices, BodyFits, NodeFits, RecordFits}
 use Rattle.refinement.specs.Runs.{Letter, Nodes}
 
--- The cluster has at most 16 devices, of the numbers 1 to 16, and these alone are valid at first.
+-- The cluster has at most 16 devices, of the numbers 1 to 16.
 pub record ClusterFits (c : Cluster) : Type 0 where
   pub devices : AreDevices c
-  pub first_valid : IsDevices c.first_valid
 
 abbrev pub LetterFits : Letter → Type 0
 LetterFits l = IsNode l.from × BodyFits l.body

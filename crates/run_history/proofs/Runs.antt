@@ -3,20 +3,17 @@ use Rattle.std.specs.Prelude.{ℕ, suc, ◌+◌, ◌-◌, ◌≡◌, ◌≢◌, 
 use Rattle.std.proofs.Common.{refl, sym, ap, subst, ◌∙◌, arith, inl, inr}
 use Rattle.std.proofs.lemmas.List.Elements.{All-cons, All-nil}
 use Rattle.cl_base.specs.Limits.{most_devices}
-use Rattle.cl_base.specs.Sets.{has}
-use Rattle.cl_base.specs.declared.header.DeviceKind.{DeviceKind}
-use Rattle.cl_base.specs.declared.header.DeviceKind.TheVariants.{Data, Quorum, Server}
 use Rattle.cl_base.specs.declared.header.Header.{Header}
 use Rattle.cl_base.specs.declared.header.HeaderDevice.{HeaderDevice}
 use Rattle.cl_base.specs.declared.packet.DropCause.{DropCause}
 use Rattle.cl_base.specs.declared.packet.DropCause.TheVariants as drop
 use Rattle.cmm_attempt.specs.Calls.{IsDevice}
-use Rattle.cmm_attempt.proofs.Basics.{if_either, same_some}
+use Rattle.cmm_attempt.proofs.Basics.{same_some}
 use Rattle.cmm_member.specs.Records.{NodeRecord}
 use Rattle.machine_base.specs.Put.{put}
 use Rattle.machine_base.proofs.Puts.{put_here, put_there, same_or_not}
-use Rattle.node_widths.proofs.Sets.{device_with}
 use Rattle.node_widths.specs.Widths.{NodeFits}
+use Rattle.node_widths.proofs.Sets.{first_valid_fits}
 use Rattle.refinement.proofs.Lines.{few_attached}
 use Rattle.refinement.specs.Ties.{setting_of}
 use Rattle.interconnect.specs.Links as links
@@ -35,7 +32,6 @@ use Rattle.status_report.specs.declared.device_entry.DeviceEntry.TheVariants as 
 use Rattle.status_report.specs.declared.entry.Entry.{Entry}
 use Rattle.status_report.specs.declared.entry.Entry.TheVariants as entry
 use Rattle.status_report.specs.declared.packet_entry.PacketEntry.TheVariants as packet
-use Rattle.wire.specs.Spelling as wire
 use Rattle.wire.specs.Reads.{whole_of}
 use Rattle.wire.specs.declared.message.Message.{Message}
 use Rattle.history.specs.Letters.{Letter, letter_of, passes, reached}
@@ -54,7 +50,7 @@ use Rattle.refinement.proofs.Handlers.{delivered_by}
 use Rattle.refinement.proofs.Logs.{no_updates}
 use Rattle.refinement.proofs.Worlds.{set_other, set_same}
 use Rattle.world_model.specs.Devices.{Executed, due_at, executed}
-use Rattle.world_model.specs.First.{attached_from, first_cluster, quorum_from, with_quorum}
+use Rattle.world_model.specs.First.{attached_from, first_cluster}
 use Rattle.world_model.specs.Lines.{left_by}
 use Rattle.run_history.proofs.WorldDevices.{write_keeps}
 use Rattle.run_history.proofs.Reached.{kept_holds}
@@ -334,30 +330,10 @@ attached_fit number (d ∷ ds) low high =
     same : (a b : ℕ) → a + suc b ≤ 17 → (a + 1) + b ≤ 17
     same a b h = omega arith
 
-quorum_one : (kind : DeviceKind) (number set : ℕ) → wire.IsDevice number → wire.IsDevices set → wire.IsDevices (with_quorum kind number set)
-quorum_one Data number set is h = h
-quorum_one Quorum number set is h = device_with set number h is
-quorum_one Server number set is h = h
-
-quorum_fits : (number : ℕ) (ds : List HeaderDevice) (set : ℕ) → 1 ≤ number → number + length ds ≤ 17 → wire.IsDevices set → wire.IsDevices (quorum_from number ds set)
-quorum_fits number [] set low high h = h
-quorum_fits number (d ∷ ds) set low high h =
-    quorum_fits (number + 1) ds (with_quorum d.kind number set) (more number) (same number (length ds) high) (quorum_one d.kind number set (low, below number (length ds) high) h)
-  where
-    below : (a b : ℕ) → a + suc b ≤ 17 → a ≤ 16
-    below a b k = omega arith
-
-    more : (a : ℕ) → 1 ≤ a + 1
-    more a = omega arith
-
-    same : (a b : ℕ) → a + suc b ≤ 17 → (a + 1) + b ≤ 17
-    same a b k = omega arith
-
 header_sized : (h : Header) → length h.devices ≤ most_devices → h.cluster < 2 ^ 32 → Sized (first_cluster h)
 header_sized h devices small = record {
   fits = record {
     devices = record { few = few_attached 1 h.devices devices; attached = attached_fit 1 h.devices one_is_low (numbers_high (length h.devices) devices) };
-    first_valid = quorum_fits 1 h.devices 0 one_is_low (numbers_high (length h.devices) devices) (omega arith);
   };
   small = small;
 }
@@ -382,7 +358,7 @@ first_stage h cells sized =
       sent = tt;
       fits = record {
         nodes = λ n. tt;
-        disks = λ n. record { promised = none_fits; installed = none_fits; members = omega arith; valid = if_either wire.IsDevices (has c.configured n) c.first_valid 0 sized.fits.first_valid (omega arith); places = none_fits };
+        disks = λ n. record { promised = none_fits; installed = none_fits; members = omega arith; valid = first_valid_fits c n sized.fits.devices; places = none_fits };
         sent = tt;
       };
       devices = first_devices_fit h h.devices sized.small;

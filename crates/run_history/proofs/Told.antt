@@ -7,22 +7,17 @@ use Rattle.std.proofs.lemmas.List.{get_or_append_left, get_or-replicate, length-
 use Rattle.std.proofs.lemmas.List.Elements.{All-nil, All-cons}
 use Rattle.std.proofs.lemmas.Option.{get_or_from_slice_get, slice_get_within}
 use Rattle.agents.specs.Calls.{AgentState}
-use Rattle.cl_base.specs.declared.header.DeviceKind.{DeviceKind}
-use Rattle.cl_base.specs.declared.header.DeviceKind.TheVariants.{Data, Quorum, Server}
 use Rattle.cl_base.specs.declared.header.Header.{Header}
 use Rattle.cl_base.specs.declared.header.HeaderDevice.{HeaderDevice}
 use Rattle.cmm_attempt.specs.Calls.{IsDevice}
 use Rattle.record_disk.specs.Disks as disks
 use Rattle.record_disk.specs.Disks.{DiskState}
 use Rattle.schedule_text.specs.declared.event.Event.{Event}
-use Rattle.wire.specs.Spelling as wire
-use Rattle.wire.specs.Spelling.{IsDevices}
 use Rattle.history.specs.Moment.{lines_of}
 use Rattle.node_model.specs.Clusters.{first_valid_of}
 use Rattle.node_model.specs.declared.cluster.Cluster.{Cluster}
 use Rattle.node_model.specs.declared.node.Node.TheVariants.{Down}
-use Rattle.node_widths.proofs.Sets.{device_with}
-use Rattle.world_model.specs.First.{attached_from, first_cluster, first_device, first_disks, first_world, quorum_from, with_quorum}
+use Rattle.world_model.specs.First.{attached_from, first_cluster, first_device, first_disks, first_world}
 use Rattle.world_model.specs.Worlds.{Play, play}
 use Rattle.refinement.specs.Runs.{first_nodes}
 use Rattle.refinement.specs.Widths.{ClusterFits}
@@ -130,26 +125,6 @@ attached_fit number (d ∷ ds) low high =
     same : (a b : ℕ) → a + suc b ≤ 17 → (a + 1) + b ≤ 17
     same a b h = omega arith
 
--- the quorum devices are devices
-quorum_one : (kind : DeviceKind) (number set : ℕ) → wire.IsDevice number → IsDevices set → IsDevices (with_quorum kind number set)
-quorum_one Data number set is h = h
-quorum_one Quorum number set is h = device_with set number h is
-quorum_one Server number set is h = h
-
-quorum_fits : (number : ℕ) (ds : List HeaderDevice) (set : ℕ) → 1 ≤ number → number + length ds ≤ 17 → IsDevices set → IsDevices (quorum_from number ds set)
-quorum_fits number [] set low high h = h
-quorum_fits number (d ∷ ds) set low high h =
-    quorum_fits (number + 1) ds (with_quorum d.kind number set) (more number) (same number (length ds) high) (quorum_one d.kind number set (low, below number (length ds) high) h)
-  where
-    below : (a b : ℕ) → a + suc b ≤ 17 → a ≤ 16
-    below a b k = omega arith
-
-    more : (a : ℕ) → 1 ≤ a + 1
-    more a = omega arith
-
-    same : (a b : ℕ) → a + suc b ≤ 17 → (a + 1) + b ≤ 17
-    same a b k = omega arith
-
 one_is_low : 1 ≤ 1
 one_is_low = omega arith
 
@@ -174,7 +149,6 @@ worlds_are_told h cells agents text events few devices small named known =
     let c : Cluster = first_cluster h in
     let whole : ClusterFits c = record {
       devices = record { few = few_attached 1 h.devices devices; attached = attached_fit 1 h.devices one_is_low (numbers_high (length h.devices) devices) };
-      first_valid = quorum_fits 1 h.devices 0 one_is_low (numbers_high (length h.devices) devices) (omega arith);
     } in
     let gives : GivesFit c = gives_fit c whole in
     let fit : DevicesFit c = devices_fit c whole small in

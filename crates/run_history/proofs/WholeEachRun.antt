@@ -4,9 +4,7 @@ use Rattle.std.proofs.Common.{refl, sym, subst, arith}
 use Rattle.std.proofs.lemmas.List.Elements.{All-cons, All-nil}
 use Rattle.std.specs.List.{list_any}
 use Rattle.attempt_laws.specs.Asking.{AreApart, numbers_of}
-use Rattle.cl_base.specs.Sets.{has}
-use Rattle.cl_base.specs.declared.header.DeviceKind.{DeviceKind}
-use Rattle.cl_base.specs.declared.header.DeviceKind.TheVariants.{Data, Quorum, Server}
+use Rattle.cl_base.specs.declared.header.DeviceKind.TheVariants.{Data}
 use Rattle.cl_base.specs.declared.header.Header.{Header}
 use Rattle.cl_base.specs.declared.header.HeaderDevice.{HeaderDevice}
 use Rattle.cl_base.specs.declared.method.Outcome as method
@@ -19,7 +17,6 @@ use Rattle.run_history.specs.Runs.{CutsOf}
 use Rattle.cluster_ties.proofs.First.{first_devices_are_tied, first_is_tied, in_order}
 use Rattle.cluster_ties.proofs.Safe.{reached_is_safe}
 use Rattle.cluster_ties.specs.Laws.{IsFirst}
-use Rattle.cmm_attempt.proofs.Basics.{if_either}
 use Rattle.cmm_attempt.specs.Calls.{IsDevice}
 use Rattle.device_machine.specs.Device as machine
 use Rattle.device_ties.specs.Devices.{DeviceTied}
@@ -27,19 +24,16 @@ use Rattle.interconnect.specs.Links.{Packet, sending}
 use Rattle.node_model.specs.Clusters.{first_valid_of}
 use Rattle.node_model.specs.declared.cluster.Cluster.{Cluster}
 use Rattle.node_model.specs.declared.input.Input.TheVariants as input
-use Rattle.node_widths.proofs.Sets.{device_with}
 use Rattle.pgr_device.specs.declared.command.PrCommand.{PrCommand}
 use Rattle.pgr_device.specs.declared.command.PrCommand.TheVariants as command
 use Rattle.record_disk.specs.Disks.{empty_disk}
+use Rattle.node_widths.proofs.Sets.{first_valid_fits}
 use Rattle.refinement.proofs.Acts.{run_append}
 use Rattle.refinement.proofs.DeviceWidths.{first_devices_fit}
 use Rattle.refinement.proofs.Lines.{few_attached}
 use Rattle.refinement.proofs.Logs.{no_updates}
 use Rattle.refinement.specs.Ties.{setting_of}
-use Rattle.refinement.specs.Widths.{ClusterFits}
-use Rattle.wire.specs.Spelling as wire
-use Rattle.wire.specs.Spelling.{IsDevices}
-use Rattle.world_model.specs.First.{attached_from, first_cluster, first_device, quorum_from, with_quorum}
+use Rattle.world_model.specs.First.{attached_from, first_cluster, first_device}
 use Rattle.run_history.specs.Happenings as happening
 use Rattle.run_history.specs.Happenings.{Commanded, Happening, MayAllHappen, MayHappen, all_happened, answering, commanded, commanded_at, happened, wrote}
 use Rattle.run_history.specs.Scenes.{Scene, first_scene}
@@ -117,25 +111,6 @@ attached_fit number (d ∷ ds) low high =
     same : (a b : ℕ) → a + suc b ≤ 17 → (a + 1) + b ≤ 17
     same a b h = omega arith
 
-quorum_one : (kind : DeviceKind) (number set : ℕ) → wire.IsDevice number → IsDevices set → IsDevices (with_quorum kind number set)
-quorum_one Data number set is h = h
-quorum_one Quorum number set is h = device_with set number h is
-quorum_one Server number set is h = h
-
-quorum_fits : (number : ℕ) (ds : List HeaderDevice) (set : ℕ) → 1 ≤ number → number + length ds ≤ 17 → IsDevices set → IsDevices (quorum_from number ds set)
-quorum_fits number [] set low high h = h
-quorum_fits number (d ∷ ds) set low high h =
-    quorum_fits (number + 1) ds (with_quorum d.kind number set) (more number) (same number (length ds) high) (quorum_one d.kind number set (low, below number (length ds) high) h)
-  where
-    below : (a b : ℕ) → a + suc b ≤ 17 → a ≤ 16
-    below a b k = omega arith
-
-    more : (a : ℕ) → 1 ≤ a + 1
-    more a = omega arith
-
-    same : (a b : ℕ) → a + suc b ≤ 17 → (a + 1) + b ≤ 17
-    same a b k = omega arith
-
 -- the numbers from one on are above those before
 not_among : (d number : ℕ) (ds : List HeaderDevice) → d < number → list_any (λ x. x == d) (numbers_of (attached_from number ds)) ≡ false
 not_among d number [] low = refl
@@ -167,14 +142,10 @@ numbers_high k l = omega arith
 none_fits : 0 < 2 ^ 64
 none_fits = omega arith
 
-none_valid : IsDevices 0
-none_valid = omega arith
-
 first_fits : (h : Header) → length h.devices ≤ 16 → h.cluster < 2 ^ 32 → IsCluster (first_cluster h)
 first_fits h devices small = record {
   fits = record {
     devices = record { few = few_attached 1 h.devices devices; attached = attached_fit 1 h.devices one_is_low (numbers_high (length h.devices) devices) };
-    first_valid = quorum_fits 1 h.devices 0 one_is_low (numbers_high (length h.devices) devices) none_valid;
   };
   apart = are_apart 1 h.devices;
   small = small;
@@ -189,9 +160,6 @@ device_tied h (d ∷ ds) (suc k) = device_tied h ds k
 all_tied : (h : Header) (d : ℕ) → DeviceTied h.cluster (device_at (map (first_device h) h.devices) d) (machine.first_device (registered_at h d))
 all_tied h zero = first_devices_are_tied Data 0 0 h.cluster
 all_tied h (suc k) = device_tied h h.devices k
-
-first_valid_fits : (c : Cluster) (n : ℕ) → ClusterFits c → IsDevices (first_valid_of c n)
-first_valid_fits c n fits = if_either IsDevices (has c.configured n) c.first_valid 0 fits.first_valid none_valid
 
 pub first_whole_so : (h : Header) (cells : ℕ) → length h.devices ≤ 16 → h.cluster < 2 ^ 32 → IsWhole (first_cluster h) (first_scene h cells)
 unfolding first_scene
@@ -210,13 +178,13 @@ first_whole_so h cells devices small =
         joins = tt;
         at = f.at n;
         own = tt;
-        valid = first_valid_fits c n k.fits;
+        valid = first_valid_fits c n k.fits.devices;
       };
       sent = tt;
       flying = tt;
       fits = record {
         nodes = λ n. tt;
-        disks = λ n. record { promised = none_fits; installed = none_fits; members = omega arith; valid = first_valid_fits c n k.fits; places = none_fits };
+        disks = λ n. record { promised = none_fits; installed = none_fits; members = omega arith; valid = first_valid_fits c n k.fits.devices; places = none_fits };
         sent = tt;
       };
       device_fits = first_devices_fit h h.devices small;

@@ -60,8 +60,8 @@ pub record IsWhole (c : Cluster) (s : Scene) : Type 0 where
   pub fits : RunFits c s.nodes
   pub device_fits : (d : ℕ) (device : Device) → slice_get s.devices d ≡ Some device → DeviceFits device
 
--- The machine's first state: on each quorum device the configured nodes with a path to it are registered, and each
--- configured node's record calls these devices valid.
+-- The machine's first state: on each quorum device the configured nodes with a path to it are registered, and the record
+-- of each of these calls the device valid.
 
 abbrev pub registered_in : Header → List HeaderDevice → ℕ → ℕ → Bool
 registered_in h [] k n = registered_by Data 0 0 n
