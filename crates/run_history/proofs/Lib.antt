@@ -9,6 +9,7 @@ pub mod Packets
 pub mod Apart
 pub mod UnderWay
 pub mod WorldCommands
+pub mod Rounds
 pub mod Lines
 pub mod Told
 pub mod Lists

@@ -1,5 +1,6 @@
 -- A play that things that happen lead to: what each line, part and note makes of it.
-use Rattle.std.specs.Prelude.{ℕ, ◌-◌, ◌^◌, ◌≡◌, ◌≤◌, ◌<◌, ◌++◌, true, false, Bool, List, [], ◌∷◌, Option, None, Some, length, slice_get}
+use Rattle.std.specs.Prelude.{ℕ, ◌-◌, ◌^◌, ◌≡◌, ◌≤◌, ◌<◌, ◌++◌, true, false, List, [], ◌∷◌, Option, None, Some, length, slice_get}
+use Rattle.std.specs.Option.{option_map}
 use Rattle.std.proofs.Common.{refl, sym, ap, subst, ◌∙◌, inl, inr, arith}
 use Rattle.std.proofs.lemmas.Option.{slice_get_within}
 use Rattle.agents.specs.Calls.{AgentState}
@@ -32,7 +33,8 @@ use Rattle.run_history.specs.Happenings.Happening.{Begins, Notes, Speaks, Takes}
 use Rattle.run_history.specs.Scenes.{Scene, adding, text_of}
 use Rattle.run_history.proofs.Alike.{Alike, alike_calls, alike_clock, in_range, with_calls}
 use Rattle.run_history.proofs.Gives.{Gave, Took, gave_so}
-use Rattle.run_history.specs.Shapes.{Due, MayBegin, Want, brings, due, is_rounds, nothing, still}
+use Rattle.run_history.specs.Rounds.{Progress, begun_by, next_part}
+use Rattle.run_history.specs.Shapes.{Due, Want, behind, brings, due, nothing, still}
 use Rattle.run_history.specs.Shapes.Want.{Note, Take}
 use Rattle.run_history.proofs.Reached.{ReachedAs, reached_as}
 use Rattle.run_history.proofs.Views.{Follows, part_so, said_so, told_so, view}
@@ -59,48 +61,53 @@ abbrev pub followed : (c : Cluster) (first : Scene) (text : List ℕ) (said : Li
 followed c first text said d p h = record { moments = h.moments; is = refl; alike = h.alike; spoken = h.spoken; written = h.written }
 
 -- the same is due
-abbrev pub as_due : (c : Cluster) (first : Scene) (text : List ℕ) (said : List Line) (in_round : Bool) (p : Play) (wants others : List Want) → wants ≡ others
-    → Stands c first text said (due wants in_round) p → Stands c first text said (due others in_round) p
-as_due c first text said in_round p wants others same h =
-    let s : Scene = seen c first text said (due wants in_round) p h in
-    record { nodes = h.nodes; moments = h.moments; reached = subst (λ ws. ReachedAs c first (due ws in_round) s) same h.reached; alike = h.alike; spoken = h.spoken; written = h.written }
+abbrev pub as_due : (c : Cluster) (first : Scene) (text : List ℕ) (said : List Line) (rounds : Option Progress) (p : Play) (wants others : List Want) → wants ≡ others
+    → Stands c first text said (due wants rounds) p → Stands c first text said (due others rounds) p
+as_due c first text said rounds p wants others same h =
+    let s : Scene = seen c first text said (due wants rounds) p h in
+    record { nodes = h.nodes; moments = h.moments; reached = subst (λ ws. ReachedAs c first (due ws rounds) s) same h.reached; alike = h.alike; spoken = h.spoken; written = h.written }
 
--- A note that is due; the note that a round is done; a part of a round; a line.
+-- A note that is due; the note that rounds are done; a part of a round; a line.
 
-abbrev pub noted : (c : Cluster) (first : Scene) (text : List ℕ) (said : List Line) (in_round : Bool) (p : Play) (e : ScheduleEntry) → Stands c first text said (due (Note e ∷ []) in_round) p
-    → Stands c first text said (due [] in_round) (noting e p)
-noted c first text said in_round p e h =
-    let d : Due = due (Note e ∷ []) in_round in
+abbrev pub noted : (c : Cluster) (first : Scene) (text : List ℕ) (said : List Line) (rounds : Option Progress) (p : Play) (e : ScheduleEntry) → Stands c first text said (due (Note e ∷ []) rounds) p
+    → Stands c first text said (due [] rounds) (noting e p)
+noted c first text said rounds p e h =
+    let d : Due = due (Note e ∷ []) rounds in
     let s : Scene = seen c first text said d p h in
-    stands_so c first text said (due [] in_round) (noting e p) h.nodes (happened c s (Notes e)) (reached_as c first d (due [] in_round) s (Notes e) h.reached tt refl refl)
+    stands_so c first text said (due [] rounds) (noting e p) h.nodes (happened c s (Notes e)) (reached_as c first d (due [] rounds) s (Notes e) h.reached tt refl refl)
     (told_so c text said h.nodes s p (entry.Schedule e) (followed c first text said d p h))
 
-abbrev pub ended : (c : Cluster) (first : Scene) (text : List ℕ) (said : List Line) (p : Play) → Stands c first text said (due [] true) p → Stands c first text said nothing (noting RoundsDone p)
-ended c first text said p h =
-    let d : Due = due [] true in
+abbrev pub ended : (c : Cluster) (first : Scene) (text : List ℕ) (said : List Line) (p : Play) (q : Progress) (h : Stands c first text said (due [] (Some q)) p)
+    → next_part (seen c first text said (due [] (Some q)) p h) q ≡ None → Stands c first text said nothing (noting RoundsDone p)
+ended c first text said p q h none =
+    let d : Due = due [] (Some q) in
     let s : Scene = seen c first text said d p h in
-    stands_so c first text said nothing (noting RoundsDone p) h.nodes (happened c s (Notes RoundsDone)) (reached_as c first d nothing s (Notes RoundsDone) h.reached tt refl refl)
+    stands_so c first text said nothing (noting RoundsDone p) h.nodes (happened c s (Notes RoundsDone)) (reached_as c first d nothing s (Notes RoundsDone) h.reached tt (refl, none) refl)
     (told_so c text said h.nodes s p (entry.Schedule RoundsDone) (followed c first text said d p h))
 
-abbrev pub begun : (c : Cluster) (first : Scene) (text : List ℕ) (said : List Line) (p : Play) (e : Event) (wants : List Want) (h : Stands c first text said (due [] true) p)
-    → MayBegin (seen c first text said (due [] true) p h) e → brings c (adding (Part e) (seen c first text said (due [] true) p h)) e ≡ wants → Stands c first text said (due wants true) p
-begun c first text said p e wants h may is =
-    let d : Due = due [] true in
+abbrev pub begun : (c : Cluster) (first : Scene) (text : List ℕ) (said : List Line) (p : Play) (q next : Progress) (e : Event) (wants : List Want)
+    (h : Stands c first text said (due [] (Some q)) p) → next_part (seen c first text said (due [] (Some q)) p h) q ≡ Some (e, next)
+    → brings c (adding (Part e) (seen c first text said (due [] (Some q)) p h)) e ≡ wants → Stands c first text said (due wants (Some next)) p
+begun c first text said p q next e wants h comes is =
+    let d : Due = due [] (Some q) in
     let s : Scene = seen c first text said d p h in
-    stands_so c first text said (due wants true) p h.nodes (happened c s (Begins e)) (reached_as c first d (due wants true) s (Begins e) h.reached tt may (ap (λ ws. due ws true) is))
+    stands_so c first text said (due wants (Some next)) p h.nodes (happened c s (Begins e))
+    (reached_as c first d (due wants (Some next)) s (Begins e) h.reached tt (ap (λ o. option_map (λ (z : Event × Progress). z.0) o) comes)
+    (ap (λ ws. due ws (behind (adding (Part e) s) (Some q))) is ∙ ap (λ o. due wants (option_map (λ (z : Event × Progress). z.1) o)) comes))
     (part_so c text said h.nodes s p e (followed c first text said d p h))
 
 -- a line that arms nothing
-abbrev pub spoke : (c : Cluster) (first : Scene) (text : List ℕ) (said : List Line) (p : Play) (e : Event) (wants : List Want) → ((s : Scene) → IsPlaced c s e) → ((s : Scene) → armed_by c e s ≡ s)
-    → (h : Stands c first text said nothing p) → brings c (adding (Said (line.Event e)) (seen c first text said nothing p h)) e ≡ wants
-    → Stands c first text (line.Event e ∷ said) (due wants (is_rounds e)) p
-spoke c first text said p e wants placed same h is =
+abbrev pub spoke : (c : Cluster) (first : Scene) (text : List ℕ) (said : List Line) (p : Play) (e : Event) (wants : List Want) (rounds : Option Progress) → ((s : Scene) → IsPlaced c s e)
+    → ((s : Scene) → armed_by c e s ≡ s) → (h : Stands c first text said nothing p) → brings c (adding (Said (line.Event e)) (seen c first text said nothing p h)) e ≡ wants
+    → begun_by (adding (Said (line.Event e)) (seen c first text said nothing p h)) e ≡ rounds → Stands c first text (line.Event e ∷ said) (due wants rounds) p
+spoke c first text said p e wants rounds placed same h is starts =
     let s : Scene = seen c first text said nothing p h in
-    let next : Due = due wants (is_rounds e) in
+    let next : Due = due wants rounds in
     let t : Scene = adding (Said (line.Event e)) s in
     stands_so c first text (line.Event e ∷ said) next p h.nodes t
     (subst (ReachedAs c first next) (same t)
-    (reached_as c first nothing next s (Speaks e) h.reached (placed s) tt (ap (λ z. due (brings c z e) (is_rounds e)) (same t) ∙ ap (λ ws. due ws (is_rounds e)) is)))
+    (reached_as c first nothing next s (Speaks e) h.reached (placed s) tt
+    (ap (λ z. due (brings c z e) (begun_by z e)) (same t) ∙ (ap (λ ws. due ws (begun_by t e)) is ∙ ap (λ o. due wants o) starts))))
     (said_so c text said h.nodes s p e (followed c first text said nothing p h))
 
 -- Outcomes that are queued, and the clock, are no part of a scene.
@@ -122,34 +129,34 @@ pub gives_so : (c : Cluster) → GivesFit c → (first : Scene) (text : List ℕ
     → Gave c text said h.nodes (seen c first text said d p h) n p.world.clock p.world.nodes i (giving n i p)
 gives_so c gives first text said d p n i h low sent bounded = gave_so c gives text said h.nodes h.moments p n i h.spoken h.written low sent bounded h.alike
 
-abbrev pub took_plain : (c : Cluster) (first : Scene) (text : List ℕ) (said : List Line) (wants : List Want) (in_round : Bool) (p : Play) (n : ℕ) (i : Input)
-    (h : Stands c first text said (due (Take n i ∷ wants) in_round) p) → IsPlain i
+abbrev pub took_plain : (c : Cluster) (first : Scene) (text : List ℕ) (said : List Line) (wants : List Want) (rounds : Option Progress) (p : Play) (n : ℕ) (i : Input)
+    (h : Stands c first text said (due (Take n i ∷ wants) rounds) p) → IsPlain i
     → arrived h.moments ≡ None → IsSaid h.moments n i → IsBrought (under_way h.moments) n i
-    → (k : Took c text said h.nodes (seen c first text said (due (Take n i ∷ wants) in_round) p h) n p.world.clock i (giving n i p)) → (rest : List Want)
-    → still (taking c n p.world.clock k.ends i (seen c first text said (due (Take n i ∷ wants) in_round) p h)) wants ≡ rest
-    → Stands c first text said (due rest in_round) (giving n i p)
-took_plain c first text said wants in_round p n i h plain apart lined brought k rest is =
-    let d : Due = due (Take n i ∷ wants) in_round in
+    → (k : Took c text said h.nodes (seen c first text said (due (Take n i ∷ wants) rounds) p h) n p.world.clock i (giving n i p)) → (rest : List Want)
+    → still (taking c n p.world.clock k.ends i (seen c first text said (due (Take n i ∷ wants) rounds) p h)) wants ≡ rest
+    → Stands c first text said (due rest rounds) (giving n i p)
+took_plain c first text said wants rounds p n i h plain apart lined brought k rest is =
+    let d : Due = due (Take n i ∷ wants) rounds in
     let s : Scene = seen c first text said d p h in
-    stands_so c first text said (due rest in_round) (giving n i p) _ (happened c s (Takes n p.world.clock k.ends i))
-    (reached_as c first d (due rest in_round) s (Takes n p.world.clock k.ends i) h.reached ((k.may.0, k.may.1), plain, h.alike.shows.clock, apart, lined, brought) (refl, refl)
-    (ap (λ ws. due ws in_round) is)) k.follows
+    stands_so c first text said (due rest rounds) (giving n i p) _ (happened c s (Takes n p.world.clock k.ends i))
+    (reached_as c first d (due rest rounds) s (Takes n p.world.clock k.ends i) h.reached ((k.may.0, k.may.1), plain, h.alike.shows.clock, apart, lined, brought) (refl, refl)
+    (ap (λ ws. due ws rounds) is)) k.follows
 
 -- the node has a place in the world
 abbrev pub IsThere : WorldState → ℕ → Type 0
 IsThere w n = slice_get w.nodes (n - 1) ≡ None → ⊥
 
-pub given_so : (c : Cluster) → GivesFit c → (first : Scene) (text : List ℕ) (said : List Line) (in_round : Bool) (p : Play) (n : ℕ) (i : Input) → 1 ≤ n → IsThere p.world n → IsPlain i
-    → ((v : Nodes) → WasSent v i) → AnswersFit i → (h : Stands c first text said (due (Take n i ∷ []) in_round) p) → arrived h.moments ≡ None → IsSaid h.moments n i
-    → IsBrought (under_way h.moments) n i → Stands c first text said (due [] in_round) (giving n i p)
-given_so c gives first text said in_round p n i low there plain sent bounded h apart lined brought = go (gives_so c gives first text said d p n i h low (sent h.nodes) bounded)
+pub given_so : (c : Cluster) → GivesFit c → (first : Scene) (text : List ℕ) (said : List Line) (rounds : Option Progress) (p : Play) (n : ℕ) (i : Input) → 1 ≤ n → IsThere p.world n → IsPlain i
+    → ((v : Nodes) → WasSent v i) → AnswersFit i → (h : Stands c first text said (due (Take n i ∷ []) rounds) p) → arrived h.moments ≡ None → IsSaid h.moments n i
+    → IsBrought (under_way h.moments) n i → Stands c first text said (due [] rounds) (giving n i p)
+given_so c gives first text said rounds p n i low there plain sent bounded h apart lined brought = go (gives_so c gives first text said d p n i h low (sent h.nodes) bounded)
   where
     d : Due
-    d = due (Take n i ∷ []) in_round
+    d = due (Take n i ∷ []) rounds
 
-    go : Gave c text said h.nodes (seen c first text said d p h) n p.world.clock p.world.nodes i (giving n i p) → Stands c first text said (due [] in_round) (giving n i p)
+    go : Gave c text said h.nodes (seen c first text said d p h) n p.world.clock p.world.nodes i (giving n i p) → Stands c first text said (due [] rounds) (giving n i p)
     go (inl none) = absurd (there none.nobody)
-    go (inr k) = took_plain c first text said [] in_round p n i h plain apart lined brought k [] refl
+    go (inr k) = took_plain c first text said [] rounds p n i h plain apart lined brought k [] refl
 
 -- Nodes at their places.
 
@@ -189,3 +196,11 @@ due_seen c v w n low h = by_place (slice_get w.nodes (n - 1)) refl
     by_place : (o : Option Node) → slice_get w.nodes (n - 1) ≡ o → world.due_at (Some (v.node n)) ≡ world.due_at o
     by_place None at = ap (λ z. world.due_at (Some z)) (h.absent n low at)
     by_place (Some z) at = ap (λ y. world.due_at (Some y)) (h.shows.node n z low at)
+
+-- .. and a node is up where it is up in the world
+pub up_seen : (c : Cluster) (v : Nodes) (w : WorldState) (n : ℕ) → 1 ≤ n → Alike c v w → is_up_node (Some (v.node n)) ≡ is_up_node (slice_get w.nodes (n - 1))
+up_seen c v w n low h = by_place (slice_get w.nodes (n - 1)) refl
+  where
+    by_place : (o : Option Node) → slice_get w.nodes (n - 1) ≡ o → is_up_node (Some (v.node n)) ≡ is_up_node o
+    by_place None at = ap (λ z. is_up_node (Some z)) (h.absent n low at)
+    by_place (Some z) at = ap (λ y. is_up_node (Some y)) (h.shows.node n z low at)

@@ -1,5 +1,5 @@
 -- Nodes at devices: commands that are due, writes, faults and stops that are armed.
-use Rattle.std.specs.Prelude.{ℕ, ◌-◌, ◌^◌, ◌≡◌, ◌≤◌, ◌<◌, Bool, true, false, List, [], ◌∷◌, Option, None, Some, Result, Ok, Err, is_ok, is_some, slice_get, if◌then◌else◌}
+use Rattle.std.specs.Prelude.{ℕ, ◌-◌, ◌^◌, ◌≡◌, ◌≤◌, ◌<◌, Bool, true, List, [], ◌∷◌, Option, None, Some, Result, Ok, Err, is_ok, is_some, slice_get, if◌then◌else◌}
 use Rattle.std.proofs.Common.{refl, sym, ap, subst, ◌∙◌, inl, inr}
 use Rattle.std.proofs.lemmas.Bool.{cond_both}
 use Rattle.cl_base.specs.declared.method.Outcome as method
@@ -54,6 +54,7 @@ use Rattle.run_history.proofs.UnderWay.{taking_under}
 use Rattle.run_history.proofs.Alike.{alike_devices, alike_no_stop, alike_stop, played, with_arms}
 use Rattle.run_history.proofs.WorldDevices.{After, after_command, commanded_so, viewed, write_keeps}
 use Rattle.run_history.proofs.Gives.{Gave, Took, gave_so}
+use Rattle.run_history.specs.Rounds.{Progress}
 use Rattle.run_history.specs.Shapes.{Due, Want, commanding, due as due_so_far, if_up, nothing, skipping as skipping_wants, still, writing as writing_wants}
 use Rattle.run_history.specs.Shapes.Want.{Command, Note, Refuse, Take, Write}
 use Rattle.run_history.proofs.Reached.{reached_as}
@@ -101,17 +102,17 @@ due_there (Some (Up x)) d k P e f = f x refl
 abbrev AllReady : WorldState → ℕ → Type 0
 AllReady w n = (z : Node) → node_at w n ≡ Some z → Ready z
 
-commands_so : (c : Cluster) → GivesFit c → DevicesFit c → (first : Scene) (text : List ℕ) (said : List Line) (in_round : Bool) (p : Play) (n d : ℕ) (k : PrCommand) (x : UpNode) → 1 ≤ n
-    → AllReady p.world n → due p.world n ≡ Some (d, k) → node_at p.world n ≡ Some (Up x) → (h : Stands c first text said (due_so_far (Command n ∷ []) in_round) p) → arrived h.moments ≡ None
-    → under_way h.moments ≡ Some (event.Disk n) → Stands c first text said (due_so_far [] in_round) (doing_due n (Some (d, k)) p)
-commands_so c gives fit first text said in_round p n d k x low ready is at h apart brought =
-    let z : Due = due_so_far (Command n ∷ []) in_round in
+commands_so : (c : Cluster) → GivesFit c → DevicesFit c → (first : Scene) (text : List ℕ) (said : List Line) (rounds : Option Progress) (p : Play) (n d : ℕ) (k : PrCommand) (x : UpNode) → 1 ≤ n
+    → AllReady p.world n → due p.world n ≡ Some (d, k) → node_at p.world n ≡ Some (Up x) → (h : Stands c first text said (due_so_far (Command n ∷ []) rounds) p) → arrived h.moments ≡ None
+    → under_way h.moments ≡ Some (event.Disk n) → Stands c first text said (due_so_far [] rounds) (doing_due n (Some (d, k)) p)
+commands_so c gives fit first text said rounds p n d k x low ready is at h apart brought =
+    let z : Due = due_so_far (Command n ∷ []) rounds in
     let s : Scene = seen c first text said z p h in
     let node : h.nodes.node n ≡ Up x = h.alike.shows.node n (Up x) low at in
     let done : Done c text said n input.Answered (happen.commanded s n d k) (doing_due n (Some (d, k)) p) =
     done_so c gives first text said z p n d k input.Answered (Up x) h low at (λ device f. fit p.world n d k device (played c h.nodes p.world h.alike) low is f) (λ a v. tt) (λ a b. b) in
-    stands_so c first text said (due_so_far [] in_round) (doing_due n (Some (d, k)) p) done.after (happened c s (Commands n d k done.now done.ends))
-    (reached_as c first z (due_so_far [] in_round) s (Commands n d k done.now done.ends) h.reached
+    stands_so c first text said (due_so_far [] rounds) (doing_due n (Some (d, k)) p) done.after (happened c s (Commands n d k done.now done.ends))
+    (reached_as c first z (due_so_far [] rounds) s (Commands n d k done.now done.ends) h.reached
     (node_number c h.nodes p.world n (Up x) low at h.alike, subst (λ y. OfUp IsReadied y) (sym node) (ready (Up x) at), ap (λ y. due_at (Some y)) node ∙ ap due_at (sym at) ∙ is, done.time, apart, brought)
     refl refl) done.follows
 
@@ -119,22 +120,22 @@ commands_so c gives fit first text said in_round p n d k x low ready is at h apa
 abbrev command_if : ℕ → Option (ℕ × PrCommand) → List Want
 command_if n o = if is_some o then Command n ∷ [] else []
 
-due_so : (c : Cluster) → GivesFit c → DevicesFit c → (first : Scene) (text : List ℕ) (said : List Line) (wants : List Want) (in_round : Bool) (p : Play) (n : ℕ) (o : Option (ℕ × PrCommand)) → 1 ≤ n
-    → AllReady p.world n → due p.world n ≡ o → wants ≡ command_if n o → (h : Stands c first text said (due_so_far wants in_round) p) → arrived h.moments ≡ None
-    → under_way h.moments ≡ Some (event.Disk n) → Stands c first text said (due_so_far [] in_round) (doing_due n o p)
-due_so c gives fit first text said wants in_round p n None low ready is shape h apart brought = as_due c first text said in_round p wants [] shape h
-due_so c gives fit first text said wants in_round p n (Some (d, k)) low ready is shape h apart brought =
-    due_there (node_at p.world n) d k (Stands c first text said (due_so_far [] in_round) (doing_due n (Some (d, k)) p)) is
-    (λ x at. commands_so c gives fit first text said in_round p n d k x low ready is at (as_due c first text said in_round p wants (Command n ∷ []) shape h) apart brought)
+due_so : (c : Cluster) → GivesFit c → DevicesFit c → (first : Scene) (text : List ℕ) (said : List Line) (wants : List Want) (rounds : Option Progress) (p : Play) (n : ℕ) (o : Option (ℕ × PrCommand)) → 1 ≤ n
+    → AllReady p.world n → due p.world n ≡ o → wants ≡ command_if n o → (h : Stands c first text said (due_so_far wants rounds) p) → arrived h.moments ≡ None
+    → under_way h.moments ≡ Some (event.Disk n) → Stands c first text said (due_so_far [] rounds) (doing_due n o p)
+due_so c gives fit first text said wants rounds p n None low ready is shape h apart brought = as_due c first text said rounds p wants [] shape h
+due_so c gives fit first text said wants rounds p n (Some (d, k)) low ready is shape h apart brought =
+    due_there (node_at p.world n) d k (Stands c first text said (due_so_far [] rounds) (doing_due n (Some (d, k)) p)) is
+    (λ x at. commands_so c gives fit first text said rounds p n d k x low ready is at (as_due c first text said rounds p wants (Command n ∷ []) shape h) apart brought)
 
 -- The node readies itself, then does the command that is due.
-pub command_so : (c : Cluster) → GivesFit c → DevicesFit c → (first : Scene) (text : List ℕ) (said : List Line) (in_round : Bool) (p : Play) (n : ℕ) → 1 ≤ n → IsThere p.world n
-    → (h : Stands c first text said (due_so_far (Take n input.CommandDue ∷ Command n ∷ []) in_round) p)
-    → arrived h.moments ≡ None → under_way h.moments ≡ Some (event.Disk n) → Stands c first text said (due_so_far [] in_round) (doing_command n p)
-command_so c gives fit first text said in_round p n low there h apart brought = go (gives_so c gives first text said z p n input.CommandDue h low tt tt)
+pub command_so : (c : Cluster) → GivesFit c → DevicesFit c → (first : Scene) (text : List ℕ) (said : List Line) (rounds : Option Progress) (p : Play) (n : ℕ) → 1 ≤ n → IsThere p.world n
+    → (h : Stands c first text said (due_so_far (Take n input.CommandDue ∷ Command n ∷ []) rounds) p)
+    → arrived h.moments ≡ None → under_way h.moments ≡ Some (event.Disk n) → Stands c first text said (due_so_far [] rounds) (doing_command n p)
+command_so c gives fit first text said rounds p n low there h apart brought = go (gives_so c gives first text said z p n input.CommandDue h low tt tt)
   where
     z : Due
-    z = due_so_far (Take n input.CommandDue ∷ Command n ∷ []) in_round
+    z = due_so_far (Take n input.CommandDue ∷ Command n ∷ []) rounds
 
     s : Scene
     s = seen c first text said z p h
@@ -152,11 +153,11 @@ command_so c gives fit first text said in_round p n low there h apart brought = 
         ap (λ o. command_if n o)
         (sym (ap (λ (y : Scene). due_at (Some (y.nodes.node n))) k.follows.is) ∙ due_seen c (moved c h.nodes (Takes_in n p.world.clock k.ends input.CommandDue)) q.world n low k.follows.alike)
 
-    go : Gave c text said h.nodes s n p.world.clock p.world.nodes input.CommandDue q → Stands c first text said (due_so_far [] in_round) (doing_due n (due q.world n) q)
+    go : Gave c text said h.nodes s n p.world.clock p.world.nodes input.CommandDue q → Stands c first text said (due_so_far [] rounds) (doing_due n (due q.world n) q)
     go (inl none) = absurd (there none.nobody)
     go (inr k) =
-        due_so c gives fit first text said (command_if n (due q.world n)) in_round q n (due q.world n) low (took_ready k) refl refl
-        (took_plain c first text said (Command n ∷ []) in_round p n input.CommandDue h tt apart tt brought k (command_if n (due q.world n)) (still_due k))
+        due_so c gives fit first text said (command_if n (due q.world n)) rounds q n (due q.world n) low (took_ready k) refl refl
+        (took_plain c first text said (Command n ∷ []) rounds p n input.CommandDue h tt apart tt brought k (command_if n (due q.world n)) (still_due k))
         (ap (λ (y : Scene). arrived y.moments) k.follows.is ∙ readied_apart c n p.world.clock k.ends s apart)
         (ap (λ (y : Scene). under_way y.moments) k.follows.is ∙ (taking_under c n p.world.clock k.ends input.CommandDue s ∙ brought))
 
@@ -165,24 +166,24 @@ pub skipped_down : (z : Node) (f : UpNode → List Want) → IsDown z → if_up 
 skipped_down Down f down = refl
 skipped_down (Up x) f down = absurd down
 
-disk_due : (c : Cluster) → GivesFit c → DevicesFit c → (first : Scene) (text : List ℕ) (said : List Line) (wants : List Want) (in_round : Bool) (p : Play) (n : ℕ) (o : Option (ℕ × PrCommand)) → 1 ≤ n
-    → IsThere p.world n → wants ≡ commanding n o → (h : Stands c first text said (due_so_far wants in_round) p)
-    → arrived h.moments ≡ None → under_way h.moments ≡ Some (event.Disk n) → Stands c first text said (due_so_far [] in_round) (on_disk_due n o p)
-disk_due c gives fit first text said wants in_round p n None low there shape h apart brought =
-    noted c first text said in_round p (Skipped skip.NoWork) (as_due c first text said in_round p wants (skipping_wants skip.NoWork) shape h)
-disk_due c gives fit first text said wants in_round p n (Some due) low there shape h apart brought =
-    command_so c gives fit first text said in_round p n low there (as_due c first text said in_round p wants (Take n input.CommandDue ∷ Command n ∷ []) shape h) apart brought
+disk_due : (c : Cluster) → GivesFit c → DevicesFit c → (first : Scene) (text : List ℕ) (said : List Line) (wants : List Want) (rounds : Option Progress) (p : Play) (n : ℕ) (o : Option (ℕ × PrCommand)) → 1 ≤ n
+    → IsThere p.world n → wants ≡ commanding n o → (h : Stands c first text said (due_so_far wants rounds) p)
+    → arrived h.moments ≡ None → under_way h.moments ≡ Some (event.Disk n) → Stands c first text said (due_so_far [] rounds) (on_disk_due n o p)
+disk_due c gives fit first text said wants rounds p n None low there shape h apart brought =
+    noted c first text said rounds p (Skipped skip.NoWork) (as_due c first text said rounds p wants (skipping_wants skip.NoWork) shape h)
+disk_due c gives fit first text said wants rounds p n (Some due) low there shape h apart brought =
+    command_so c gives fit first text said rounds p n low there (as_due c first text said rounds p wants (Take n input.CommandDue ∷ Command n ∷ []) shape h) apart brought
 
-pub disk_so : (c : Cluster) → GivesFit c → DevicesFit c → (first : Scene) (text : List ℕ) (said : List Line) (wants : List Want) (in_round : Bool) (p : Play) (n : ℕ) → 1 ≤ n
-    → (h : Stands c first text said (due_so_far wants in_round) p) → wants ≡ if_up (h.nodes.node n) (λ x. commanding n (due_at (Some (h.nodes.node n))))
-    → arrived h.moments ≡ None → under_way h.moments ≡ Some (event.Disk n) → Stands c first text said (due_so_far [] in_round) (on_disk n p)
-disk_so c gives fit first text said wants in_round p n low h shape apart brought =
-    cond_both (is_up p.world n) (on_disk_due n (due p.world n) p) (skipping skip.Down p) (Stands c first text said (due_so_far [] in_round))
-    (λ up. up_there (node_at p.world n) (Stands c first text said (due_so_far [] in_round) (on_disk_due n (due p.world n) p)) up
-    (λ x at. disk_due c gives fit first text said wants in_round p n (due p.world n) low (up_is_there p.world n x at)
+pub disk_so : (c : Cluster) → GivesFit c → DevicesFit c → (first : Scene) (text : List ℕ) (said : List Line) (wants : List Want) (rounds : Option Progress) (p : Play) (n : ℕ) → 1 ≤ n
+    → (h : Stands c first text said (due_so_far wants rounds) p) → wants ≡ if_up (h.nodes.node n) (λ x. commanding n (due_at (Some (h.nodes.node n))))
+    → arrived h.moments ≡ None → under_way h.moments ≡ Some (event.Disk n) → Stands c first text said (due_so_far [] rounds) (on_disk n p)
+disk_so c gives fit first text said wants rounds p n low h shape apart brought =
+    cond_both (is_up p.world n) (on_disk_due n (due p.world n) p) (skipping skip.Down p) (Stands c first text said (due_so_far [] rounds))
+    (λ up. up_there (node_at p.world n) (Stands c first text said (due_so_far [] rounds) (on_disk_due n (due p.world n) p)) up
+    (λ x at. disk_due c gives fit first text said wants rounds p n (due p.world n) low (up_is_there p.world n x at)
     (shape ∙ (ap (λ z. if_up z works) (h.alike.shows.node n (Up x) low at) ∙ ap (λ o. commanding n o) (due_seen c h.nodes p.world n low h.alike))) h apart brought))
-    (λ down. noted c first text said in_round p (Skipped skip.Down)
-    (as_due c first text said in_round p wants (skipping_wants skip.Down)
+    (λ down. noted c first text said rounds p (Skipped skip.Down)
+    (as_due c first text said rounds p wants (skipping_wants skip.Down)
     (shape ∙ skipped_down (h.nodes.node n) works (down_there c h.nodes p.world n (node_at p.world n) low refl down h.alike)) h))
   where
     works : UpNode → List Want
@@ -190,54 +191,54 @@ disk_so c gives fit first text said wants in_round p n low h shape apart brought
 
 -- A node writes, or refuses to.
 
-written_if : (c : Cluster) → GivesFit c → (first : Scene) (text : List ℕ) (said : List Line) (wants : List Want) (in_round : Bool) (p : Play) (n d value : ℕ) (x : UpNode) (r : Result ℕ WriteRefusal) → 1 ≤ n
-    → slice_get p.world.nodes (n - 1) ≡ Some (Up x) → may_write_as c n d x.seat ≡ r → wants ≡ writing_wants n d value r → (h : Stands c first text said (due_so_far wants in_round) p)
-    → arrived h.moments ≡ None → under_way h.moments ≡ Some (event.Write n d value) → Stands c first text said (due_so_far [] in_round) (writing_if n d value r p)
-written_if c gives first text said wants in_round p n d value x (Ok e) low at may shape g apart brought =
-    let z : Due = due_so_far (Write n d value ∷ []) in_round in
-    let h : Stands c first text said z p = as_due c first text said in_round p wants (Write n d value ∷ []) shape g in
+written_if : (c : Cluster) → GivesFit c → (first : Scene) (text : List ℕ) (said : List Line) (wants : List Want) (rounds : Option Progress) (p : Play) (n d value : ℕ) (x : UpNode) (r : Result ℕ WriteRefusal) → 1 ≤ n
+    → slice_get p.world.nodes (n - 1) ≡ Some (Up x) → may_write_as c n d x.seat ≡ r → wants ≡ writing_wants n d value r → (h : Stands c first text said (due_so_far wants rounds) p)
+    → arrived h.moments ≡ None → under_way h.moments ≡ Some (event.Write n d value) → Stands c first text said (due_so_far [] rounds) (writing_if n d value r p)
+written_if c gives first text said wants rounds p n d value x (Ok e) low at may shape g apart brought =
+    let z : Due = due_so_far (Write n d value ∷ []) rounds in
+    let h : Stands c first text said z p = as_due c first text said rounds p wants (Write n d value ∷ []) shape g in
     let s : Scene = seen c first text said z p h in
     let node : g.nodes.node n ≡ Up x = g.alike.shows.node n (Up x) low at in
     let k : PrCommand = command.Write value in
     let i : Answer → Input = λ a. input.Wrote d value a in
     let done : Done c text said n i (happen.commanded s n d k) (writing_if n d value (Ok e) p) =
     done_so c gives first text said z p n d k i (Up x) h low at (λ device f. write_keeps n value device f) (λ a v. tt) (λ a b. tt) in
-    stands_so c first text said (due_so_far [] in_round) (writing_if n d value (Ok e) p) done.after (happened c s (Writes n d value done.now done.ends))
-    (reached_as c first z (due_so_far [] in_round) s (Writes n d value done.now done.ends) h.reached
+    stands_so c first text said (due_so_far [] rounds) (writing_if n d value (Ok e) p) done.after (happened c s (Writes n d value done.now done.ends))
+    (reached_as c first z (due_so_far [] rounds) s (Writes n d value done.now done.ends) h.reached
     (node_number c g.nodes p.world n (Up x) low at g.alike, subst (λ y. OfUp (λ u. is_ok (may_write_as c n d u.seat) ≡ true) y) (sym node) (ap is_ok may), done.time, apart, brought)
     (refl, refl, refl) refl) done.follows
-written_if c gives first text said wants in_round p n d value x (Err cause) low at may shape g apart brought =
-    let z : Due = due_so_far (Refuse n d value cause ∷ []) in_round in
-    let h : Stands c first text said z p = as_due c first text said in_round p wants (Refuse n d value cause ∷ []) shape g in
+written_if c gives first text said wants rounds p n d value x (Err cause) low at may shape g apart brought =
+    let z : Due = due_so_far (Refuse n d value cause ∷ []) rounds in
+    let h : Stands c first text said z p = as_due c first text said rounds p wants (Refuse n d value cause ∷ []) shape g in
     let s : Scene = seen c first text said z p h in
     let node : g.nodes.node n ≡ Up x = g.alike.shows.node n (Up x) low at in
-    stands_so c first text said (due_so_far [] in_round) (writing_if n d value (Err cause) p) g.nodes (happened c s (Refuses n d value cause))
-    (reached_as c first z (due_so_far [] in_round) s (Refuses n d value cause) h.reached
+    stands_so c first text said (due_so_far [] rounds) (writing_if n d value (Err cause) p) g.nodes (happened c s (Refuses n d value cause))
+    (reached_as c first z (due_so_far [] rounds) s (Refuses n d value cause) h.reached
     (node_number c g.nodes p.world n (Up x) low at g.alike, subst (λ y. OfUp (λ u. may_write_as c n d u.seat ≡ Err cause) y) (sym node) may, brought) (refl, refl, refl, refl) refl)
     (told_so c text said g.nodes s p (entry.Device (device.Refused n d value cause)) (followed c first text said z p h))
 
 abbrev writes_of : Cluster → ℕ → ℕ → ℕ → UpNode → List Want
 writes_of c n d value x = writing_wants n d value (may_write_as c n d x.seat)
 
-pub written_at : (c : Cluster) → GivesFit c → (first : Scene) (text : List ℕ) (said : List Line) (wants : List Want) (in_round : Bool) (p : Play) (n d value : ℕ) (o : Option Node) → 1 ≤ n
-    → slice_get p.world.nodes (n - 1) ≡ o → (h : Stands c first text said (due_so_far wants in_round) p) → wants ≡ if_up (h.nodes.node n) (λ x. writing_wants n d value (may_write_as c n d x.seat))
-    → arrived h.moments ≡ None → under_way h.moments ≡ Some (event.Write n d value) → Stands c first text said (due_so_far [] in_round) (writing_at n d value o p)
-written_at c gives first text said wants in_round p n d value None low at h shape apart brought =
-    noted c first text said in_round p (Skipped skip.Down)
-    (as_due c first text said in_round p wants (skipping_wants skip.Down)
+pub written_at : (c : Cluster) → GivesFit c → (first : Scene) (text : List ℕ) (said : List Line) (wants : List Want) (rounds : Option Progress) (p : Play) (n d value : ℕ) (o : Option Node) → 1 ≤ n
+    → slice_get p.world.nodes (n - 1) ≡ o → (h : Stands c first text said (due_so_far wants rounds) p) → wants ≡ if_up (h.nodes.node n) (λ x. writing_wants n d value (may_write_as c n d x.seat))
+    → arrived h.moments ≡ None → under_way h.moments ≡ Some (event.Write n d value) → Stands c first text said (due_so_far [] rounds) (writing_at n d value o p)
+written_at c gives first text said wants rounds p n d value None low at h shape apart brought =
+    noted c first text said rounds p (Skipped skip.Down)
+    (as_due c first text said rounds p wants (skipping_wants skip.Down)
     (shape ∙ skipped_down (h.nodes.node n) (writes_of c n d value) (down_there c h.nodes p.world n None low at refl h.alike)) h)
-written_at c gives first text said wants in_round p n d value (Some Down) low at h shape apart brought =
-    noted c first text said in_round p (Skipped skip.Down)
-    (as_due c first text said in_round p wants (skipping_wants skip.Down)
+written_at c gives first text said wants rounds p n d value (Some Down) low at h shape apart brought =
+    noted c first text said rounds p (Skipped skip.Down)
+    (as_due c first text said rounds p wants (skipping_wants skip.Down)
     (shape ∙ skipped_down (h.nodes.node n) (writes_of c n d value) (down_there c h.nodes p.world n (Some Down) low at refl h.alike)) h)
-written_at c gives first text said wants in_round p n d value (Some (Up x)) low at h shape apart brought =
+written_at c gives first text said wants rounds p n d value (Some (Up x)) low at h shape apart brought =
     let same : may_write_as c n d x.seat ≡ may_write_as p.world.cluster n d x.seat = ap (λ z. may_write_as z n d x.seat) (sym h.alike.shows.cluster) in
-    written_if c gives first text said wants in_round p n d value x (may_write_as p.world.cluster n d x.seat) low at same
+    written_if c gives first text said wants rounds p n d value x (may_write_as p.world.cluster n d x.seat) low at same
     (shape ∙ (ap (λ z. if_up z (writes_of c n d value)) (h.alike.shows.node n (Up x) low at) ∙ ap (λ r. writing_wants n d value r) same)) h apart brought
 
 -- that a fault or a stop is armed is to be told
 abbrev armed_due : Due
-armed_due = due_so_far (Note Armed ∷ []) false
+armed_due = due_so_far (Note Armed ∷ []) None
 
 -- A fault is armed.
 
@@ -257,7 +258,7 @@ fault_so c first text said p n d done known h =
     let s : Scene = seen c first text said nothing p h in
     let e : Event = event.Fault n d done in
     let lines : List Line = line.Event e ∷ said in
-    noted c first text lines false (with_world p (world.with_fault p.world n d (Some done))) Armed
+    noted c first text lines None (with_world p (world.with_fault p.world n d (Some done))) Armed
     (stands_so c first text lines armed_due (with_world p (world.with_fault p.world n d (Some done))) h.nodes (happened c s (Speaks e))
     (reached_as c first nothing armed_due s (Speaks e) h.reached (known.0, known.1, known.2, subst (λ k. d ≤ k) (sym h.alike.count) known.3) tt refl)
     (faulted c text lines h.nodes (adding (Said (line.Event e)) s) p n d (Some done) (said_so c text said h.nodes s p e (followed c first text said nothing p h))))
@@ -279,7 +280,7 @@ stop_so c first text said p n calls choice low h =
     let e : Event = event.CrashAt n calls choice in
     let lines : List Line = line.Event e ∷ said in
     let q : Play = with_world p (with_stop_at p.world n calls (left_by choice) (slice_get p.world.disks (n - 1))) in
-    noted c first text lines false q Armed
+    noted c first text lines None q Armed
     (stands_so c first text lines armed_due q (with_arms c h.nodes n calls (left_by choice)) (happened c s (Speaks e)) (reached_as c first nothing armed_due s (Speaks e) h.reached tt tt refl)
     (stopped_at c text lines h.nodes (Said (line.Event e) ∷ h.moments) p n calls (left_by choice) (slice_get p.world.disks (n - 1)) low refl
     (said_so c text said h.nodes s p e (followed c first text said nothing p h))))

@@ -2,6 +2,7 @@
 pub mod Scenes
 pub mod Bringing
 pub mod Happenings
+pub mod Rounds
 pub mod Shapes
 pub mod Telling
 pub mod CommandLines

@@ -1,5 +1,7 @@
--- The shape of a run: each line of the schedule brings exactly what is due for it in the scene then, and so does each part of a round.
+-- The shape of a run: each line of the schedule brings exactly what is due for it in the scene then, and so does each part of a round; the parts come in
+-- their order.
 use Rattle.std.specs.Prelude.{ℕ, ◌^◌, ◌≡◌, nat_lt, Bool, true, false, List, [], ◌∷◌, Option, None, Some, Result, Ok, Err, is_some, if◌then◌else◌}
+use Rattle.std.specs.Option.{option_map}
 use Rattle.interconnect.specs.Links.{Packet, oldest_on, packet_of}
 use Rattle.pgr_device.specs.declared.command.PrCommand.{PrCommand}
 use Rattle.schedule_text.specs.declared.event.Event.{Event}
@@ -19,8 +21,9 @@ use Rattle.node_model.specs.declared.node.Node.TheVariants.{Down, Up}
 use Rattle.node_model.specs.declared.node.UpNode.{UpNode}
 use Rattle.world_model.specs.Devices.{due_at}
 use Rattle.world_model.specs.Lines.{monitors}
-use Rattle.run_history.specs.Happenings.{Happening, IsUp, happened}
+use Rattle.run_history.specs.Happenings.{Happening, happened}
 use Rattle.run_history.specs.Happenings.Happening.{Arrives, Begins, Commands, Loses, Misses, Notes, Refuses, Repeats, Speaks, Strays, Takes, Writes}
+use Rattle.run_history.specs.Rounds.{Progress, begun_by, next_part}
 use Rattle.run_history.specs.Scenes.{Scene}
 
 -- one thing that is due
@@ -131,42 +134,31 @@ IsThis (Write n d value) (Writes m e v now ends) = (m ≡ n) × (e ≡ d) × (v 
 IsThis (Refuse n d value cause) (Refuses m e v why) = (m ≡ n) × (e ≡ d) × (v ≡ value) × (why ≡ cause)
 IsThis w h = ⊥
 
--- what is due still: of the line or the part under way, and, in a round, parts behind it until the round is done
+-- what is due still: of the line or the part under way, and, in rounds, the parts behind it
 pub record Due : Type 0 where
   pub wants : List Want
-  pub in_round : Bool
+  pub rounds : Option Progress
 
-abbrev pub due : List Want → Bool → Due
-due wants in_round = record { wants = wants; in_round = in_round }
+abbrev pub due : List Want → Option Progress → Due
+due wants rounds = record { wants = wants; rounds = rounds }
 
 -- nothing: the next line may come
 abbrev pub nothing : Due
-nothing = due [] false
+nothing = due [] None
 
--- a part is never skipped: a packet in flight comes, a node that is up ticks, and does a command that is due
-abbrev pub MayBegin : Scene → Event → Type 0
-MayBegin s (event.Deliver number) = is_some (packet_of s.links.packets number) ≡ true
-MayBegin s (event.Tick n) = IsUp (s.nodes.node n)
-MayBegin s (event.Disk n) = is_some (due_at (Some (s.nodes.node n))) ≡ true
-MayBegin s _ = ⊥
+-- outside of rounds lines come, and in rounds the parts, one after another, until none is left: then they are done
+abbrev pub Opens : Scene → Option Progress → Happening → Type 0
+Opens s None (Speaks e) = Unit {0}
+Opens s (Some p) (Begins e) = option_map (λ (next : Event × Progress). next.0) (next_part s p) ≡ Some e
+Opens s (Some p) (Notes e) = (e ≡ RoundsDone) × (next_part s p ≡ None)
+Opens s rounds h = ⊥
 
--- outside of rounds lines come, and in a round parts, until it is done; which parts, and how many, is not said here
-abbrev pub Opens : Scene → Bool → Happening → Type 0
-Opens s false (Speaks e) = Unit {0}
-Opens s true (Begins e) = MayBegin s e
-Opens s true (Notes e) = e ≡ RoundsDone
-Opens s in_round h = ⊥
-
-abbrev pub Comes : Scene → List Want → Bool → Happening → Type 0
-Comes s [] in_round h = Opens s in_round h
-Comes s (w ∷ wants) in_round h = IsThis w h
+abbrev pub Comes : Scene → List Want → Option Progress → Happening → Type 0
+Comes s [] rounds h = Opens s rounds h
+Comes s (w ∷ wants) rounds h = IsThis w h
 
 abbrev pub IsDue : Scene → Due → Happening → Type 0
-IsDue s d h = Comes s d.wants d.in_round h
-
-abbrev pub is_rounds : Event → Bool
-is_rounds (event.Rounds count nodes) = true
-is_rounds _ = false
+IsDue s d h = Comes s d.wants d.rounds h
 
 -- a command that is due no longer, since its node went down, does not come
 abbrev pub still : Scene → List Want → List Want
@@ -174,18 +166,23 @@ still s [] = []
 still s (Command n ∷ wants) = if is_some (due_at (Some (s.nodes.node n))) then Command n ∷ wants else wants
 still s (w ∷ wants) = w ∷ wants
 
-abbrev pub opened : Cluster → Scene → Happening → Due
-opened c s (Speaks e) = due (brings c s e) (is_rounds e)
-opened c s (Begins e) = due (brings c s e) true
-opened c s h = nothing
+-- what is left of the rounds once the next part has begun
+abbrev pub behind : Scene → Option Progress → Option Progress
+behind s None = None
+behind s (Some p) = option_map (λ (next : Event × Progress). next.1) (next_part s p)
 
-abbrev pub left : Cluster → Scene → List Want → Bool → Happening → Due
-left c s [] in_round h = opened c s h
-left c s (w ∷ wants) in_round h = due (still s wants) in_round
+abbrev pub opened : Cluster → Scene → Option Progress → Happening → Due
+opened c s rounds (Speaks e) = due (brings c s e) (begun_by s e)
+opened c s rounds (Begins e) = due (brings c s e) (behind s rounds)
+opened c s rounds h = nothing
+
+abbrev pub left : Cluster → Scene → List Want → Option Progress → Happening → Due
+left c s [] rounds h = opened c s rounds h
+left c s (w ∷ wants) rounds h = due (still s wants) rounds
 
 -- what is due behind it, in the scene after it
 abbrev pub due_after : Cluster → Scene → Due → Happening → Due
-due_after c s d h = left c s d.wants d.in_round h
+due_after c s d h = left c s d.wants d.rounds h
 
 -- each is due when it comes, from what was due on to what is due then
 abbrev pub ShapedFrom : Cluster → Scene → Due → List Happening → Due → Type 0
