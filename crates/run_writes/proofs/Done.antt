@@ -10,7 +10,7 @@ use Rattle.cmm_attempt.specs.Attempts.{AttemptState}
 use Rattle.cmm_attempt.specs.Calls.{May as MayTake, turn}
 use Rattle.cmm_member.specs.Nodes.{NodeState, with_entries, with_joined, with_valid}
 use Rattle.cmm_member.specs.Records.{NodeRecord}
-use Rattle.device_queue.specs.Queue.{joins}
+use Rattle.device_queue.specs.Queue.{after_seize, joins}
 use Rattle.node_model.specs.Members.{rested_by}
 use Rattle.node_model.specs.Seats.{installed_of, promised_of, promising, record_of, session_of, state_of}
 use Rattle.node_model.specs.declared.cluster.Cluster.{Cluster}
@@ -73,7 +73,7 @@ install_done p x y promised session not_yet h = (
   absurd (not_yet ((h.1 here).0 ∙ sym here))),
 )
 
-own_facts : (x : UpNode) (a : AttemptState) (s : NodeState) → Facts x → x.attempt ≡ Some a → x.seat ≡ Forming s → AttemptFacts s a
+pub own_facts : (x : UpNode) (a : AttemptState) (s : NodeState) → Facts x → x.attempt ≡ Some a → x.seat ≡ Forming s → AttemptFacts s a
 own_facts x a s f own seat = subst (λ z. OfSeat (Some a) z) seat (subst (λ o. OfSeat o x.seat) own f.attempt)
 
 pub change_done : (c : Cluster) (n : ℕ) (told : Delivered) (x : UpNode) (ch : Change) (p : ℕ) → Facts x → MayChange c n told x ch → UpDone p x → UpDone p (changed c n x ch)
@@ -119,7 +119,8 @@ act_done c n told x (Goes_on a k) p f may h = h
 act_done c n told x (Ends a e) p f may h = h
 act_done c n told x (Queues a d kind) p f may h =
     let s : seizing.SeizeState = seizing.begun kind a.plan.epoch a.plan.members n c.id (has (record_of x).valid d) in
-    if_either (UpDone p) (has a.plan.members n) _ x (done_same p x _ refl refl refl (λ none. joins_seize x.tasks d s ∙ none) h) h
+    let y : UpNode = record x { tasks = after_seize x.tasks d s } in
+    if_either (UpDone p) (has a.plan.members n) y x (done_same p x y refl refl refl (λ none. joins_seize x.tasks d s ∙ none) h) h
 act_done c n told x (Accepts kind e members d) p f may h =
     done_same p x (acted c n x (Accepts kind e members d)) refl refl refl (λ none. joins_seize x.tasks d (seizing.begun kind e members n c.id (has (record_of x).valid d)) ∙ none) h
 act_done c n told x (Takes at command a) p f may h = done_same p x (acted c n x (Takes at command a)) refl refl refl (λ none. joins_taken a x.tasks none) h
@@ -138,7 +139,7 @@ act_done c n told x (Makes change) p f may h = change_done c n told x change p f
 come_up_done : (c : Cluster) (n p : ℕ) (disk : NodeRecord) → 0 < p → p ≤ disk.promised → SiteDone (effect c n (site Down disk) Comes_up) p
 come_up_done c n p disk some kept = record { some = some; kept = kept; done = (kept, (λ at. absurd (less_not 0 p some at))) }
 
-pub doing_done : (c : Cluster) (n : ℕ) (told : Delivered) (node : Node) (disk : NodeRecord) (d : Doing) (p : ℕ) → FactsAt node disk → May c n told (site node disk) d → SiteDone (site node disk) p
+pub doing_done : (c : Cluster) (n : ℕ) (told : Delivered) (node : Node) (disk : NodeRecord) (d : Doing) (p : ℕ) → FactsAt n node disk → May c n told (site node disk) d → SiteDone (site node disk) p
     → SiteDone (effect c n (site node disk) d) p
 doing_done c n told Down disk Comes_up p f may h = come_up_done c n p disk h.some h.kept
 doing_done c n told (Up x) disk Comes_up p f may h = absurd may

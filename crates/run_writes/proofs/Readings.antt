@@ -229,7 +229,7 @@ none_listed (e ∷ es) d h =
 
 first_held : (full : List AttachedDevice) (es : List Seizing) (d : ℕ) → AllGood full es → AreApart (entry_numbers es) → is_held_in es d ≡ true → FirstHeld full es d
 first_held full [] d good apart held = absurd (false_true held)
-first_held full (e ∷ es) d good apart held = by_test (e.attached.device == d) refl
+first_held full (e ∷ es) d good apart held = by_test (e.attached.device == d) refl (λ k. first_held full es d good.1 apart.1 k)
   where
     here : (b : Bool) → b ≡ true → ((b && is_held_by e.result) || is_held_in es d) ≡ true → is_held_in es d ≡ false → is_held_by e.result ≡ true
     here true at h none = by_held (is_held_by e.result) (is_held_in es d) h none
@@ -239,8 +239,8 @@ first_held full (e ∷ es) d good apart held = by_test (e.attached.device == d) 
         by_held false q x y = absurd (false_true (sym y ∙ x))
     here false at h none = absurd (false_true at)
 
-    by_test : (b : Bool) → (e.attached.device == d) ≡ b → FirstHeld full (e ∷ es) d
-    by_test true at =
+    by_test : (b : Bool) → (e.attached.device == d) ≡ b → (is_held_in es d ≡ true → FirstHeld full es d) → FirstHeld full (e ∷ es) d
+    by_test true at later =
         let none : is_held_in es d ≡ false = none_listed es d (subst (λ n. list_any (λ x. x == n) (entry_numbers es) ≡ false) (same_number e.attached.device d at) apart.0) in
         record {
           entry = e;
@@ -249,8 +249,8 @@ first_held full (e ∷ es) d good apart held = by_test (e.attached.device == d) 
           held = here (e.attached.device == d) at held none;
           good = good.0;
         }
-    by_test false at =
-        let rest : FirstHeld full es d = first_held full es d good.1 apart.1 (sym (ap (λ b. (b && is_held_by e.result) || is_held_in es d) at) ∙ held) in
+    by_test false at later =
+        let rest : FirstHeld full es d = later (sym (ap (λ b. (b && is_held_by e.result) || is_held_in es d) at) ∙ held) in
         record {
           entry = rest.entry;
           found = ap (λ b. if b then Some e else find (λ x. x.attached.device == d) es) at ∙ rest.found;

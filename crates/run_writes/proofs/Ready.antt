@@ -323,12 +323,12 @@ course_ready c me outcome x Boot = tt
 course_ready c me outcome x Crash = tt
 course_ready c me outcome x Tick = tick_ready c me outcome x
 course_ready c me outcome x (Packet from message) = packet_ready c me outcome x from message
-course_ready c me outcome x CommandDue = none_ready c me x _ (distrusting_none x (begins_plainly x.tasks))
+course_ready c me outcome x CommandDue = none_ready c me x (cuts.distrusting_course x (begins_plainly x.tasks)) (distrusting_none x (begins_plainly x.tasks))
 course_ready c me outcome x (Answered a) = answered_ready c me x a (due_device x.tasks) (next_of x.tasks)
-course_ready c me outcome x (Wrote d value a) = (tt, none_ready c me x _ (fenced_none d a))
-course_ready c me outcome x (Commanded words) = none_ready c me x _ (command_none c me x words)
-course_ready c me outcome x (Reported r good) = none_ready c me x _ (report_none c me x r good)
-course_ready c me outcome x (Client name client port) = none_ready c me x _ (client_none c x name client port)
+course_ready c me outcome x (Wrote d value a) = (tt, none_ready c me x (cuts.fenced_course d a) (fenced_none d a))
+course_ready c me outcome x (Commanded words) = none_ready c me x (cuts.command_course c me x words) (command_none c me x words)
+course_ready c me outcome x (Reported r good) = none_ready c me x (cuts.report_course c me x r good) (report_none c me x r good)
+course_ready c me outcome x (Client name client port) = none_ready c me x (cuts.client_course c x name client port) (client_none c x name client port)
 
 under_ready : (c : Cluster) (me : ℕ) (x : UpNode) (disk : NodeRecord) (replies : List Reply) (k : Course) → GoesReady c me x k → AllReady c me (site (Up x) disk) (under replies k)
 under_ready c me x disk replies Stops h = tt

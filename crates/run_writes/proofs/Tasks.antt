@@ -1,5 +1,6 @@
 -- The joinings among the tasks of a node: one is put at the end, and the first task that is queued takes an answer.
 use Rattle.std.specs.Prelude.{ℕ, ◌≡◌, ◌≢◌, ◌==◌, ◌&&◌, ◌||◌, ◌++◌, not, Bool, true, false, List, [], ◌∷◌, Option, None, Some, find, if◌then◌else◌}
+use Rattle.std.specs.Option.{option_or}
 use Rattle.std.specs.List.{AllByRecursion, list_any}
 use Rattle.std.proofs.Common.{refl, sym, ap, subst, ◌∙◌, arith}
 use Rattle.std.proofs.lemmas.List.Folds.{find-append}
@@ -126,8 +127,8 @@ others_stay d a (u ∷ us) t first other = by_test (is_queued u) refl (λ f. oth
     by_test : (b : Bool) → is_queued u ≡ b → (find is_queued us ≡ Some t → join_of (after_answer us a) d ≡ join_of us d) → join_of (after_answer (u ∷ us) a) d ≡ join_of (u ∷ us) d
     by_test true is rest =
         let same : u ≡ t = same_some u t (sym (found_here is_queued u us is) ∙ first) in
-        let no : is_join_of d u ≡ false = subst (λ z. is_join_of d z ≡ false) (sym same) other in
-        ap (λ ts. join_of ts d) (ap after is) ∙ (found_later (is_join_of d) (answered a u) us (same_join d a u ∙ no) ∙ sym (found_later (is_join_of d) u us no))
+        let never : is_join_of d u ≡ false = subst (λ z. is_join_of d z ≡ false) (sym same) other in
+        ap (λ ts. join_of ts d) (ap after is) ∙ (found_later (is_join_of d) (answered a u) us (same_join d a u ∙ never) ∙ sym (found_later (is_join_of d) u us never))
     by_test false is rest =
         ap (λ ts. join_of ts d) (ap after is) ∙ ap (λ o. if is_join_of d u then Some u else o) (rest (sym (found_later is_queued u us is) ∙ first))
 
@@ -170,7 +171,7 @@ joins_taken a (t ∷ ts) none =
 -- where none is queued, that of a device is over
 pub join_over : (d : ℕ) (ts : List Task) (t : Task) → joins ts ≡ false → join_of ts d ≡ Some t → (is_queued t ≡ false) × (is_joining t.work ≡ true)
 join_over d [] t none found = absurd (none_some t found)
-join_over d (u ∷ us) t none found = by_test (is_join_of d u) refl
+join_over d (u ∷ us) t none found = by_test (is_join_of d u) refl (λ n f. join_over d us t n f)
   where
     two : ((is_joining u.work && is_queued u) ≡ false) × (joins us ≡ false)
     two = or_parts (is_joining u.work && is_queued u) (joins us) none
@@ -179,12 +180,12 @@ join_over d (u ∷ us) t none found = by_test (is_join_of d u) refl
     over true b h q = h
     over false b h q = absurd (false_true q)
 
-    by_test : (b : Bool) → is_join_of d u ≡ b → (is_queued t ≡ false) × (is_joining t.work ≡ true)
-    by_test true is =
+    by_test : (b : Bool) → is_join_of d u ≡ b → (joins us ≡ false → join_of us d ≡ Some t → (is_queued t ≡ false) × (is_joining t.work ≡ true)) → (is_queued t ≡ false) × (is_joining t.work ≡ true)
+    by_test true is more =
         let same : u ≡ t = same_some u t (sym (found_here (is_join_of d) u us is) ∙ found) in
         let own : is_joining u.work ≡ true = (and_cases (u.device == d) (is_joining u.work) is).1 in
         subst (λ z. (is_queued z ≡ false) × (is_joining z.work ≡ true)) same (over (is_joining u.work) (is_queued u) two.0 own, own)
-    by_test false is = join_over d us t two.1 (sym (found_later (is_join_of d) u us is) ∙ found)
+    by_test false is more = more two.1 (sym (found_later (is_join_of d) u us is) ∙ found)
 
 -- ---- joinings that begin
 
@@ -226,7 +227,7 @@ put_here c me e d ts none =
 pub begins_from : (c : Cluster) (me e had d : ℕ) (ts : List Task) (rs : List Reading) → has_path c.attached me d ≡ true → has had d ≡ false → has_reading d rs ≡ true → join_of ts d ≡ None
     → join_of (joining_from c me e had ts rs) d ≡ Some (new_join c me e d)
 begins_from c me e had d ts [] path out read none = absurd (false_true read)
-begins_from c me e had d ts (r ∷ rs) path out read none = by_test (r.device == d) refl
+begins_from c me e had d ts (r ∷ rs) path out read none = by_test (r.device == d) refl (λ zs now empty. begins_from c me e had d zs rs path out now empty)
   where
     with_this : Bool → List Task
     with_this b = if b then after_join ts r.device (joining.begun e me c.id) else ts
@@ -239,14 +240,15 @@ begins_from c me e had d ts (r ∷ rs) path out read none = by_test (r.device ==
     by_kind true is other = put_other (is_join_of d) (join_of ts r.device) (new_join c me e r.device) ts (ap (λ b. b && true) other) ∙ none
     by_kind false is other = none
 
-    by_test : (b : Bool) → (r.device == d) ≡ b → join_of (joining_from c me e had (with_this (is_to_join c me had r)) rs) d ≡ Some (new_join c me e d)
-    by_test true at =
+    by_test : (b : Bool) → (r.device == d) ≡ b → ((zs : List Task) → has_reading d rs ≡ true → join_of zs d ≡ None → join_of (joining_from c me e had zs rs) d ≡ Some (new_join c me e d))
+        → join_of (joining_from c me e had (with_this (is_to_join c me had r)) rs) d ≡ Some (new_join c me e d)
+    by_test true at more =
         let is : r.device ≡ d = same_number r.device d at in
         ap (λ b. join_of (joining_from c me e had (with_this b) rs) d) (to_join is)
         ∙ stays_from c me e had d (new_join c me e d) (after_join ts r.device (joining.begun e me c.id)) rs
         (ap (λ z. join_of (after_join ts z (joining.begun e me c.id)) d) is ∙ put_here c me e d ts none)
-    by_test false at =
-        begins_from c me e had d (with_this (is_to_join c me had r)) rs path out (sym (ap (λ b. b || has_reading d rs) at) ∙ read)
+    by_test false at more =
+        more (with_this (is_to_join c me had r)) (sym (ap (λ b. b || has_reading d rs) at) ∙ read)
         (by_kind (is_to_join c me had r) refl at)
 
 -- none begins at a device that is joined, or is not read

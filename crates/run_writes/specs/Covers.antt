@@ -1,9 +1,8 @@
 -- What an Install reads: each device that its attempt holds.
 use Rattle.std.specs.Prelude.{ℕ, ◌≡◌, ◌==◌, Bool, true, List, Option, None, Some}
-use Rattle.std.specs.List.{AllByRecursion, list_any}
+use Rattle.std.specs.List.{list_any}
 use Rattle.attempt_laws.specs.Asking.{AreApart, numbers_of}
 use Rattle.cmm_attempt.specs.Attempts.{AttemptState}
-use Rattle.cmm_attempt.specs.Calls.{IsReached}
 use Rattle.membership_machine.specs.State.{Memberships}
 use Rattle.node_model.specs.declared.node.Node.{Node}
 use Rattle.node_model.specs.declared.node.Node.TheVariants.{Down, Up}
@@ -44,7 +43,7 @@ HandCovers M (Some d) = Covers M d.1.body
 -- an attempt is of devices that are apart
 abbrev pub AttemptApart : Option AttemptState → Type 0
 AttemptApart None = Unit {0}
-AttemptApart (Some a) = IsReached a × AreApart (numbers_of a.plan.attached)
+AttemptApart (Some a) = AreApart (numbers_of a.plan.attached)
 
 abbrev pub NodeApart : Node → Type 0
 NodeApart Down = Unit {0}

@@ -3,13 +3,16 @@ use Rattle.std.specs.Prelude.{ℕ, ◌≡◌, ◌≢◌, ◌<◌, ◌==◌, true
 use Rattle.std.specs.List.{AllByRecursion}
 use Rattle.attempt_laws.specs.Machine.{is_member}
 use Rattle.attempt_laws.specs.Staying.{IsBefore}
+use Rattle.cl_base.specs.Numbers.{numbers_to}
 use Rattle.cmm_attempt.specs.Attempts.{AttemptState}
+use Rattle.cmm_attempt.specs.declared.phase.Phase.TheVariants.{Installing}
 use Rattle.cmm_attempt.specs.declared.phase.Readied.{Readied}
 use Rattle.device_queue.specs.Queue.{joins, progress_after}
 use Rattle.device_queue.specs.Tasks.{command_in, is_joining, is_queued}
 use Rattle.device_queue.specs.declared.progress.Progress.{Progress}
 use Rattle.device_queue.specs.declared.progress.Progress.TheVariants as progress
 use Rattle.device_queue.specs.declared.task.Task.{Task}
+use Rattle.history.specs.Deeds.{Deed, Started}
 use Rattle.node_model.specs.Clusters.{has_path}
 use Rattle.node_model.specs.Seats.{installed_of, record_of, session_of}
 use Rattle.node_model.specs.declared.cluster.Cluster.{Cluster}
@@ -33,21 +36,27 @@ use Rattle.seize.specs.Answers.{Answer}
 use Rattle.seize.specs.declared.kind.JoinResult.TheVariants as join
 use Rattle.status_report.specs.declared.entry.Entry.{Entry}
 use Rattle.status_report.specs.declared.entry.Entry.TheVariants as entry
-use Rattle.status_report.specs.declared.start_entry.StartEntry.{StartEntry}
-use Rattle.status_report.specs.declared.start_entry.StartEntry.TheVariants as start
+use Rattle.status_report.specs.declared.device_entry.DeviceEntry.TheVariants as device
+use Rattle.status_report.specs.declared.node_entry.NodeEntry.TheVariants as note
+use Rattle.wire.specs.Spelling.{IsDevice}
 use Rattle.wire.specs.declared.message.Body.{Body}
 use Rattle.wire.specs.declared.message.Body.TheVariants as body
 use Rattle.run_writes.specs.Joins.{SiteDone}
 
 -- ---- by the tie with the machine
 
-abbrev pub FactsAt : Node → NodeRecord → Type 0
-FactsAt Down disk = Unit {0}
-FactsAt (Up x) disk = Facts x × (disk ≡ record_of x)
+-- its attempt is its own
+abbrev pub PlanIn : ℕ → Option AttemptState → Type 0
+PlanIn n None = Unit {0}
+PlanIn n (Some a) = (a.plan.coordinator ≡ n) × (a.plan.nodes ≡ numbers_to a.plan.members 32)
+
+abbrev pub FactsAt : ℕ → Node → NodeRecord → Type 0
+FactsAt n Down disk = Unit {0}
+FactsAt n (Up x) disk = Facts x × (disk ≡ record_of x) × PlanIn n x.attempt
 
 abbrev pub AllKnown : Cluster → ℕ → Site → List Doing → Type 0
 AllKnown c me x [] = Unit {0}
-AllKnown c me x (d ∷ ds) = FactsAt x.node x.disk × AllKnown c me (effect c me x d) ds
+AllKnown c me x (d ∷ ds) = FactsAt me x.node x.disk × AllKnown c me (effect c me x d) ds
 
 -- ---- the answer to a command
 
@@ -65,6 +74,7 @@ pub record TakeSo (c : Cluster) (n : ℕ) (x : UpNode) (at : ℕ) (k : PrCommand
   pub first : find is_queued x.tasks ≡ Some task
   pub device : task.device ≡ at
   pub due : command_in task.work ≡ Some k
+  pub place : IsDevice at
   pub joins : 0 < session_of x → installed_of x ≡ session_of x → is_joining task.work ≡ true
   pub fine : has_path c.attached n at ≡ true → IsFine k a
 
@@ -97,7 +107,7 @@ Ready = ℕ → ℕ → Type 0
 pub record AttemptSo (K : Ready) (tasks : List Task) (a : AttemptState) : Type 0 where
   pub readies : AllByRecursion (λ (r : Readied). K r.node a.plan.epoch) a.readies
   pub before : IsBefore a.phase → a.own_ready ≡ false
-  pub own : a.own_ready ≡ true → joins tasks ≡ false
+  pub own : a.phase ≡ Installing → a.own_ready ≡ true → joins tasks ≡ false
 
 abbrev pub AttemptIn : Ready → List Task → Option AttemptState → Type 0
 AttemptIn K tasks None = Unit {0}
@@ -116,20 +126,43 @@ abbrev pub HandReady : Ready → Delivered → Type 0
 HandReady K None = Unit {0}
 HandReady K (Some d) = TellsReady K d.0 d.1.body
 
--- a start tells that its other members are
-abbrev pub StartReady : Ready → ℕ → StartEntry → Site → Type 0
-StartReady K n (start.Started e members held count) y = SiteDone y e × ((m : ℕ) → is_member members m ≡ true → m ≢ n → K m e)
-StartReady K n e y = Unit {0}
-
-abbrev pub EntryReady : Ready → ℕ → Entry → Site → Type 0
-EntryReady K n (entry.Start e) y = StartReady K n e y
-EntryReady K n e y = Unit {0}
-
+-- what a node gives that is y then
 abbrev pub BodySaid : Body → Site → Type 0
 BodySaid (body.Ready p devices report) y = SiteDone y p
 BodySaid b y = Unit {0}
 
--- so is what a node gives that is y then
-abbrev pub OutputReady : Ready → ℕ → Site → Output → Type 0
-OutputReady K n y (Tells e) = EntryReady K n e y
-OutputReady K n y (Sends to b) = BodySaid b y
+abbrev pub OutputReady : Site → Output → Type 0
+OutputReady y (Tells e) = Unit {0}
+OutputReady y (Sends to b) = BodySaid b y
+
+-- a start is of members that are ready; of node n, which is y then, it is said by itself
+abbrev pub DeedReady : Ready → ℕ → Site → Deed → Type 0
+DeedReady K n y (Started s updates) = (m : ℕ) → is_member s.members m ≡ true → (m ≢ n → K m s.epoch) × (m ≡ n → SiteDone y s.epoch)
+DeedReady K n y d = Unit {0}
+
+-- ---- what is given
+
+-- no key is registered by it, and no word read
+abbrev pub PlainCommand : PrCommand → Type 0
+PlainCommand (command.Ignore key) = ⊥
+PlainCommand command.Word = ⊥
+PlainCommand k = Unit {0}
+
+-- it says nothing of what the node has joined
+abbrev pub PlainEntry : Entry → Type 0
+PlainEntry (entry.Device (device.Command m d k a)) = PlainCommand k
+PlainEntry (entry.Node m (note.Installed e)) = ⊥
+PlainEntry e = Unit {0}
+
+-- neither an Install nor a Ready
+abbrev pub PlainBody : Body → Type 0
+PlainBody (body.Install i) = ⊥
+PlainBody (body.Ready p devices report) = ⊥
+PlainBody b = Unit {0}
+
+abbrev pub IsPlain : Output → Type 0
+IsPlain (Tells e) = PlainEntry e
+IsPlain (Sends to b) = PlainBody b
+
+abbrev pub ArePlain : List Output → Type 0
+ArePlain os = AllByRecursion IsPlain os
