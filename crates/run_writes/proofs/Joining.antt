@@ -50,12 +50,12 @@ use Rattle.run_writes.proofs.Tasks.{begins_from, join_seize, lone_from, lone_non
 
 -- ---- what changes nothing of it
 
-record Same (x y : UpNode) : Type 0 where
-  session : session_of y ≡ session_of x
-  installed : installed_of y ≡ installed_of x
-  joined : (state_of y.seat).joined ≡ (state_of x.seat).joined
-  tasks : (d : ℕ) → join_of y.tasks d ≡ join_of x.tasks d
-  lone : AllLone x.tasks → AllLone y.tasks
+pub record Same (x y : UpNode) : Type 0 where
+  pub session : session_of y ≡ session_of x
+  pub installed : installed_of y ≡ installed_of x
+  pub joined : (state_of y.seat).joined ≡ (state_of x.seat).joined
+  pub tasks : (d : ℕ) → join_of y.tasks d ≡ join_of x.tasks d
+  pub lone : AllLone x.tasks → AllLone y.tasks
 
 -- the lines after say of it what those before say
 abbrev pub SaySame : ℕ → List Moment → List Moment → Type 0

@@ -120,7 +120,7 @@ rested_in : (K : Ready) (tasks : List Task) (x : UpNode) (p : ℕ) (o : Option A
 rested_in K tasks x p None = tt
 rested_in K tasks x p (Some a) = tt
 
-own_ready_so : (x : UpNode) (k : Call) → CallReady x k → k ≡ Own_ready → joins x.tasks ≡ false
+pub own_ready_so : (x : UpNode) (k : Call) → CallReady x k → k ≡ Own_ready → joins x.tasks ≡ false
 own_ready_so x k h is = subst (CallReady x) is h
 
 change_in : (K : Ready) (c : Cluster) (n : ℕ) (told : Delivered) (x : UpNode) (ch : Change) → Facts x → MayChange c n told x ch → HandReady K told → ChangeReady x ch → AttemptIn K x.tasks x.attempt

@@ -28,7 +28,7 @@ use Rattle.node_model.specs.declared.output.Output.TheVariants.{Sends, Tells}
 use Rattle.node_model.specs.declared.seat.Seat.{Seat}
 use Rattle.node_model.specs.declared.seat.Seat.TheVariants.{Forming, Member}
 use Rattle.refinement.proofs.Attempts.{install_epoch, may_be_called, reached_more}
-use Rattle.refinement.specs.Doings.{Act, Change, Doing, Site, changed, command_line, effect, first_lines, gives, gone_line, last_lines, of_node, said, site}
+use Rattle.refinement.specs.Doings.{Act, Change, Doing, Site, acted, changed, command_line, effect, first_lines, gives, gone_line, last_lines, of_node, said, site}
 use Rattle.refinement.specs.Doings.Act.{Accepts, Dates, Ends, Gives, Goes_on, Hears, Makes, Minds, Notes, Queues, Spreads, Stores, Takes, Ticks, Waits, Works, Writes}
 use Rattle.refinement.specs.Doings.Change.{Acks, Admits, Commits, Counts, Distrusts, Installs, Leads, Prepares, Promises, Proposes, Sits, Starts}
 use Rattle.refinement.specs.Doings.Doing.{Comes_up, Does, Forgets, Goes_down, Loses, Saves}

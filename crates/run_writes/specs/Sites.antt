@@ -26,7 +26,7 @@ use Rattle.pgr_device.specs.declared.command.PrCommand.{PrCommand}
 use Rattle.pgr_device.specs.declared.command.PrCommand.TheVariants as command
 use Rattle.cmm_member.specs.Records.{NodeRecord}
 use Rattle.refinement.specs.Doings.{Act, Change, Doing, Site, effect}
-use Rattle.refinement.specs.Doings.Act.{Takes}
+use Rattle.refinement.specs.Doings.Act.{Makes, Takes}
 use Rattle.refinement.specs.Doings.Change.{Admits}
 use Rattle.refinement.specs.Doings.Doing.{Does, Saves}
 use Rattle.refinement.specs.Facts.{Facts}
@@ -82,13 +82,14 @@ abbrev pub NotJoined : Progress → Type 0
 NotJoined (progress.Joined d join.Joined) = ⊥
 NotJoined p = Unit {0}
 
-abbrev pub ActTakes : Cluster → ℕ → UpNode → Act → Type 0
-ActTakes c n x (Takes at k a) = TakeSo c n x at k a × NotJoined (progress_after x.tasks a)
-ActTakes c n x act = Unit {0}
-
 abbrev pub ChangeTakes : Cluster → ℕ → UpNode → Change → Type 0
 ChangeTakes c n x (Admits at k a d) = TakeSo c n x at k a × (progress_after x.tasks a ≡ progress.Joined d join.Joined)
 ChangeTakes c n x change = Unit {0}
+
+abbrev pub ActTakes : Cluster → ℕ → UpNode → Act → Type 0
+ActTakes c n x (Takes at k a) = TakeSo c n x at k a × NotJoined (progress_after x.tasks a)
+ActTakes c n x (Makes change) = ChangeTakes c n x change
+ActTakes c n x act = Unit {0}
 
 abbrev pub DoingTakes : Cluster → ℕ → Site → Doing → Type 0
 DoingTakes c n x (Does a) = OfUp (λ y. ActTakes c n y a) x.node
