@@ -54,8 +54,7 @@ use Rattle.run_history.specs.Members.{NodeLines}
 use Rattle.run_history.specs.Scenes.{Scene, fault_in, passing}
 use Rattle.run_history.specs.Shapes.{Want, if_up, writing}
 use Rattle.run_history.specs.WorldLines.{AreDisks, IsAtDevices, IsDevice}
-use Rattle.run_history.proofs.DevicesRun.{write_device}
-use Rattle.run_history.proofs.Known.{write_path}
+use Rattle.run_history.proofs.Known.{first_listed, listed_is, write_named, write_path}
 use Rattle.run_messages.specs.Laws.{IsSeated, membership_in}
 use Rattle.run_lines.proofs.Adds.{Adds}
 use Rattle.run_writes.specs.Written.{Leaves, NodeHeld, SeatHeld, Ties}
@@ -67,7 +66,7 @@ abbrev IsWriteAnswer : Answer → Type 0
 IsWriteAnswer (Ok given.Good) = Unit {0}
 IsWriteAnswer (Ok given.Conflict) = Unit {0}
 IsWriteAnswer (Ok _) = ⊥
-IsWriteAnswer (Err lost) = Unit {0}
+IsWriteAnswer (Err _) = Unit {0}
 
 -- what the node gives of it
 abbrev outcome_of : ℕ → ℕ → ℕ → ℕ → Answer → List Output
@@ -80,7 +79,7 @@ wrote_given : (c : Cluster) (n now : ℕ) (ends : method.Outcome) (x : UpNode) (
     → (stepped disk_rules c n now ends (Up x) disk (input.Wrote d value a)).given ≡ Tells (write_told n d value a) ∷ outcome_of (session_of x) n d value a
 wrote_given c n now ends x disk d value (Ok given.Good) is = refl
 wrote_given c n now ends x disk d value (Ok given.Conflict) is = refl
-wrote_given c n now ends x disk d value (Err lost) is = refl
+wrote_given c n now ends x disk d value (Err _) is = refl
 wrote_given c n now ends x disk d value (Ok _) is = absurd is
 
 -- these entries are added, and no other
@@ -91,11 +90,11 @@ pub record Adding (before after entries : List Moment) : Type 0 where
 wrote_passing : (t : Scene) (e n d value : ℕ) (a : Answer) → IsWriteAnswer a
     → Adding t.moments (passing n (Tells (write_told n d value a) ∷ outcome_of e n d value a) t).moments (device n d (Write value) (answer_told a) ∷ written e n d value (answer_told a))
 wrote_passing t e n d value (Ok given.Good) is =
-    record { adds = record { entries = device n d (Write value) (answer_told (Ok given.Good)) ∷ written e n d value (answer_told (Ok given.Good)); are = (tt, tt, tt); is = refl }; are = refl }
+    record { adds = record { entries = device n d (Write value) (answer_told (Ok given.Good)) ∷ written e n d value (answer_told (Ok given.Good)); are = (tt, (tt, tt)); is = refl }; are = refl }
 wrote_passing t e n d value (Ok given.Conflict) is =
-    record { adds = record { entries = device n d (Write value) (answer_told (Ok given.Conflict)) ∷ written e n d value (answer_told (Ok given.Conflict)); are = (tt, tt, tt, tt); is = refl }; are = refl }
-wrote_passing t e n d value (Err lost) is =
-    record { adds = record { entries = device n d (Write value) (answer_told (Err lost)) ∷ written e n d value (answer_told (Err lost)); are = (tt, tt, tt); is = refl }; are = refl }
+    record { adds = record { entries = device n d (Write value) (answer_told (Ok given.Conflict)) ∷ written e n d value (answer_told (Ok given.Conflict)); are = (tt, (tt, (tt, tt))); is = refl }; are = refl }
+wrote_passing t e n d value (Err _) is =
+    record { adds = record { entries = device n d (Write value) (answer_told (Err (record {}))) ∷ written e n d value (answer_told (Err (record {}))); are = (tt, (tt, tt)); is = refl }; are = refl }
 wrote_passing t e n d value (Ok _) is = absurd is
 
 -- a device with a path to the node answers so
@@ -154,7 +153,7 @@ write_at S s n d value now ends (Up y) few low devices at seated may =
     let h : Header = S.header in
     let c : Cluster = first_cluster h in
     let ms : List Moment = s.moments in
-    let is : IsDevice h d = write_device h n d (Up y) few may in
+    let is : IsDevice h d = listed_is h d few (write_named c n d y.seat (first_listed h few) may) in
     let w : Writer c n d y ms = member_writes c n d y ms y.seat refl seated may in
     let x : Device = state_of h d ms in
     let path : has x.paths n ≡ true = ap (λ p. has p n) (paths_stay h d ms) ∙ (sym (path_so h n d is.0) ∙ w.path) in
@@ -204,11 +203,11 @@ seat_written S ms n d value (Member s) later disks low seated held leaves =
 node_written : (S : Setting) (ms : List Moment) (n d value : ℕ) (z : Node) (later : List Moment) → AreDisks S.header → 1 ≤ d → is_up n ms ≡ true → NodeLines n z ms → IsSeated ms n z
     → NodeHeld (first_cluster S.header) ms n d z → LineLeaves S ms n d value (if_up z (λ x. writing n d value (may_write_as (first_cluster S.header) n d x.seat))) later
     → later ≡ write_entries S ms n d value
-node_written S ms n d value Down later disks low up lines seated held leaves = absurd (false_true (sym lines ∙ up))
-node_written S ms n d value (Up x) later disks low up lines seated held leaves = seat_written S ms n d value x.seat later disks low seated held leaves
+node_written S ms n d value Down later disks low on lines seated held leaves = absurd (false_true (sym lines ∙ on))
+node_written S ms n d value (Up x) later disks low on lines seated held leaves = seat_written S ms n d value x.seat later disks low seated held leaves
 
 pub line_written : (S : Setting) (s : Scene) (n d value : ℕ) (later : List Moment) → AreDisks S.header → Ties S s → 1 ≤ d → is_up n s.moments ≡ true
     → LineLeaves S s.moments n d value (if_up (s.nodes.node n) (λ x. writing n d value (may_write_as (first_cluster S.header) n d x.seat))) later
     → later ≡ write_entries S s.moments n d value
-line_written S s n d value later disks ties low up leaves =
-    node_written S s.moments n d value (s.nodes.node n) later disks low up (ties.nodes n) (ties.seats n) (ties.held n d) leaves
+line_written S s n d value later disks ties low on leaves =
+    node_written S s.moments n d value (s.nodes.node n) later disks low on (ties.nodes n) (ties.seats n) (ties.held n d) leaves
