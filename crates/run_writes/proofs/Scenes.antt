@@ -60,7 +60,7 @@ use Rattle.run_writes.proofs.Walk.{Hand, Mid, Walked, walk}
 
 -- ---- what is ready stays ready
 
-abbrev Up_to : Ready → Ready → Type 0
+abbrev pub Up_to : Ready → Ready → Type 0
 Up_to K L = (n p : ℕ) → K n p → L n p
 
 readies_up : (K L : Ready) → Up_to K L → (e : ℕ) (rs : List Readied) → AllByRecursion (λ (r : Readied). K r.node e) rs → AllByRecursion (λ (r : Readied). L r.node e) rs
@@ -71,7 +71,7 @@ attempt_up : (K L : Ready) → Up_to K L → (tasks : List Task) (o : Option Att
 attempt_up K L more tasks None h = tt
 attempt_up K L more tasks (Some a) h = record { readies = readies_up K L more a.plan.epoch a.readies h.readies; before = h.before; own = h.own }
 
-node_up : (K L : Ready) → Up_to K L → (node : Node) → NodeReady K node → NodeReady L node
+pub node_up : (K L : Ready) → Up_to K L → (node : Node) → NodeReady K node → NodeReady L node
 node_up K L more Down h = tt
 node_up K L more (Up x) h = attempt_up K L more x.tasks x.attempt h
 
@@ -79,7 +79,7 @@ tells_up : (K L : Ready) → Up_to K L → (from : ℕ) (b : Body) → TellsRead
 tells_up K L more from (body.Ready p devices report) h = more from p h
 tells_up K L more from _ h = tt
 
-letters_up : (K L : Ready) → Up_to K L → (ls : List Letter) → AllByRecursion (λ (l : Letter). TellsReady K l.from l.body) ls → AllByRecursion (λ (l : Letter). TellsReady L l.from l.body) ls
+pub letters_up : (K L : Ready) → Up_to K L → (ls : List Letter) → AllByRecursion (λ (l : Letter). TellsReady K l.from l.body) ls → AllByRecursion (λ (l : Letter). TellsReady L l.from l.body) ls
 letters_up K L more [] h = tt
 letters_up K L more (l ∷ ls) h = (tells_up K L more l.from l.body h.0, letters_up K L more ls h.1)
 
