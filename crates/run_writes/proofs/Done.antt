@@ -1,13 +1,12 @@
 -- A node that has nothing left to join in a session that it has installed has nothing later, as long as it is in this session.
-use Rattle.std.specs.Prelude.{ℕ, ◌≡◌, ◌≢◌, ◌<◌, ◌≤◌, true, false, List, [], ◌∷◌, Option, None, Some, Bool, if◌then◌else◌}
+use Rattle.std.specs.Prelude.{ℕ, ◌≡◌, ◌≢◌, ◌<◌, ◌≤◌, false, Option, None, Some}
 use Rattle.std.proofs.Common.{refl, sym, ap, subst, ◌∙◌, arith}
-use Rattle.attempt_laws.proofs.Goes.{chosen_reached, goes_by_call}
-use Rattle.attempt_laws.proofs.Stays.{installs_come_before, plan_stays}
+use Rattle.attempt_laws.proofs.Stays.{installs_come_before}
 use Rattle.ccr_commit.specs.Entries.{all_committed, with_next}
 use Rattle.cl_base.specs.Sets.{has, set_without}
 use Rattle.cmm_attempt.proofs.Basics.{if_either}
 use Rattle.cmm_attempt.specs.Attempts.{AttemptState}
-use Rattle.cmm_attempt.specs.Calls.{May as MayTake, turn}
+use Rattle.cmm_attempt.specs.Calls.{May as MayTake}
 use Rattle.cmm_member.specs.Nodes.{NodeState, with_entries, with_joined, with_valid}
 use Rattle.cmm_member.specs.Records.{NodeRecord}
 use Rattle.device_queue.specs.Queue.{after_seize, joins}
@@ -17,11 +16,10 @@ use Rattle.node_model.specs.declared.cluster.Cluster.{Cluster}
 use Rattle.node_model.specs.declared.node.Node.{Node}
 use Rattle.node_model.specs.declared.node.Node.TheVariants.{Down, Up}
 use Rattle.node_model.specs.declared.node.UpNode.{UpNode}
-use Rattle.node_model.specs.declared.seat.Seat.{Seat}
 use Rattle.node_model.specs.declared.seat.Seat.TheVariants.{Forming}
 use Rattle.refinement.proofs.Attempts.{may_be_called}
 use Rattle.refinement.proofs.Texts.{state_with}
-use Rattle.refinement.specs.Doings.{Act, Change, Doing, Site, acted, changed, effect, site}
+use Rattle.refinement.specs.Doings.{Act, Change, Doing, acted, changed, effect, site}
 use Rattle.refinement.specs.Doings.Act.{Accepts, Dates, Ends, Gives, Goes_on, Hears, Makes, Minds, Notes, Queues, Spreads, Stores, Takes, Ticks, Waits, Works, Writes}
 use Rattle.refinement.specs.Doings.Change.{Acks, Admits, Commits, Counts, Distrusts, Installs, Leads, Prepares, Promises, Proposes, Sits, Starts}
 use Rattle.refinement.specs.Doings.Doing.{Comes_up, Does, Forgets, Goes_down, Loses, Saves}
@@ -29,7 +27,7 @@ use Rattle.refinement.specs.Facts.{AttemptFacts, Facts, OfSeat}
 use Rattle.refinement.specs.Guards.{May, MayAct, MayChange}
 use Rattle.refinement.specs.Ties.{Delivered}
 use Rattle.seize.specs.Seizing as seizing
-use Rattle.run_writes.specs.Joins.{NodeDone, SiteDone, UpDone}
+use Rattle.run_writes.specs.Joins.{SiteDone, UpDone}
 use Rattle.run_writes.specs.Sites.{FactsAt}
 use Rattle.run_writes.proofs.Tasks.{joins_seize, joins_taken}
 

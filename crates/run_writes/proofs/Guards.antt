@@ -22,7 +22,6 @@ use Rattle.device_queue.specs.declared.task.Work.{Work}
 use Rattle.device_queue.specs.declared.task.Work.TheVariants.{Joining, Seizing}
 use Rattle.device_ties.proofs.Readings.{reads}
 use Rattle.device_ties.specs.Devices.{DeviceTied}
-use Rattle.membership_machine.specs.State.{Memberships}
 use Rattle.pgr_device.specs.Device.{Device}
 use Rattle.pgr_device.specs.Spc.{answers, carried_out, conflict, may_read, step}
 use Rattle.pgr_device.specs.declared.command.PrAnswer.TheVariants as given
@@ -52,9 +51,8 @@ use Rattle.refinement.specs.Courses.Reply.{Done, Lost_new, Lost_old}
 use Rattle.refinement.specs.Cuts.{answered_course, doings, joined_course, progress_course, seized_course}
 use Rattle.refinement.specs.Doings.{Act, Change, Doing, Site, answered_so, effect, site}
 use Rattle.refinement.specs.Doings.Act.{Makes, Takes}
-use Rattle.refinement.specs.Doings.Change.{Acks, Admits, Commits, Counts, Distrusts, Installs, Leads, Prepares, Promises, Proposes, Sits, Starts}
+use Rattle.refinement.specs.Doings.Change.{Admits, Sits, Starts}
 use Rattle.refinement.specs.Doings.Doing.{Comes_up, Does, Forgets, Goes_down, Loses, Saves}
-use Rattle.refinement.specs.Guards.{OfUp}
 use Rattle.refinement.specs.Ties.{Delivered, setting_of}
 use Rattle.world_model.specs.Devices.{executed}
 use Rattle.world_model.specs.First.{first_cluster}

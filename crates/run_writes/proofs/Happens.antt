@@ -16,7 +16,6 @@ use Rattle.status_report.specs.declared.entry.Entry.{Entry}
 use Rattle.status_report.specs.declared.entry.Entry.TheVariants as entry
 use Rattle.status_report.specs.declared.packet_entry.PacketEntry.TheVariants as packet
 use Rattle.status_report.specs.declared.schedule_entry.SkipCause.{SkipCause}
-use Rattle.history.specs.Moment.{Moment}
 use Rattle.node_model.specs.Addresses.{refusal_at}
 use Rattle.node_model.specs.Devices.{may_write_as}
 use Rattle.node_model.specs.declared.cluster.Cluster.{Cluster}

@@ -1,5 +1,5 @@
 -- How far a node is with joining devices stays so in each small step.
-use Rattle.std.specs.Prelude.{ℕ, ◌≡◌, ◌<◌, ◌≤◌, ◌==◌, ◌∷◌, Bool, true, false, List, [], Option, None, Some}
+use Rattle.std.specs.Prelude.{ℕ, ◌≡◌, ◌<◌, ◌≤◌, ◌∷◌, Bool, true, false, List, [], Option, None, Some}
 use Rattle.std.proofs.Common.{refl, sym, ap, subst, ◌∙◌, arith}
 use Rattle.attempt_laws.proofs.Goes.{chosen_reached, goes_by_call}
 use Rattle.attempt_laws.proofs.Stays.{plan_stays}

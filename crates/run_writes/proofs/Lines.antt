@@ -41,7 +41,7 @@ use Rattle.wire.specs.Spelling.{spelling}
 use Rattle.wire.specs.declared.message.Message.{Message}
 use Rattle.world_model.specs.Sends.{is_sent, name_of}
 use Rattle.run_writes.specs.Joins.{is_spoiled}
-use Rattle.run_writes.specs.Sites.{ArePlain, IsPlain, PlainEntry}
+use Rattle.run_writes.specs.Sites.{ArePlain, PlainEntry}
 use Rattle.run_writes.proofs.Plain.{act_plain, first_plain, last_plain, spread_all}
 
 -- it says nothing of what node k joins

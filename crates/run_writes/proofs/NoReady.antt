@@ -48,7 +48,6 @@ use Rattle.status_report.specs.declared.command_entry.Answer.{Answer}
 use Rattle.status_report.specs.declared.command_entry.Answer.TheVariants as answer
 use Rattle.status_report.specs.declared.status_entry.StatusEntry.{StatusEntry}
 use Rattle.update_words.specs.Words.{ask_words_of, words_of}
-use Rattle.wire.specs.declared.message.Install.{Install}
 use Rattle.wire.specs.declared.message.Order.{Order}
 use Rattle.node_model.specs.Addresses.{request_for}
 use Rattle.ccr_tables.specs.declared.address.Address.{Address}

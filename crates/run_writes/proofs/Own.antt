@@ -1,13 +1,12 @@
 -- The attempt of a node in each small step: its devices are apart, and who is ready is so.
-use Rattle.std.specs.Prelude.{ℕ, ◌≡◌, true, false, List, [], ◌∷◌, Option, None, Some}
-use Rattle.std.proofs.Common.{refl, sym, ap, subst, ◌∙◌}
+use Rattle.std.specs.Prelude.{ℕ, ◌≡◌, false, List, [], Option, None, Some}
+use Rattle.std.proofs.Common.{sym, subst, ◌∙◌}
 use Rattle.attempt_laws.proofs.Stays.{plan_begins, plan_stays}
 use Rattle.attempt_laws.specs.Asking.{AreApart, numbers_of}
 use Rattle.cl_base.specs.Sets.{has}
 use Rattle.cmm_attempt.proofs.Basics.{if_either}
 use Rattle.cmm_attempt.specs.Attempts.{AttemptState}
-use Rattle.cmm_attempt.specs.Calls.{Call, IsReached, Own_ready, installs_in, turn}
-use Rattle.cmm_attempt.specs.declared.phase.Phase.TheVariants.{Installing}
+use Rattle.cmm_attempt.specs.Calls.{Call, IsReached, Own_ready, turn}
 use Rattle.cmm_attempt.specs.declared.plan.Plan.{Plan}
 use Rattle.cmm_member.specs.Nodes.{NodeState}
 use Rattle.cmm_member.specs.Records.{NodeRecord}
@@ -16,7 +15,7 @@ use Rattle.device_queue.specs.declared.task.Task.{Task}
 use Rattle.seize.specs.Seizing as seizing
 use Rattle.node_model.specs.Attempts.{own_promise}
 use Rattle.node_model.specs.Members.{rested_by}
-use Rattle.node_model.specs.Seats.{promising, record_of, state_of}
+use Rattle.node_model.specs.Seats.{promising, record_of}
 use Rattle.node_model.specs.declared.cluster.Cluster.{Cluster}
 use Rattle.node_model.specs.declared.node.Node.{Node}
 use Rattle.node_model.specs.declared.node.Node.TheVariants.{Down, Up}
@@ -28,13 +27,13 @@ use Rattle.refinement.specs.Doings.{Act, Change, Doing, acted, changed, effect, 
 use Rattle.refinement.specs.Doings.Act.{Accepts, Dates, Ends, Gives, Goes_on, Hears, Makes, Minds, Notes, Queues, Spreads, Stores, Takes, Ticks, Waits, Works, Writes}
 use Rattle.refinement.specs.Doings.Change.{Acks, Admits, Commits, Counts, Distrusts, Installs, Leads, Prepares, Promises, Proposes, Sits, Starts}
 use Rattle.refinement.specs.Doings.Doing.{Comes_up, Does, Forgets, Goes_down, Loses, Saves}
-use Rattle.refinement.specs.Facts.{AttemptFacts, Facts, OfSeat}
+use Rattle.refinement.specs.Facts.{Facts, OfSeat}
 use Rattle.refinement.specs.Guards.{May, MayAct, MayCall, MayChange}
 use Rattle.refinement.specs.Ties.{Delivered}
 use Rattle.run_history.proofs.Held.{installing_before}
 use Rattle.run_writes.specs.Covers.{AttemptApart, NodeApart}
 use Rattle.run_writes.specs.Ready.{ActReady, CallReady, ChangeReady, DoingReady}
-use Rattle.run_writes.specs.Sites.{AttemptIn, AttemptSo, FactsAt, HandReady, NodeReady, Ready}
+use Rattle.run_writes.specs.Sites.{AttemptIn, FactsAt, HandReady, NodeReady, Ready}
 use Rattle.run_writes.proofs.Readied.{begun_so, counted, turned}
 use Rattle.run_writes.proofs.Tasks.{joins_seize, joins_taken}
 

@@ -1,7 +1,7 @@
 -- Devices of the header: their paths, which stay, and that none is a server.
-use Rattle.std.specs.Prelude.{ℕ, zero, suc, ◌+◌, ◌-◌, ◌≡◌, ◌<◌, ◌≤◌, ◌==◌, ◌&&◌, ◌||◌, Bool, true, false, List, [], ◌∷◌, Option, None, Some, slice_get, if◌then◌else◌}
-use Rattle.std.specs.List.{AllByRecursion, list_any}
-use Rattle.std.proofs.Common.{refl, sym, ap, subst, ◌∙◌, arith}
+use Rattle.std.specs.Prelude.{ℕ, zero, suc, ◌+◌, ◌-◌, ◌≡◌, ◌<◌, ◌≤◌, ◌==◌, ◌&&◌, ◌||◌, Bool, true, false, List, [], ◌∷◌, Option, None, Some, slice_get}
+use Rattle.std.specs.List.{AllByRecursion}
+use Rattle.std.proofs.Common.{refl, sym, ap, ◌∙◌, arith}
 use Rattle.cl_base.specs.Sets.{has}
 use Rattle.cl_base.proofs.SetLemmas.{none_of_zero}
 use Rattle.cl_base.specs.declared.header.DeviceKind.{DeviceKind}
@@ -14,10 +14,8 @@ use Rattle.pgr_device.specs.declared.command.PrCommand.{PrCommand}
 use Rattle.pgr_device.specs.declared.run.Step.TheVariants.{Command}
 use Rattle.pgr_device.specs.Spc.{step}
 use Rattle.pgr_device.proofs.Laws.{run_stays}
-use Rattle.status_report.specs.declared.device_entry.DeviceEntry.TheVariants as device_entry
-use Rattle.status_report.specs.declared.entry.Entry.TheVariants as entry
-use Rattle.history.specs.DeviceRun.{armed_fault, commanded, first_state, state_of}
-use Rattle.history.specs.Moment.{Moment, Told}
+use Rattle.history.specs.DeviceRun.{armed_fault, commanded, state_of}
+use Rattle.history.specs.Moment.{Moment}
 use Rattle.history.specs.Setting.{is_server, is_server_in, is_server_kind, paths_in, paths_of}
 use Rattle.history.specs.Trace.{device}
 use Rattle.node_model.specs.Clusters.{has_path}

@@ -1,5 +1,5 @@
 -- What small steps give says nothing of what the node has joined, but for the answers to its commands, its installs, and the messages of its attempt.
-use Rattle.std.specs.Prelude.{ℕ, ◌+◌, ◌++◌, Bool, List, [], ◌∷◌, Option, None, Some, Ok, Err, if◌then◌else◌}
+use Rattle.std.specs.Prelude.{ℕ, ◌+◌, List, [], ◌∷◌, Option, None, Some, Ok}
 use Rattle.std.specs.List.{AllByRecursion}
 use Rattle.ccr_commit.specs.Entries.{all_committed}
 use Rattle.ccr_tables.specs.State.{ConfigState}
@@ -21,7 +21,7 @@ use Rattle.node_model.specs.declared.output.Output.{Output}
 use Rattle.node_model.specs.declared.output.Output.TheVariants.{Sends, Tells}
 use Rattle.node_model.specs.declared.presidency.Presidency.{Presidency}
 use Rattle.pgr_device.specs.declared.command.PrAnswer.TheVariants as given
-use Rattle.refinement.specs.Doings.{Act, Change, adopted_by, first_lines, gone_line, last_lines, said, superseded_lines, write_lines}
+use Rattle.refinement.specs.Doings.{Act, Change, adopted_by, first_lines, last_lines, said, superseded_lines, write_lines}
 use Rattle.refinement.specs.Doings.Act.{Accepts, Dates, Ends, Gives, Goes_on, Hears, Makes, Minds, Notes, Queues, Spreads, Stores, Takes, Ticks, Waits, Works, Writes}
 use Rattle.refinement.specs.Doings.Change.{Acks, Admits, Commits, Counts, Distrusts, Installs, Leads, Prepares, Promises, Proposes, Sits, Starts}
 use Rattle.refinement.specs.Guards.{TellNothing}
@@ -38,7 +38,7 @@ use Rattle.status_report.specs.declared.entry.Entry.{Entry}
 use Rattle.status_report.specs.declared.entry.Entry.TheVariants as entry
 use Rattle.wire.specs.declared.message.Body.{Body}
 use Rattle.wire.specs.declared.message.Body.TheVariants as body
-use Rattle.run_writes.specs.Sites.{ArePlain, IsPlain, PlainBody, PlainEntry}
+use Rattle.run_writes.specs.Sites.{ArePlain, IsPlain, PlainEntry}
 
 -- ---- lines
 

@@ -1,5 +1,5 @@
 -- Each run: lines and parts of rounds, each write with its entries.
-use Rattle.std.specs.Prelude.{ℕ, ◌^◌, ◌≡◌, ◌≤◌, ◌<◌, ◌++◌, Bool, true, false, List, [], ◌∷◌, Some, length, is_some}
+use Rattle.std.specs.Prelude.{ℕ, ◌^◌, ◌≡◌, ◌≤◌, ◌<◌, ◌++◌, Bool, true, false, List, [], ◌∷◌, None, Some, length, is_some}
 use Rattle.std.proofs.Common.{refl, sym, ap, subst, ◌∙◌, append-nil}
 use Rattle.cl_base.specs.Limits.{most_devices}
 use Rattle.cl_base.specs.declared.header.Header.{Header}
@@ -57,13 +57,16 @@ due_comes : (S : Setting) (s : Scene) (w : Want) (wants : List Want) (h : Happen
 due_comes S s (want.Write n d value) wants (Writes m e v now ends) few ties may is k =
     let c : Cluster = first_cluster S.header in
     let t : Scene = happened c s (Writes m e v now ends) in
-    let a : Adding s.moments t.moments (asked_device S s.moments m e v _) = write_adds S s m e v now ends few ties may in
+    let a : Adding s.moments t.moments (asked_device S s.moments m e v None) = write_adds S s m e v now ends few ties may in
     settles S s t (want.Write n d value) wants k.alone a.adds
-    (a.are ∙ (ap (λ z. asked_device S s.moments z e v _) is.0 ∙ (ap (λ z. asked_device S s.moments n z v _) is.1 ∙ ap (λ z. asked_device S s.moments n d z _) is.2))) k
+    (a.are ∙ (ap (λ z. asked_device S s.moments z e v None) is.0 ∙ (ap (λ z. asked_device S s.moments n z v None) is.1 ∙ ap (λ z. asked_device S s.moments n d z None) is.2))) k
+due_comes S s (want.Write n d value) wants _ few ties may is k = absurd is
 due_comes S s (want.Refuse n d value why) wants (Refuses m e v w) few ties may is k =
     let c : Cluster = first_cluster S.header in
-    settles S s (happened c s (Refuses m e v w)) (want.Refuse n d value why) wants k.alone (happening_adds c s (Refuses m e v w) tt)
+    let a : Adds s.moments (happened c s (Refuses m e v w)).moments = record { entries = refused m e v w ∷ []; are = (tt, tt); is = refl } in
+    settles S s (happened c s (Refuses m e v w)) (want.Refuse n d value why) wants k.alone a
     (ap (λ z. refused z e v w ∷ []) is.0 ∙ (ap (λ z. refused n z v w ∷ []) is.1 ∙ (ap (λ z. refused n d z w ∷ []) is.2 ∙ ap (λ z. refused n d value z ∷ []) is.3))) k
+due_comes S s (want.Refuse n d value why) wants _ few ties may is k = absurd is
 due_comes S s (want.Take n input.CommandDue) wants h few ties may is k =
     let c : Cluster = first_cluster S.header in
     readies S s (happened c s h) n n wants k.alone (happening_adds c s h (due_in_event (want.Take n input.CommandDue) wants h is k.alone)) k

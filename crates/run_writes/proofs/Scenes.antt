@@ -1,17 +1,15 @@
 -- A step of a node, and what has none, from scene to scene.
-use Rattle.std.specs.Prelude.{ℕ, ◌-◌, ◌≡◌, ◌≢◌, ◌≤◌, ◌⊎◌, ◌++◌, true, All, List, [], ◌∷◌, Option, None, Some, slice_get}
+use Rattle.std.specs.Prelude.{ℕ, ◌≡◌, ◌≢◌, ◌≤◌, ◌⊎◌, ◌++◌, true, All, List, [], ◌∷◌, Option, None, Some}
 use Rattle.std.specs.List.{AllByRecursion}
-use Rattle.std.proofs.Common.{refl, sym, ap, subst, ◌∙◌, inl, inr}
+use Rattle.std.proofs.Common.{refl, sym, subst, ◌∙◌, inl, inr}
 use Rattle.attempt_laws.specs.Asking.{AreApart, numbers_of}
 use Rattle.attempt_laws.specs.Machine.{is_member}
 use Rattle.cl_base.specs.declared.method.Outcome as method
 use Rattle.cmm_attempt.specs.Attempts.{AttemptState}
 use Rattle.cmm_attempt.specs.Calls.{IsDevice}
 use Rattle.cmm_attempt.specs.declared.phase.Readied.{Readied}
-use Rattle.cmm_member.specs.Records.{NodeRecord}
 use Rattle.device_queue.specs.declared.task.Task.{Task}
 use Rattle.history.specs.Deeds.{Acked, Deed, Proposed, Started, deeds}
-use Rattle.history.specs.Moment.{Moment}
 use Rattle.machine_base.proofs.Puts.{same_or_not}
 use Rattle.membership_machine.specs.Events.{Event as Step, Run}
 use Rattle.membership_machine.specs.Growth.{Grows}
@@ -43,7 +41,7 @@ use Rattle.run_history.proofs.DeedDoings.{AllPass, doings_pass}
 use Rattle.run_history.proofs.StartAttempts.{NodeHolds, node_holds_stay}
 use Rattle.run_history.proofs.Steps.{put_all}
 use Rattle.run_history.specs.Cuts.{StepCut, step_events}
-use Rattle.run_history.specs.DeedLines.{Closed, Passes}
+use Rattle.run_history.specs.DeedLines.{Passes}
 use Rattle.run_history.specs.Marks.{AllSo, deeds_on}
 use Rattle.run_history.specs.Scenes.{Scene, passing}
 use Rattle.run_history.specs.Stages.{site_of}

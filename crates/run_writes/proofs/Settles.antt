@@ -3,7 +3,6 @@ use Rattle.std.specs.Prelude.{ℕ, ◌-◌, ◌^◌, ◌≡◌, ◌≢◌, ◌�
 use Rattle.std.specs.List.{AllByRecursion}
 use Rattle.std.specs.Option.{option_and_then}
 use Rattle.std.proofs.Common.{refl, sym, ap, subst, ◌∙◌, inl, inr}
-use Rattle.attempt_laws.specs.Machine.{is_member}
 use Rattle.cl_base.specs.Limits.{most_devices}
 use Rattle.cl_base.specs.declared.header.Header.{Header}
 use Rattle.cl_base.specs.declared.method.Outcome as method
@@ -52,7 +51,7 @@ use Rattle.refinement.proofs.EveryRun.{is_true}
 use Rattle.refinement.proofs.Facts.{known_by}
 use Rattle.refinement.proofs.Handlers.{delivered_by}
 use Rattle.refinement.specs.Cuts.{doings}
-use Rattle.refinement.specs.Runs.{Letter, Nodes, WasSent}
+use Rattle.refinement.specs.Runs.{Nodes, WasSent}
 use Rattle.refinement.specs.Ties.{NodeTied, setting_of}
 use Rattle.world_model.specs.Devices.{due_at}
 use Rattle.world_model.specs.First.{first_cluster}
@@ -66,10 +65,9 @@ use Rattle.run_history.proofs.Stays.{whole_holds}
 use Rattle.run_history.proofs.WholeEachRun.{happens, runs_are_whole}
 use Rattle.run_history.proofs.WholeScenes.{Follows}
 use Rattle.run_history.specs.Cuts.{Cut, Cuts, StepCut, all_events, events_of, step_events}
-use Rattle.run_history.specs.DeedLines.{Passes}
 use Rattle.run_history.specs.Happenings.{Happening, IsPlain, MayAllHappen, MayHappen, all_happened, armed_by, commanded, commanded_at, happened, removed, taking}
 use Rattle.run_history.specs.Happenings.Happening.{Arrives, Begins, Commands, Loses, Misses, Notes, Refuses, Repeats, Speaks, Strays, Takes, Writes}
-use Rattle.run_history.specs.Runs.{ComesTo, CutsOf}
+use Rattle.run_history.specs.Runs.{CutsOf}
 use Rattle.run_history.specs.Scenes.{Scene, adding, dropped_so, first_scene, telling, with_links}
 use Rattle.run_history.specs.Stages.{site_of}
 use Rattle.run_history.specs.Wholes.{IsRunOfWhole, IsWhole}

@@ -1,5 +1,5 @@
 -- A node takes the answer to the command that is due: the joining of that device goes on as the line says, and the others stay.
-use Rattle.std.specs.Prelude.{ℕ, ◌≡◌, ◌==◌, ◌&&◌, ◌||◌, ◌<◌, ◌≤◌, not, Bool, true, false, List, [], ◌∷◌, Option, None, Some, Ok, Err, find, if◌then◌else◌}
+use Rattle.std.specs.Prelude.{ℕ, ◌≡◌, ◌==◌, ◌&&◌, ◌||◌, ◌<◌, ◌≤◌, not, Bool, true, false, List, ◌∷◌, Option, None, Some, Ok, Err, if◌then◌else◌}
 use Rattle.std.proofs.Common.{refl, sym, ap, subst, ◌∙◌, arith}
 use Rattle.cl_base.specs.Keys.{key_of}
 use Rattle.cl_base.specs.Sets.{has, set_with}
@@ -7,8 +7,7 @@ use Rattle.cl_base.proofs.SetLemmas.{has_with, or_bit_value}
 use Rattle.cmm_attempt.proofs.Basics.{false_true, none_some, same_number, same_some}
 use Rattle.cl_base.specs.Seizings.{SeizeResult}
 use Rattle.device_queue.specs.Queue.{after_answer, join_of, progress_after, progress_by}
-use Rattle.device_queue.specs.Tasks.{answered, command_in, is_join_of, is_joining, is_queued, joining_progress, progress_in, seizing_progress, work_answered}
-use Rattle.device_queue.specs.declared.progress.Progress.{Progress}
+use Rattle.device_queue.specs.Tasks.{answered, command_in, is_join_of, is_joining, joining_progress, progress_in, seizing_progress, work_answered}
 use Rattle.device_queue.specs.declared.progress.Progress.TheVariants as progress
 use Rattle.device_queue.specs.declared.task.Task.{Task}
 use Rattle.device_queue.specs.declared.task.Work.{Work}
@@ -27,14 +26,12 @@ use Rattle.seize.specs.declared.step.JoinStep.TheVariants as step
 use Rattle.status_report.specs.declared.device_entry.DeviceEntry.TheVariants as device
 use Rattle.status_report.specs.declared.entry.Entry.{Entry}
 use Rattle.status_report.specs.declared.entry.Entry.TheVariants as entry
-use Rattle.history.specs.Lines.{spoils}
 use Rattle.history.specs.Moment.{Moment, Told}
 use Rattle.node_model.specs.Clusters.{has_path}
 use Rattle.node_model.specs.Devices.{answer_told}
 use Rattle.node_model.specs.Seats.{installed_of, session_of, state_of}
 use Rattle.node_model.specs.declared.cluster.Cluster.{Cluster}
 use Rattle.node_model.specs.declared.node.UpNode.{UpNode}
-use Rattle.wire.specs.Spelling.{IsDevice}
 use Rattle.run_writes.specs.Joins.{AllLone, DeviceSo, Installed, StepSo, TaskSo, UpJoins, WorkSo, is_spoiled}
 use Rattle.run_writes.specs.Sites.{IsFine, NotJoined, TakeSo}
 use Rattle.run_writes.proofs.Lines.{spoils_elsewhere}

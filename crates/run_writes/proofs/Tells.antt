@@ -1,5 +1,5 @@
 -- What a small step tells: its Installs read all that their attempts hold, its Readies are of a node that is ready, and so are the members of its start.
-use Rattle.std.specs.Prelude.{ℕ, ◌≡◌, ◌≢◌, ◌<◌, ◌≤◌, ◌++◌, true, false, List, [], ◌∷◌, Option, None, Some}
+use Rattle.std.specs.Prelude.{ℕ, ◌≡◌, ◌≢◌, ◌<◌, ◌≤◌, ◌++◌, true, List, [], ◌∷◌, Option, None, Some}
 use Rattle.std.specs.List.{AllByRecursion}
 use Rattle.std.proofs.Common.{refl, sym, ap, subst, ◌∙◌, arith}
 use Rattle.attempt_laws.proofs.MachineLemmas.{starts_follow}
@@ -7,32 +7,27 @@ use Rattle.attempt_laws.proofs.Goes.{chosen_reached, goes_by_call}
 use Rattle.attempt_laws.proofs.Stays.{plan_stays}
 use Rattle.attempt_laws.specs.Asking.{AreApart, numbers_of}
 use Rattle.attempt_laws.specs.Machine.{is_member}
-use Rattle.cmm_attempt.proofs.Basics.{none_some}
 use Rattle.cmm_attempt.specs.Attempts.{AttemptState, install_in}
-use Rattle.cmm_attempt.specs.Calls.{Call, IsReached, May as MayTake, Own_ready, installs_in, starts_in, turn}
+use Rattle.cmm_attempt.specs.Calls.{Call, IsReached, May as MayTake, turn}
 use Rattle.cmm_attempt.specs.declared.phase.Phase.TheVariants.{Installing}
 use Rattle.cmm_attempt.specs.declared.plan.Plan.{Plan}
 use Rattle.cmm_member.specs.Nodes.{NodeState}
 use Rattle.cmm_member.specs.Records.{NodeRecord}
-use Rattle.device_queue.specs.Queue.{joins}
 use Rattle.membership_machine.specs.Growth.{Grows}
 use Rattle.membership_machine.specs.State.{Memberships}
-use Rattle.history.specs.Deeds.{Deed}
-use Rattle.node_model.specs.Seats.{installed_of, promised_of, record_of, session_of, state_of}
+use Rattle.node_model.specs.Seats.{installed_of, promised_of, record_of, state_of}
 use Rattle.node_model.specs.declared.cluster.Cluster.{Cluster}
 use Rattle.node_model.specs.declared.node.Node.{Node}
 use Rattle.node_model.specs.declared.node.Node.TheVariants.{Down, Up}
 use Rattle.node_model.specs.declared.node.UpNode.{UpNode}
 use Rattle.node_model.specs.declared.output.Output.{Output}
 use Rattle.node_model.specs.declared.output.Output.TheVariants.{Sends, Tells}
-use Rattle.node_model.specs.declared.seat.Seat.{Seat}
-use Rattle.node_model.specs.declared.seat.Seat.TheVariants.{Forming, Member}
 use Rattle.refinement.proofs.Attempts.{install_epoch, may_be_called, reached_more}
-use Rattle.refinement.specs.Doings.{Act, Change, Doing, Site, acted, changed, command_line, effect, first_lines, gives, gone_line, last_lines, of_node, said, site}
+use Rattle.refinement.specs.Doings.{Act, Change, Doing, Site, acted, changed, effect, first_lines, gives, gone_line, last_lines, of_node, said, site}
 use Rattle.refinement.specs.Doings.Act.{Accepts, Dates, Ends, Gives, Goes_on, Hears, Makes, Minds, Notes, Queues, Spreads, Stores, Takes, Ticks, Waits, Works, Writes}
 use Rattle.refinement.specs.Doings.Change.{Acks, Admits, Commits, Counts, Distrusts, Installs, Leads, Prepares, Promises, Proposes, Sits, Starts}
 use Rattle.refinement.specs.Doings.Doing.{Comes_up, Does, Forgets, Goes_down, Loses, Saves}
-use Rattle.refinement.specs.Facts.{AttemptFacts, Facts, OfSeat}
+use Rattle.refinement.specs.Facts.{AttemptFacts, Facts}
 use Rattle.refinement.specs.Guards.{May, MayAct, MayChange, MayWrite, OfAttempt, Says}
 use Rattle.refinement.specs.Ties.{Delivered}
 use Rattle.run_history.proofs.Lists.{both}
@@ -43,14 +38,14 @@ use Rattle.status_report.specs.declared.node_entry.NodeEntry.TheVariants as note
 use Rattle.wire.specs.declared.message.Body.{Body}
 use Rattle.wire.specs.declared.message.Body.TheVariants as body
 use Rattle.wire.specs.declared.message.Install.{Install}
-use Rattle.run_writes.specs.Covers.{AttemptApart, Covers, HandCovers, InstallCovers, NodeApart, OutputCovers, has_reading}
-use Rattle.run_writes.specs.Joins.{SiteDone, UpDone}
+use Rattle.run_writes.specs.Covers.{AttemptApart, Covers, HandCovers, InstallCovers, NodeApart, OutputCovers}
+use Rattle.run_writes.specs.Joins.{SiteDone}
 use Rattle.run_writes.specs.Ready.{ActReady, BodyReady, CallReady, ChangeReady, DoingReady}
-use Rattle.run_writes.specs.Sites.{ArePlain, AttemptIn, BodySaid, DeedReady, FactsAt, HandReady, IsPlain, NodeReady, OutputReady, PlainBody, PlanIn, Ready}
+use Rattle.run_writes.specs.Sites.{ArePlain, AttemptIn, BodySaid, DeedReady, FactsAt, HandReady, NodeReady, OutputReady, PlainBody, PlanIn, Ready}
 use Rattle.run_writes.proofs.Done.{own_facts}
 use Rattle.run_writes.proofs.Joining.{ChangeCovers}
 use Rattle.run_writes.proofs.Own.{own_ready_so, reached_by}
-use Rattle.run_writes.proofs.Plain.{act_plain, first_plain, last_plain, spread_all}
+use Rattle.run_writes.proofs.Plain.{act_plain, last_plain, spread_all}
 use Rattle.run_writes.proofs.Readied.{Started, starts_so}
 use Rattle.run_writes.proofs.Readings.{held_read}
 

@@ -1,5 +1,5 @@
 -- The small steps of a node, one after another, with its joinings, its attempt, what it tells, and its starts.
-use Rattle.std.specs.Prelude.{ℕ, ◌≡◌, ◌≢◌, ◌++◌, All, List, [], ◌∷◌, Option, None, Some}
+use Rattle.std.specs.Prelude.{ℕ, ◌≢◌, ◌++◌, All, List, [], ◌∷◌, Option, None, Some}
 use Rattle.std.specs.List.{AllByRecursion}
 use Rattle.std.proofs.Common.{refl, sym, subst, ◌∙◌}
 use Rattle.attempt_laws.specs.Asking.{AreApart, numbers_of}
@@ -17,7 +17,6 @@ use Rattle.membership_machine.proofs.Growth.{grows_over, grows_same}
 use Rattle.node_model.specs.declared.cluster.Cluster.{Cluster}
 use Rattle.node_model.specs.declared.node.Node.{Node}
 use Rattle.node_model.specs.declared.node.Node.TheVariants.{Down, Up}
-use Rattle.node_model.specs.declared.node.UpNode.{UpNode}
 use Rattle.node_model.specs.declared.output.Output.{Output}
 use Rattle.node_model.specs.declared.output.Output.TheVariants.{Sends, Tells}
 use Rattle.node_model.specs.declared.seat.Seat.{Seat}

@@ -1,28 +1,26 @@
 -- What a write comes to.
-use Rattle.std.specs.Prelude.{ℕ, ◌-◌, ◌≡◌, ◌≤◌, ◌⊎◌, ◌++◌, ◌||◌, not, Bool, true, false, List, [], ◌∷◌, Option, None, Some, Result, Ok, Err, is_ok, length, slice_get, if◌then◌else◌}
-use Rattle.std.proofs.Common.{refl, sym, ap, subst, ◌∙◌, inl, inr}
+use Rattle.std.specs.Prelude.{ℕ, ◌≡◌, ◌≤◌, ◌||◌, not, Bool, true, false, List, [], ◌∷◌, Option, None, Some, Ok, Err, is_ok, length, if◌then◌else◌}
+use Rattle.std.proofs.Common.{refl, sym, ap, subst, ◌∙◌}
 use Rattle.attempt_laws.proofs.Walk.{if_with}
 use Rattle.cl_base.specs.Sets.{has}
 use Rattle.cl_base.specs.declared.header.Header.{Header}
 use Rattle.cl_base.specs.declared.method.Outcome as method
 use Rattle.cl_base.specs.declared.panic.Panic.TheVariants.{Fenced}
-use Rattle.cmm_attempt.proofs.Basics.{false_true, if_either, none_some}
+use Rattle.cmm_attempt.proofs.Basics.{false_true, if_either}
 use Rattle.pgr_device.specs.Device.{Device}
 use Rattle.pgr_device.specs.Spc.{answers, carried_out, conflict, good, may_write, step}
-use Rattle.pgr_device.specs.declared.command.PrAnswer.{PrAnswer}
 use Rattle.pgr_device.specs.declared.command.PrAnswer.TheVariants as given
 use Rattle.pgr_device.specs.declared.command.PrCommand.TheVariants.{Write}
 use Rattle.schedule_text.specs.declared.event.Event.TheVariants as event
 use Rattle.schedule_text.specs.declared.line.Line.TheVariants as line
 use Rattle.seize.specs.Answers.{Answer}
 use Rattle.status_report.specs.declared.device_entry.DeviceEntry.TheVariants as device_entry
-use Rattle.status_report.specs.declared.device_entry.DeviceAnswer.{DeviceAnswer}
 use Rattle.status_report.specs.declared.device_entry.WriteRefusal.{WriteRefusal}
 use Rattle.status_report.specs.declared.device_entry.WriteRefusal.TheVariants as refusal
 use Rattle.status_report.specs.declared.entry.Entry.TheVariants as entry
 use Rattle.status_report.specs.declared.node_entry.DownCause.TheVariants as cause
 use Rattle.status_report.specs.declared.node_entry.NodeEntry.TheVariants as note
-use Rattle.history.specs.DeviceRun.{answer_of, armed_fault, state_of}
+use Rattle.history.specs.DeviceRun.{answer_of, state_of}
 use Rattle.history.specs.Lines.{asked_device, epoch_in, has_joined, refusal_due, write_entries, written}
 use Rattle.history.specs.Member.{is_up, member_of}
 use Rattle.history.specs.Moment.{Moment, Said}

@@ -1,5 +1,5 @@
 -- How far a node is with joining devices, by its tasks, against what its device lines tell.
-use Rattle.std.specs.Prelude.{ℕ, ◌≡◌, ◌<◌, ◌≤◌, ◌==◌, Bool, true, false, List, [], ◌∷◌, Option, None, Some, find}
+use Rattle.std.specs.Prelude.{ℕ, ◌≡◌, ◌<◌, ◌≤◌, Bool, true, false, List, [], ◌∷◌, Option, None, Some, find}
 use Rattle.std.specs.List.{list_any}
 use Rattle.cl_base.specs.Sets.{has}
 use Rattle.device_queue.specs.Queue.{join_of, joins}

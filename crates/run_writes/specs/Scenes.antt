@@ -1,5 +1,5 @@
 -- What is so of all nodes, of all that was sent, and of the starts, in each scene of a run.
-use Rattle.std.specs.Prelude.{ℕ, ◌≡◌, true, List}
+use Rattle.std.specs.Prelude.{ℕ, ◌≡◌, true}
 use Rattle.std.specs.List.{AllByRecursion}
 use Rattle.attempt_laws.specs.Machine.{is_member}
 use Rattle.history.specs.Deeds.{Deed, Started, deeds}

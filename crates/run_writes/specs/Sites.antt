@@ -1,5 +1,5 @@
 -- What is known of a node in each of its small steps, and what is asked of these.
-use Rattle.std.specs.Prelude.{ℕ, ◌≡◌, ◌≢◌, ◌<◌, ◌==◌, true, false, List, [], ◌∷◌, Option, None, Some, Ok, Err, find}
+use Rattle.std.specs.Prelude.{ℕ, ◌≡◌, ◌≢◌, ◌<◌, true, false, List, [], ◌∷◌, Option, None, Some, Ok, find}
 use Rattle.std.specs.List.{AllByRecursion}
 use Rattle.attempt_laws.specs.Machine.{is_member}
 use Rattle.attempt_laws.specs.Staying.{IsBefore}
