@@ -38,8 +38,8 @@ done_same : (p : ℕ) (x y : UpNode) → promised_of y ≡ promised_of x → ses
 done_same p x y promised session installed none h = (
   subst (λ z. p ≤ z) (sym promised) h.0,
   (λ at.
-  let old : (installed_of x ≡ p) × (joins x.tasks ≡ false) = h.1 (sym session ∙ at) in
-  (installed ∙ old.0, none old.1)),
+      let old : (installed_of x ≡ p) × (joins x.tasks ≡ false) = h.1 (sym session ∙ at) in
+      (installed ∙ old.0, none old.1)),
 )
 
 -- the same state, entries, valid or joined devices apart
@@ -67,8 +67,8 @@ install_done : (p : ℕ) (x y : UpNode) → promised_of y ≡ promised_of x → 
 install_done p x y promised session not_yet h = (
   subst (λ z. p ≤ z) (sym promised) h.0,
   (λ at.
-  let here : session_of x ≡ p = sym session ∙ at in
-  absurd (not_yet ((h.1 here).0 ∙ sym here))),
+      let here : session_of x ≡ p = sym session ∙ at in
+      absurd (not_yet ((h.1 here).0 ∙ sym here))),
 )
 
 pub own_facts : (x : UpNode) (a : AttemptState) (s : NodeState) → Facts x → x.attempt ≡ Some a → x.seat ≡ Forming s → AttemptFacts s a

@@ -1,26 +1,22 @@
 -- How far a node is with joining devices stays so in each small step.
-use Rattle.std.specs.Prelude.{ℕ, ◌≡◌, ◌<◌, ◌≤◌, ◌∷◌, Bool, true, false, List, [], Option, None, Some}
+use Rattle.std.specs.Prelude.{ℕ, ◌≡◌, ◌<◌, ◌∷◌, true, false, List, [], Some}
 use Rattle.std.proofs.Common.{refl, sym, ap, subst, ◌∙◌, arith}
 use Rattle.attempt_laws.proofs.Goes.{chosen_reached, goes_by_call}
 use Rattle.attempt_laws.proofs.Stays.{plan_stays}
 use Rattle.ccr_commit.specs.Entries.{all_committed, with_next}
 use Rattle.cl_base.specs.Sets.{has, set_without}
-use Rattle.cmm_attempt.proofs.Basics.{false_true, if_either}
+use Rattle.cmm_attempt.proofs.Basics.{if_either}
 use Rattle.cmm_attempt.specs.Attempts.{AttemptState, install_in}
 use Rattle.cmm_attempt.specs.Calls.{Call, May as MayTake, installs_in, turn}
 use Rattle.cmm_attempt.specs.declared.plan.Plan.{Plan}
-use Rattle.cmm_member.specs.Nodes.{NodeState, installed_with, with_entries, with_joined, with_valid}
+use Rattle.cmm_member.specs.Nodes.{NodeState, with_entries, with_joined, with_valid}
 use Rattle.cmm_member.specs.Records.{NodeRecord}
 use Rattle.device_queue.specs.Queue.{after_seize, join_of}
-use Rattle.device_queue.specs.declared.task.Task.{Task}
 use Rattle.membership_machine.specs.Growth.{Grows}
 use Rattle.membership_machine.specs.State.{Memberships}
 use Rattle.seize.specs.Seizing as seizing
 use Rattle.history.specs.Moment.{Moment, Told}
-use Rattle.node_model.specs.Attempts.{installing, joining_from}
-use Rattle.node_model.specs.Clusters.{has_path}
-use Rattle.node_model.specs.Members.{rested_by}
-use Rattle.node_model.specs.Seats.{installed_of, promised_of, promising, record_of, session_of, state_of}
+use Rattle.node_model.specs.Seats.{installed_of, promised_of, record_of, session_of, state_of}
 use Rattle.node_model.specs.declared.cluster.Cluster.{Cluster}
 use Rattle.node_model.specs.declared.node.Node.{Node}
 use Rattle.node_model.specs.declared.node.Node.TheVariants.{Down, Up}
@@ -32,7 +28,7 @@ use Rattle.refinement.specs.Doings.{Act, Change, Doing, acted, changed, effect, 
 use Rattle.refinement.specs.Doings.Act.{Accepts, Dates, Ends, Gives, Goes_on, Hears, Makes, Minds, Notes, Queues, Spreads, Stores, Takes, Ticks, Waits, Works, Writes}
 use Rattle.refinement.specs.Doings.Change.{Acks, Admits, Commits, Counts, Distrusts, Installs, Leads, Prepares, Promises, Proposes, Sits, Starts}
 use Rattle.refinement.specs.Doings.Doing.{Comes_up, Does, Forgets, Goes_down, Loses, Saves}
-use Rattle.refinement.specs.Facts.{AttemptFacts, Facts, has_join}
+use Rattle.refinement.specs.Facts.{AttemptFacts, Facts}
 use Rattle.refinement.specs.Guards.{May, MayAct, MayCall, MayChange}
 use Rattle.refinement.specs.Ties.{Delivered}
 use Rattle.run_history.specs.Marks.{DoingSo}
@@ -40,13 +36,14 @@ use Rattle.run_history.specs.Scenes.{Scene, passing}
 use Rattle.status_report.specs.declared.entry.Entry.TheVariants as entry
 use Rattle.status_report.specs.declared.node_entry.NodeEntry.TheVariants as note
 use Rattle.wire.specs.declared.message.Install.{Install}
-use Rattle.run_writes.specs.Covers.{InstallCovers, has_reading}
+use Rattle.run_writes.specs.Covers.{InstallCovers}
 use Rattle.run_writes.specs.Joins.{AllLone, DeviceSo, Installed, NodeJoins, TaskSo, UpJoins, is_spoiled}
 use Rattle.run_writes.specs.Sites.{ActTakes, ChangeTakes, DoingTakes, FactsAt}
 use Rattle.run_writes.proofs.Done.{own_facts}
+use Rattle.run_writes.proofs.Installing.{install_joins, no_joins, not_yet, promised_joins}
 use Rattle.run_writes.proofs.Lines.{AllQuiet, doing_quiet, passing_quiet, unspoiled}
 use Rattle.run_writes.proofs.Taking.{admitted_so, line_of, take_joins, took_so}
-use Rattle.run_writes.proofs.Tasks.{begins_from, join_seize, lone_from, lone_none, lone_seize, none_from, none_of}
+use Rattle.run_writes.proofs.Tasks.{join_seize, lone_none, lone_seize}
 
 -- ---- what changes nothing of it
 
@@ -95,69 +92,6 @@ by_state x y s is session installed joined tasks = record {
   tasks = λ d. ap (λ ts. join_of ts d) tasks;
   lone = λ l. subst AllLone (sym tasks) l;
 }
-
--- ---- in another session nothing is installed
-
-not_yet : (a b p : ℕ) → a ≤ b → b < p → a ≡ p → ⊥
-not_yet a b p l m e = omega (arith, l, m, e)
-
-promised_joins : (c : Cluster) (N : Memberships) (ns : List Moment) (n p : ℕ) (x : UpNode) (o : Option AttemptState) → installed_of x ≤ promised_of x → promised_of x < p
-    → UpJoins c N ns n (rested_by (promising x p) o)
-promised_joins c N ns n p x None order more = record { lone = lone_none; joins = λ some is. absurd (not_yet (installed_of x) (promised_of x) p order more is) }
-promised_joins c N ns n p x (Some a) order more = record { lone = lone_none; joins = λ some is. absurd (not_yet (installed_of x) (promised_of x) p order more is) }
-
--- ---- it installs
-
--- what it joined at once, what it begins to join, and what it does not hold
-install_device : (c : Cluster) (N : Memberships) (ns : List Moment) (n had : ℕ) (tasks : List Task) (i : Install) → has_join tasks ≡ false → InstallCovers N i → (d : ℕ)
-    → is_spoiled n d i.epoch ns ≡ false → has_path c.attached n d ≡ true
-    → TaskSo i.epoch (has had d) (is_spoiled n d i.epoch ns) ((N.epoch i.epoch).holds d) (join_of (joining_from c n i.epoch had tasks i.readings) d)
-install_device c N ns n had tasks i none covers d clean path = by_joined (has had d) refl
-  where
-    T : List Task
-    T = joining_from c n i.epoch had tasks i.readings
-
-    S : Bool
-    S = is_spoiled n d i.epoch ns
-
-    empty : join_of tasks d ≡ None
-    empty = none_of d tasks none
-
-    not_held : (h : Bool) → (N.epoch i.epoch).holds d ≡ h → has_reading d i.readings ≡ false → h ≡ false
-    not_held true is read = absurd (false_true (sym read ∙ covers.read d is))
-    not_held false is read = refl
-
-    by_read : (b : Bool) → has_reading d i.readings ≡ b → has had d ≡ false → TaskSo i.epoch false S ((N.epoch i.epoch).holds d) (join_of T d)
-    by_read true read out = subst (λ o. TaskSo i.epoch false S ((N.epoch i.epoch).holds d) o) (sym (begins_from c n i.epoch had d tasks i.readings path out read empty)) (refl, (refl, clean))
-    by_read false read out =
-        subst (λ o. TaskSo i.epoch false S ((N.epoch i.epoch).holds d) o) (sym (none_from c n i.epoch had d tasks i.readings (λ is. read) empty))
-        (clean, (λ is. not_held ((N.epoch i.epoch).holds d) refl read))
-
-    by_joined : (b : Bool) → has had d ≡ b → TaskSo i.epoch b S ((N.epoch i.epoch).holds d) (join_of T d)
-    by_joined true is =
-        subst (λ o. TaskSo i.epoch true S ((N.epoch i.epoch).holds d) o) (sym (none_from c n i.epoch had d tasks i.readings (λ out. absurd (false_true (sym out ∙ is))) empty))
-        (clean, (λ out. absurd (false_true (sym out))))
-    by_joined false is = by_read (has_reading d i.readings) refl is
-
-install_joins : (c : Cluster) (N : Memberships) (ns : List Moment) (n : ℕ) (x : UpNode) (s : NodeState) (tasks : List Task) (i : Install) → s.session ≡ i.epoch → has_join tasks ≡ false → AllLone tasks
-    → InstallCovers N i → ((d : ℕ) → is_spoiled n d i.epoch ns ≡ false) → UpJoins c N ns n (installing c n x s tasks i)
-install_joins c N ns n x s tasks i session none lone covers clean = record {
-  lone = lone_from c n i.epoch (installed_with s i).joined tasks i.readings lone;
-  joins = λ some is. record {
-      counted = subst (λ q. (N.epoch q).counted ≡ true) (sym session) covers.counted;
-      devices = λ d path.
-          subst (λ q. TaskSo q (has (installed_with s i).joined d) (is_spoiled n d q ns) ((N.epoch q).holds d) (join_of (joining_from c n i.epoch (installed_with s i).joined tasks i.readings) d)) (sym session)
-          (install_device c N ns n (installed_with s i).joined tasks i none covers d (clean d) path);
-    };
-}
-
--- before it installs it joins nothing
-no_joins : (x : UpNode) → Facts x → (installed_of x ≡ session_of x → ⊥) → has_join x.tasks ≡ false
-no_joins x f never = by_test (has_join x.tasks) refl
-  where
-    by_test : (b : Bool) → has_join x.tasks ≡ b → has_join x.tasks ≡ false
-    by_test true is = absurd (never (sym (f.joins is).1))
-    by_test false is = is
 
 -- ---- each change
 

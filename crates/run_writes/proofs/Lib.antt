@@ -10,9 +10,11 @@ pub mod Readied
 pub mod Done
 pub mod Lines
 pub mod Taking
+pub mod Installing
 pub mod Joining
 pub mod Own
 pub mod Tells
+pub mod Says
 pub mod Guards
 pub mod Walk
 pub mod Scenes

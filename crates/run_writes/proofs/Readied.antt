@@ -66,11 +66,11 @@ has_steady K e T c source own = record {
   others = λ s is ne k. record { epoch = k.epoch; readies = k.readies; before = λ b. k.before (phase_before SeizingVotes s.phase is tt); own = k.own };
   installs = λ s is k. record { epoch = k.epoch; readies = k.readies; before = λ b. absurd b; own = k.own };
   ready = λ s from m is at of ready_body i. record {
-      epoch = i.epoch;
-      readies = all_and (λ (r : Readied). K r.node e) s.readies (record { node = from; message = m }) i.readies (source from m is (subst (λ z. is_of z m.body ≡ true) i.epoch of) ready_body);
-      before = i.before;
-      own = i.own;
-    };
+    epoch = i.epoch;
+    readies = all_and (λ (r : Readied). K r.node e) s.readies (record { node = from; message = m }) i.readies (source from m is (subst (λ z. is_of z m.body ≡ true) i.epoch of) ready_body);
+    before = i.before;
+    own = i.own;
+  };
   own = λ s is at i. record { epoch = i.epoch; readies = i.readies; before = λ b. absurd (subst IsBefore at b); own = λ now. own is };
   installing = λ s at f k. k;
 }

@@ -184,25 +184,25 @@ sound_steady c = record {
   votes = λ s votes is i apart. record { good = tt; apart = tt };
   entries = λ s is k apart. record { good = (votes_sound s s.votes apart).0; apart = (votes_sound s s.votes apart).1 };
   result = λ s d from r is tells i apart. record {
-      good = all_mapped s.plan.attached (with_result d r) (result_good s.plan.attached d r) s.devices (i apart).good;
-      apart = subst AreApart
-          (sym (numbers_mapped (with_result d r) (λ e. same_attached e (record e { result = Some r }) ((e.attached.device == d) && is_none e.result) refl) s.devices)) (i apart).apart;
-    };
+    good = all_mapped s.plan.attached (with_result d r) (result_good s.plan.attached d r) s.devices (i apart).good;
+    apart = subst AreApart
+        (sym (numbers_mapped (with_result d r) (λ e. same_attached e (record e { result = Some r }) ((e.attached.device == d) && is_none e.result) refl) s.devices)) (i apart).apart;
+  };
   next = λ s d n e kind r is found i apart. record {
-      good = all_mapped s.plan.attached (with_next d n) (next_good s.plan.attached d n) s.devices (i apart).good;
-      apart = subst AreApart
-          (sym (numbers_mapped (with_next d n) (λ x. same_attached x (record x { seizer = Some n; asked = set_with x.asked n }) ((x.attached.device == d) && is_none x.result) refl) s.devices))
-          (i apart).apart;
-    };
+    good = all_mapped s.plan.attached (with_next d n) (next_good s.plan.attached d n) s.devices (i apart).good;
+    apart = subst AreApart
+        (sym (numbers_mapped (with_next d n) (λ x. same_attached x (record x { seizer = Some n; asked = set_with x.asked n }) ((x.attached.device == d) && is_none x.result) refl) s.devices))
+        (i apart).apart;
+  };
   seizing = λ s is e k. k;
   counted = λ s is h k apart. record { good = (k apart).good; apart = (k apart).apart };
   others = λ s is ne k apart. record {
-      good = both (IsGood s.plan.attached) s.devices (plain_devices s) (k apart).good
-          (good_new s.plan.attached (plain_new s.plan s.devices) (plain_new_for s.plan.attached s.plan s.devices) s.plan.attached (itself s.plan.attached));
-      apart = apart_both s.devices (plain_devices s) (k apart).apart
-          (apart_new s.plan.attached (plain_new s.plan s.devices) (plain_new_for s.plan.attached s.plan s.devices) s.plan.attached apart)
-          (λ d seized. lacks_seized s.plan.attached s.plan s.devices s.plan.attached d seized);
-    };
+    good = both (IsGood s.plan.attached) s.devices (plain_devices s) (k apart).good
+        (good_new s.plan.attached (plain_new s.plan s.devices) (plain_new_for s.plan.attached s.plan s.devices) s.plan.attached (itself s.plan.attached));
+    apart = apart_both s.devices (plain_devices s) (k apart).apart
+        (apart_new s.plan.attached (plain_new s.plan s.devices) (plain_new_for s.plan.attached s.plan s.devices) s.plan.attached apart)
+        (λ d seized. lacks_seized s.plan.attached s.plan s.devices s.plan.attached d seized);
+  };
   installs = λ s is k apart. record { good = (k apart).good; apart = (k apart).apart };
   ready = λ s from message is at of ready_body i apart. record { good = (i apart).good; apart = (i apart).apart };
   own = λ s is at i apart. record { good = (i apart).good; apart = (i apart).apart };

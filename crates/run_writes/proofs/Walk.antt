@@ -47,7 +47,8 @@ use Rattle.run_writes.proofs.Done.{doing_done}
 use Rattle.run_writes.proofs.Joining.{DoingCovers, SaySame, doing_joins}
 use Rattle.run_writes.proofs.Lines.{doing_other, doing_quiet, passing_quiet}
 use Rattle.run_writes.proofs.Own.{doing_apart, doing_in}
-use Rattle.run_writes.proofs.Tells.{change_covers, doing_covers, doing_deed, doing_says, hand_covers_stay, outputs_cover_stay}
+use Rattle.run_writes.proofs.Says.{doing_deed, doing_says}
+use Rattle.run_writes.proofs.Tells.{change_covers, doing_covers, hand_covers_stay, outputs_cover_stay}
 
 -- what is known of the node in the step, and is so of the machine's state
 pub record Mid (c : Cluster) (K : Ready) (n : ℕ) (M : Memberships) (x : Site) (ms : List Moment) : Type 0 where

@@ -54,10 +54,6 @@ abbrev pub FactsAt : ℕ → Node → NodeRecord → Type 0
 FactsAt n Down disk = Unit {0}
 FactsAt n (Up x) disk = Facts x × (disk ≡ record_of x) × PlanIn n x.attempt
 
-abbrev pub AllKnown : Cluster → ℕ → Site → List Doing → Type 0
-AllKnown c me x [] = Unit {0}
-AllKnown c me x (d ∷ ds) = FactsAt me x.node x.disk × AllKnown c me (effect c me x d) ds
-
 -- ---- the answer to a command
 
 -- what a device with a path to the node answers in a joining
