@@ -29,6 +29,7 @@ use Rattle.run_commands.proofs.Laws as commands
 use Rattle.run_answers.proofs.Answered.{answered_of_each_run}
 use Rattle.run_downs.proofs.Runs as downs
 use Rattle.run_lines.proofs.Runs.{lines_of_each_run}
+use Rattle.run_writes.proofs.Runs.{writes_of_each_run}
 use Rattle.run_messages.proofs.Runs.{heartbeats_of_each_run}
 use Rattle.run_messages.proofs.Spelling.{spelled_of_each_run}
 use Rattle.run_records.proofs.Runs.{installed_base_of_each_run, newest_base_of_each_run, newest_of_each_run, records_of_each_run}
@@ -107,6 +108,7 @@ told_trace h events text p header disks is told =
       said = told.said;
       told = is ∙ told.text;
       lines = lines_of_each_run h 65536 told.happenings (setting_of h) header.devices header.cluster_high refl told.may told.shaped;
+      writes = writes_of_each_run h 65536 told.happenings (setting_of h) header.devices header.cluster_high refl built told.may told.shaped;
       links = links.run;
       no_drop_due = links.due;
       devices = devices.run;

@@ -1,0 +1,16 @@
+//! What a write comes to in each run of the simulated world.
+//!
+//! A node that is up answers a line `write` at once. It refuses the write where it is no member, where it has no path to the device, and where its
+//! membership does not hold the device or the node has not joined it; else the device is asked, and its answer is what the write comes to.
+//!
+//! The function here is a law. It has no body, and its contract is proved of every header without servers, every list of lines, everything that
+//! happens and all agents.
+#![tactic(auto)]
+
+ghost use Rattle.run_writes.specs.Laws.{WritesOfEachRun};
+
+/// Each write to a device, of a node that is up, has the entries that `history` says: the refusal that is due, or the device's command with its answer
+/// and what that comes to.
+pub fn writes_of_each_run()
+    ensures { WritesOfEachRun }
+{}
