@@ -1,0 +1,11 @@
+pub mod Ways
+pub mod Grows
+pub mod Letters
+pub mod Turns
+pub mod Courses
+pub mod Shows
+pub mod Stands
+pub mod Sends
+pub mod Goes
+pub mod Doings
+pub mod Runs

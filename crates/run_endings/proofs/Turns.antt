@@ -1,0 +1,159 @@
+-- What a call gives of ends: an attempt is superseded by a Nack that it takes, and ends for want of an answer in a tick; and it sends no Nack.
+use Rattle.std.specs.Prelude.{ℕ, ◌≡◌, ◌==◌, Bool, List, [], ◌∷◌, Option, None, Some, cons_option, map}
+use Rattle.std.specs.List.{filter_map}
+use Rattle.std.proofs.Common.{sym, subst}
+use Rattle.attempt_laws.proofs.Walk.{Walk, walks}
+use Rattle.cl_base.specs.Seizings.{SeizeResult}
+use Rattle.cmm_attempt.proofs.Basics.{if_either, none_some, same_some}
+use Rattle.cmm_attempt.specs.Attempts.{AttemptState, Turn, again_in, asked_next, begun, beginning, choosing, chosen_by, collects, ended_by, first_state, in_phase, installing, later, plain_devices, promises_of, shortage_under, silent_others, with_steps, install_in, all_promised}
+use Rattle.cmm_attempt.specs.Calls.{Call, turn}
+use Rattle.cmm_attempt.specs.Counts.{first_short}
+use Rattle.cmm_attempt.specs.Plans.{others_of}
+use Rattle.cmm_attempt.specs.Promises.{newest_shown, promised_by, shown_by}
+use Rattle.cmm_attempt.specs.Seizings.{again_by, again_for, held_set, request, request_body, request_by, request_for}
+use Rattle.cmm_attempt.specs.declared.attached.AttachedDevice.{AttachedDevice}
+use Rattle.cmm_attempt.specs.declared.counting.BothVotes.{BothVotes}
+use Rattle.cmm_attempt.specs.declared.phase.Phase.{Phase}
+use Rattle.cmm_attempt.specs.declared.phase.Phase.TheVariants.{Collecting, Choosing, SeizingVotes, SeizingOthers, Installing, Over}
+use Rattle.cmm_attempt.specs.declared.plan.Plan.{Plan}
+use Rattle.cmm_attempt.specs.declared.promised.Shown.{Shown}
+use Rattle.cmm_attempt.specs.declared.seizing.Seizing.{Seizing}
+use Rattle.cmm_attempt.specs.declared.step.AttemptEnd.{AttemptEnd}
+use Rattle.cmm_attempt.specs.declared.step.Step.{Step}
+use Rattle.cmm_attempt.specs.declared.step.Step.TheVariants.{Send, SeizeHere}
+use Rattle.quorum_votes.specs.Tables.{VoteTable}
+use Rattle.refinement.specs.Guards.{Says}
+use Rattle.refinement.specs.Ties.{Delivered}
+use Rattle.seize.specs.declared.kind.SeizeKind.{SeizeKind}
+use Rattle.seize.specs.declared.kind.SeizeKind.TheVariants.{Vote, Plain}
+use Rattle.wire.specs.declared.message.Body.{Body}
+use Rattle.wire.specs.declared.message.Body.TheVariants as body
+use Rattle.wire.specs.declared.message.Message.{Message}
+use Rattle.run_endings.specs.Steps.{CallFits, EndSo, NoNack, StepFits, StepsFit}
+
+-- ---- what is sent
+
+sent_fit : (told : Delivered) (ticks : Bool) (e sender : ℕ) (b : Body) (ns : List ℕ) → NoNack b → StepsFit told ticks e (map (λ n. Send n (record { sender = sender; body = b })) ns)
+sent_fit told ticks e sender b [] h = tt
+sent_fit told ticks e sender b (n ∷ ns) h = (h, sent_fit told ticks e sender b ns h)
+
+abbrev MaybeFits : Delivered → Bool → ℕ → Option Step → Type 0
+MaybeFits told ticks e None = Unit {0}
+MaybeFits told ticks e (Some s) = StepFits told ticks e s
+
+with_fits : (told : Delivered) (ticks : Bool) (e : ℕ) (o : Option Step) (steps : List Step) → MaybeFits told ticks e o → StepsFit told ticks e steps → StepsFit told ticks e (cons_option o steps)
+with_fits told ticks e None steps h k = k
+with_fits told ticks e (Some s) steps h k = (h, k)
+
+request_body_fits : (plan : Plan) (kind : SeizeKind) (d : ℕ) → NoNack (request_body plan kind d)
+request_body_fits plan Vote d = tt
+request_body_fits plan Plain d = tt
+
+request_fits : (told : Delivered) (ticks : Bool) (e : ℕ) (plan : Plan) (kind : SeizeKind) (d n : ℕ) → StepFits told ticks e (request plan kind d n)
+request_fits told ticks e plan kind d n =
+    if_either (StepFits told ticks e) (n == plan.coordinator) (SeizeHere d kind) (Send n (record { sender = plan.coordinator; body = request_body plan kind d })) tt (request_body_fits plan kind d)
+
+request_by_fits : (told : Delivered) (ticks : Bool) (e : ℕ) (plan : Plan) (x : Seizing) (r : Option SeizeResult) (o : Option ℕ) → MaybeFits told ticks e (request_by plan x r o)
+request_by_fits told ticks e plan x None (Some n) = request_fits told ticks e plan x.kind x.attached.device n
+request_by_fits told ticks e plan x None None = tt
+request_by_fits told ticks e plan x (Some r) o = tt
+
+requests_fit : (told : Delivered) (ticks : Bool) (e : ℕ) (plan : Plan) (xs : List Seizing) → StepsFit told ticks e (filter_map (request_for plan) xs)
+requests_fit told ticks e plan [] = tt
+requests_fit told ticks e plan (x ∷ xs) = with_fits told ticks e (request_for plan x) (filter_map (request_for plan) xs) (request_by_fits told ticks e plan x x.result x.seizer) (requests_fit told ticks e plan xs)
+
+again_by_fits : (told : Delivered) (ticks : Bool) (e : ℕ) (plan : Plan) (x : Seizing) (r : Option SeizeResult) (o : Option ℕ) → MaybeFits told ticks e (again_by plan x r o)
+again_by_fits told ticks e plan x None (Some n) =
+    if_either (MaybeFits told ticks e) (n == plan.coordinator) None (Some (request plan x.kind x.attached.device n)) tt (request_fits told ticks e plan x.kind x.attached.device n)
+again_by_fits told ticks e plan x None None = tt
+again_by_fits told ticks e plan x (Some r) o = tt
+
+again_fit : (told : Delivered) (ticks : Bool) (e : ℕ) (plan : Plan) (xs : List Seizing) → StepsFit told ticks e (filter_map (again_for plan) xs)
+again_fit told ticks e plan [] = tt
+again_fit told ticks e plan (x ∷ xs) = with_fits told ticks e (again_for plan x) (filter_map (again_for plan) xs) (again_by_fits told ticks e plan x x.result x.seizer) (again_fit told ticks e plan xs)
+
+collects_fit : (told : Delivered) (ticks : Bool) (e : ℕ) (t : AttemptState) → StepsFit told ticks e (collects t)
+collects_fit told ticks e t = sent_fit told ticks e t.plan.coordinator (body.Collect t.plan.epoch t.plan.members) (silent_others t) tt
+
+repeats_fit : (told : Delivered) (ticks : Bool) (e : ℕ) (t : AttemptState) (phase : Phase) → StepsFit told ticks e (again_in t phase)
+repeats_fit told ticks e t Collecting = collects_fit told ticks e t
+repeats_fit told ticks e t Choosing = tt
+repeats_fit told ticks e t SeizingVotes = again_fit told ticks e t.plan t.devices
+repeats_fit told ticks e t SeizingOthers = again_fit told ticks e t.plan t.devices
+repeats_fit told ticks e t Installing = sent_fit told ticks e t.plan.coordinator (body.Install (install_in t)) (silent_others t) tt
+repeats_fit told ticks e t Over = tt
+
+-- ---- for want of votes
+
+short_by : (told : Delivered) (ticks : Bool) (p : ℕ) (s : AttemptState) (devices : ℕ) (o : Option VoteTable) (e : AttemptEnd) → ended_by s devices o ≡ Some e → EndSo told ticks p e
+short_by told ticks p s devices None e is = absurd (none_some e is)
+short_by told ticks p s devices (Some v) e is = subst (EndSo told ticks p) (same_some _ e is) tt
+
+short_fits : (told : Delivered) (ticks : Bool) (p : ℕ) (s : AttemptState) (devices : ℕ) (o : Option BothVotes) (e : AttemptEnd) → shortage_under s devices o ≡ Some e → EndSo told ticks p e
+short_fits told ticks p s devices None e is = absurd (none_some e is)
+short_fits told ticks p s devices (Some both) e is = short_by told ticks p s devices (first_short both s.plan.members devices) e is
+
+-- ---- each call
+
+abbrev pub TurnFits : Delivered → Bool → Turn → Type 0
+TurnFits told ticks t = StepsFit told ticks t.after.plan.epoch t.steps
+
+abbrev Any : AttemptState → Type 0
+Any s = Unit {0}
+
+installing_fits : (told : Delivered) (ticks : Bool) (s : AttemptState) → TurnFits told ticks (installing s)
+unfolding installing
+installing_fits told ticks s =
+    let t : AttemptState = in_phase s Installing in
+    (tt, sent_fit told ticks t.plan.epoch t.plan.coordinator (body.Install (install_in t)) (silent_others t) tt)
+
+walk : (told : Delivered) (ticks : Bool) (c : Call) → CallFits told ticks c → Walk c Any Any (TurnFits told ticks)
+unfolding asked_next
+walk told ticks c fits = record {
+  within = λ s i. tt;
+  rests = λ s i. tt;
+  passes = λ s is e i. tt;
+  again = λ s is e i. repeats_fit told ticks s.plan.epoch (record s { ticks = later s.ticks }) s.phase;
+  silent = λ s n is late least i. (subst (CallFits told ticks) is fits, tt);
+  superseded = λ s from m q is nack i. (subst (λ t. Says (λ b. b ≡ body.Nack s.plan.epoch q) t) (sym (subst (CallFits told ticks) is fits)) nack, tt);
+  promise = λ s from m p is awaited of promised i. tt;
+  collects = λ s is e k. collects_fit told ticks s.plan.epoch s;
+  collecting = λ s is e k. tt;
+  no_newest = λ s is all none k. tt;
+  chosen = λ s newest is all some k. (tt, tt);
+  votes = λ s both is i. tt;
+  foreign = λ s both n is given least k. (tt, tt);
+  excluded = λ s n is least k. (tt, tt);
+  impossible = λ s e is short k. (short_fits told ticks s.plan.epoch s _ s.votes e short, tt);
+  entries = λ s is enough k. tt;
+  requests = λ s is e k. requests_fit told ticks s.plan.epoch s.plan s.devices;
+  result = λ s d from r e is tells found none i. tt;
+  next = λ s d from n r e is tells found next i. (request_fits told ticks s.plan.epoch s.plan e.kind d n, tt);
+  seizing = λ s is e k. tt;
+  short = λ s e is all few k. (short_fits told ticks s.plan.epoch s _ s.votes e few, tt);
+  others = λ s is all enough some k. requests_fit told ticks s.plan.epoch s.plan (plain_devices s);
+  installs_at_once = λ s is all enough none k. installing_fits told ticks (record s { counted = held_set s.devices });
+  installs = λ s is all k. installing_fits told ticks s;
+  ready = λ s from m is here of ready_body i. tt;
+  own = λ s is here i. tt;
+  installing = λ s here e k. tt;
+  starts = λ s here e k. (tt, sent_fit told ticks s.plan.epoch s.plan.coordinator (body.Start s.plan.epoch) (others_of s.plan) tt);
+}
+
+pub turn_fits : (told : Delivered) (ticks : Bool) (s : AttemptState) (c : Call) → CallFits told ticks c → TurnFits told ticks (turn s c)
+turn_fits told ticks s c fits = walks Any Any (TurnFits told ticks) s c (walk told ticks c fits) tt
+
+-- ---- at its beginning
+
+chosen_fits : (told : Delivered) (ticks : Bool) (s : AttemptState) (o : Option Shown) → TurnFits told ticks (chosen_by s o)
+chosen_fits told ticks s None = tt
+chosen_fits told ticks s (Some newest) = (tt, tt)
+
+begun_fits : (told : Delivered) (ticks : Bool) (s : AttemptState) → TurnFits told ticks (begun s)
+unfolding choosing
+begun_fits told ticks s =
+    if_either (TurnFits told ticks) (all_promised s) (choosing s) (with_steps s (collects s)) (chosen_fits told ticks s (newest_shown s.promises)) (collects_fit told ticks s.plan.epoch s)
+
+pub first_fits : (told : Delivered) (ticks : Bool) (p members : ℕ) (own : Message) (attached : List AttachedDevice) (cluster : ℕ) → TurnFits told ticks (beginning p members own attached cluster)
+unfolding beginning
+first_fits told ticks p members own attached cluster = begun_fits told ticks (first_state p members own attached cluster (promises_of (promised_by own (shown_by own.sender own.body))))

@@ -1,0 +1,95 @@
+-- What the guards of `refinement` do not say of ends and of Nacks: an attempt ends by the Nack that is delivered, or for want of an answer in a
+-- tick; a Nack answers the Collect or the Install that is delivered; and no attempt begins where something is delivered.
+use Rattle.std.specs.Prelude.{ℕ, ◌<◌, ◌≡◌, ◌≢◌, ◌≤◌, Bool, true, false, List, [], ◌∷◌, None, Some}
+use Rattle.std.specs.List.{AllByRecursion}
+use Rattle.cmm_attempt.specs.Calls.{Call, Own_ready, Own_seized, Take, Tick as Call_tick, With_votes}
+use Rattle.cmm_attempt.specs.declared.step.AttemptEnd.{AttemptEnd}
+use Rattle.cmm_attempt.specs.declared.step.AttemptEnd.TheVariants as end
+use Rattle.cmm_attempt.specs.declared.step.Step.{Step}
+use Rattle.cmm_attempt.specs.declared.step.Step.TheVariants as step
+use Rattle.wire.specs.declared.message.Body.{Body}
+use Rattle.wire.specs.declared.message.Body.TheVariants as body
+use Rattle.node_model.specs.Seats.{promised_of, session_of}
+use Rattle.node_model.specs.declared.cluster.Cluster.{Cluster}
+use Rattle.node_model.specs.declared.input.Input.{Input}
+use Rattle.node_model.specs.declared.input.Input.TheVariants.{Tick}
+use Rattle.node_model.specs.declared.node.UpNode.{UpNode}
+use Rattle.refinement.specs.Courses.{Course}
+use Rattle.refinement.specs.Courses.Course.{Acts, Falls, Keeps, Stops}
+use Rattle.refinement.specs.Doings.{Act, Change, Doing, Site, acted, changed, effect}
+use Rattle.refinement.specs.Doings.Act.{Ends, Makes, Spreads, Writes}
+use Rattle.refinement.specs.Doings.Change.{Leads}
+use Rattle.refinement.specs.Doings.Doing.{Does, Saves}
+use Rattle.refinement.specs.Guards.{OfUp, Says}
+use Rattle.refinement.specs.Ties.{Delivered}
+
+-- ---- the steps of an attempt
+
+-- why the attempt e ends, by what comes to its node
+abbrev pub EndSo : Delivered → Bool → ℕ → AttemptEnd → Type 0
+EndSo told ticks e (end.Superseded q) = Says (λ b. b ≡ body.Nack e q) told
+EndSo told ticks e (end.Silent m) = ticks ≡ true
+EndSo told ticks e _ = Unit {0}
+
+abbrev pub NoNack : Body → Type 0
+NoNack (body.Nack e q) = ⊥
+NoNack _ = Unit {0}
+
+abbrev pub StepFits : Delivered → Bool → ℕ → Step → Type 0
+StepFits told ticks e (step.Ended why) = EndSo told ticks e why
+StepFits told ticks e (step.Send to m) = NoNack m.body
+StepFits told ticks e _ = Unit {0}
+
+abbrev pub StepsFit : Delivered → Bool → ℕ → List Step → Type 0
+StepsFit told ticks e steps = AllByRecursion (StepFits told ticks e) steps
+
+-- an attempt takes the message that is delivered, and its ticks are the node's
+abbrev pub CallFits : Delivered → Bool → Call → Type 0
+CallFits told ticks (Take from m) = told ≡ Some (from, m)
+CallFits told ticks Call_tick = ticks ≡ true
+CallFits told ticks (With_votes both) = Unit {0}
+CallFits told ticks (Own_seized d r) = Unit {0}
+CallFits told ticks Own_ready = Unit {0}
+
+-- ---- what a node does
+
+-- it is asked to promise e, or to install it
+abbrev pub IsAsked : ℕ → Body → Type 0
+IsAsked e (body.Collect f members) = f ≡ e
+IsAsked e (body.Install i) = i.epoch ≡ e
+IsAsked e _ = ⊥
+
+abbrev pub BodyFits : Delivered → UpNode → Body → Type 0
+BodyFits told x (body.Nack e q) = Says (IsAsked e) told × (q ≡ promised_of x) × (e ≤ q) × (0 < e → e ≡ q → session_of x ≢ q)
+BodyFits told x _ = Unit {0}
+
+abbrev pub ChangeFits : Delivered → Change → Type 0
+ChangeFits told (Leads p members) = told ≡ None
+ChangeFits told _ = Unit {0}
+
+abbrev pub ActFits : Delivered → Bool → UpNode → Act → Type 0
+ActFits told ticks x (Ends a why) = (x.attempt ≡ Some a) × EndSo told ticks a.plan.epoch why
+ActFits told ticks x (Writes to b) = BodyFits told x b
+ActFits told ticks x (Spreads receivers b) = BodyFits told x b
+ActFits told ticks x (Makes change) = ChangeFits told change
+ActFits told ticks x _ = Unit {0}
+
+abbrev pub GoesFit : Cluster → ℕ → Delivered → Bool → UpNode → Course → Type 0
+GoesFit c me told ticks x Stops = Unit {0}
+GoesFit c me told ticks x (Acts a rest) = ActFits told ticks x a × GoesFit c me told ticks (acted c me x a) rest
+GoesFit c me told ticks x (Keeps change rest) = ChangeFits told change × GoesFit c me told ticks (changed c me x change) rest
+GoesFit c me told ticks x (Falls why) = Unit {0}
+
+abbrev pub DoingFits : Delivered → Bool → Site → Doing → Type 0
+DoingFits told ticks x (Does a) = OfUp (λ y. ActFits told ticks y a) x.node
+DoingFits told ticks x (Saves change) = ChangeFits told change
+DoingFits told ticks x _ = Unit {0}
+
+abbrev pub AllFit : Cluster → ℕ → Delivered → Bool → Site → List Doing → Type 0
+AllFit c me told ticks x [] = Unit {0}
+AllFit c me told ticks x (d ∷ ds) = DoingFits told ticks x d × AllFit c me told ticks (effect c me x d) ds
+
+-- its clock ticks
+abbrev pub ticks_in : Input → Bool
+ticks_in Tick = true
+ticks_in i = false
