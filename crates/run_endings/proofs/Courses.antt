@@ -153,9 +153,10 @@ bounds_at me now x (Commanded words) h = tt
 bounds_at me now x (Reported r good) h = tt
 bounds_at me now x (Client name client port) h = tt
 
-abbrev IsOf : ℕ → Option AttemptState → Type 0
-IsOf e None = Unit {0}
-IsOf e (Some a) = a.plan.epoch ≡ e
+-- its attempt, where it has one, is this
+abbrev IsOf : AttemptState → Option AttemptState → Type 0
+IsOf t None = Unit {0}
+IsOf t (Some a) = a ≡ t
 
 module _ (c : Cluster) (me : ℕ) (hand : Delivered) (ticks : Bool) where
   either_so : (x : UpNode) (b : Bool) (k l : Course) → GoesFit c me hand ticks x k → GoesFit c me hand ticks x l → GoesFit c me hand ticks x (if b then k else l)
@@ -181,21 +182,21 @@ module _ (c : Cluster) (me : ℕ) (hand : Delivered) (ticks : Bool) where
   deciding_so x = deciding_by_so x x.presidency
 
   -- the steps of an attempt, one after another
-  excluded_then : (e f newest : ℕ) (x : UpNode) (o : Option ℕ) (steps : List Step) → GoesFit c me hand ticks x (cuts.steps_course c me x steps)
+  excluded_then : (f newest : ℕ) (x : UpNode) (o : Option ℕ) (steps : List Step) → GoesFit c me hand ticks x (cuts.steps_course c me x steps)
       → GoesFit c me hand ticks x (joined c me x (cuts.excluded_course me f newest o) (λ y. cuts.steps_course c me y steps))
-  excluded_then e f newest x None steps h = h
-  excluded_then e f newest x (Some m) steps h = by_test (m == me)
+  excluded_then f newest x None steps h = h
+  excluded_then f newest x (Some m) steps h = by_test (m == me)
     where
       by_test : (b : Bool) → GoesFit c me hand ticks x (joined c me x (if b then Falls (down.Panic (panic.Excluded newest)) else cuts.writing m (body.Excluded f newest)) (λ y. cuts.steps_course c me y steps))
       by_test true = tt
       by_test false = (tt, h)
 
-  ended_then : (e : ℕ) (why : AttemptEnd) (x : UpNode) (o : Option AttemptState) (steps : List Step) → x.attempt ≡ o → EndSo hand ticks e why → IsOf e o
+  ended_then : (t : AttemptState) (why : AttemptEnd) (x : UpNode) (o : Option AttemptState) (steps : List Step) → x.attempt ≡ o → EndSo hand ticks t why → IsOf t o
       → GoesFit c me hand ticks x (cuts.steps_course c me x steps) → GoesFit c me hand ticks (resting x) (cuts.steps_course c me (resting x) steps)
       → GoesFit c me hand ticks x (joined c me x (cuts.ended_course me why o) (λ y. cuts.steps_course c me y steps))
-  ended_then e why x None steps is so of same rests = same
-  ended_then e why x (Some a) steps is so of same rests =
-      ((is, subst (λ k. EndSo hand ticks k why) (sym of) so), excluded_then e a.plan.epoch (unwrap_or (newest_installed a) 0) (resting x) (left_out_by why) steps rests)
+  ended_then t why x None steps is so of same rests = same
+  ended_then t why x (Some a) steps is so of same rests =
+      ((is, subst (λ k. EndSo hand ticks k why) (sym of) so), excluded_then a.plan.epoch (unwrap_or (newest_installed a) 0) (resting x) (left_out_by why) steps rests)
 
   queued_then : (d : ℕ) (kind : SeizeKind) (x : UpNode) (o : Option AttemptState) (steps : List Step)
       → GoesFit c me hand ticks x (cuts.steps_course c me x steps) → ((a : AttemptState) → GoesFit c me hand ticks (seizing_here c me x d kind (Some a)) (cuts.steps_course c me (seizing_here c me x d kind (Some a)) steps))
@@ -203,45 +204,45 @@ module _ (c : Cluster) (me : ℕ) (hand : Delivered) (ticks : Bool) where
   queued_then d kind x None steps same queued = same
   queued_then d kind x (Some a) steps same queued = (tt, queued a)
 
-  queued_of : (e d : ℕ) (kind : SeizeKind) (x : UpNode) (a : AttemptState) → IsOf e x.attempt → IsOf e (seizing_here c me x d kind (Some a)).attempt
-  queued_of e d kind x a of =
-      if_either (λ (y : UpNode). IsOf e y.attempt) (has a.plan.members me)
+  queued_of : (t : AttemptState) (d : ℕ) (kind : SeizeKind) (x : UpNode) (a : AttemptState) → IsOf t x.attempt → IsOf t (seizing_here c me x d kind (Some a)).attempt
+  queued_of t d kind x a of =
+      if_either (λ (y : UpNode). IsOf t y.attempt) (has a.plan.members me)
       (record x { tasks = after_seize x.tasks d (seizing.begun kind a.plan.epoch a.plan.members me c.id (has (record_of x).valid d)) }) x of of
 
   sent_fits : (x : UpNode) (b : Body) → NoNack b → BodyFits hand x b
   sent_fits x (body.Nack e q) none = absurd none
   sent_fits x _ none = tt
 
-  steps_so : (e : ℕ) (x : UpNode) (steps : List Step) → StepsFit hand ticks e steps → IsOf e x.attempt → GoesFit c me hand ticks x (cuts.steps_course c me x steps)
-  steps_so e x [] fits of = tt
-  steps_so e x (step.Send to m ∷ steps) fits of = (sent_fits x m.body fits.0, steps_so e x steps fits.1 of)
-  steps_so e x (step.SeizeHere d kind ∷ steps) fits of =
-      queued_then d kind x x.attempt steps (steps_so e x steps fits.1 of) (λ a. steps_so e (seizing_here c me x d kind (Some a)) steps fits.1 (queued_of e d kind x a of))
-  steps_so e x (step.NeedVotes n ∷ steps) fits of = steps_so e x steps fits.1 of
-  steps_so e x (step.InstallHere i ∷ steps) fits of = steps_so e x steps fits.1 of
-  steps_so e x (step.StartHere ∷ steps) fits of = steps_so e x steps fits.1 of
-  steps_so e x (step.Ended why ∷ steps) fits of = ended_then e why x x.attempt steps refl fits.0 of (steps_so e x steps fits.1 of) (steps_so e (resting x) steps fits.1 tt)
+  steps_so : (t : AttemptState) (x : UpNode) (steps : List Step) → StepsFit hand ticks t steps → IsOf t x.attempt → GoesFit c me hand ticks x (cuts.steps_course c me x steps)
+  steps_so t x [] fits of = tt
+  steps_so t x (step.Send to m ∷ steps) fits of = (sent_fits x m.body fits.0, steps_so t x steps fits.1 of)
+  steps_so t x (step.SeizeHere d kind ∷ steps) fits of =
+      queued_then d kind x x.attempt steps (steps_so t x steps fits.1 of) (λ a. steps_so t (seizing_here c me x d kind (Some a)) steps fits.1 (queued_of t d kind x a of))
+  steps_so t x (step.NeedVotes n ∷ steps) fits of = steps_so t x steps fits.1 of
+  steps_so t x (step.InstallHere i ∷ steps) fits of = steps_so t x steps fits.1 of
+  steps_so t x (step.StartHere ∷ steps) fits of = steps_so t x steps fits.1 of
+  steps_so t x (step.Ended why ∷ steps) fits of = ended_then t why x x.attempt steps refl fits.0 of (steps_so t x steps fits.1 of) (steps_so t (resting x) steps fits.1 tt)
 
   kept_if_so : (x : UpNode) (keeps : Bool) (change : Change) (rest : Course) → ChangeFits hand change → GoesFit c me hand ticks (changed c me x change) rest → GoesFit c me hand ticks x (cuts.kept_if keeps change rest)
   kept_if_so x true change rest made k = (made, k)
   kept_if_so x false change rest made k = (made, k)
 
-  gone_on_so : (x : UpNode) (a : AttemptState) (k : Call) (steps : List Step) → StepsFit hand ticks (turn a k).after.plan.epoch steps → GoesFit c me hand ticks x (cuts.gone_on c me x a k steps)
-  gone_on_so x a k steps fits = (tt, steps_so (turn a k).after.plan.epoch (going x a k) steps fits refl)
+  gone_on_so : (x : UpNode) (a : AttemptState) (k : Call) (steps : List Step) → StepsFit hand ticks (turn a k).after steps → GoesFit c me hand ticks x (cuts.gone_on c me x a k steps)
+  gone_on_so x a k steps fits = (tt, steps_so (turn a k).after (going x a k) steps fits refl)
 
-  counted_so : (x : UpNode) (a : AttemptState) (k : Call) (i : Install) (rest : List Step) (seat : Seat) → StepsFit hand ticks (turn a k).after.plan.epoch rest → GoesFit c me hand ticks x (cuts.counted c me x a k i rest seat)
+  counted_so : (x : UpNode) (a : AttemptState) (k : Call) (i : Install) (rest : List Step) (seat : Seat) → StepsFit hand ticks (turn a k).after rest → GoesFit c me hand ticks x (cuts.counted c me x a k i rest seat)
   counted_so x a k i rest (Member s) fits = gone_on_so x a k rest fits
   counted_so x a k i rest (Forming s) fits =
-      either_so _ (installs_now s i) _ _ (tt, steps_so (turn a k).after.plan.epoch (changed c me x (Counts a k s i)) rest fits refl) (gone_on_so x a k rest fits)
+      either_so _ (installs_now s i) _ _ (tt, steps_so (turn a k).after (changed c me x (Counts a k s i)) rest fits refl) (gone_on_so x a k rest fits)
 
-  started_so : (x : UpNode) (a : AttemptState) (k : Call) (rest : List Step) (seat : Seat) → StepsFit hand ticks (turn a k).after.plan.epoch rest → GoesFit c me hand ticks x (cuts.started c me x a k rest seat)
+  started_so : (x : UpNode) (a : AttemptState) (k : Call) (rest : List Step) (seat : Seat) → StepsFit hand ticks (turn a k).after rest → GoesFit c me hand ticks x (cuts.started c me x a k rest seat)
   started_so x a k rest (Member s) fits = gone_on_so x a k rest fits
   started_so x a k rest (Forming s) fits =
       either_so _ (starts_now s (turn a k).after.plan.epoch) _ _
-      (kept_if_so x (is_some s.saved.entries.pending) (Starts a k s) (cuts.steps_course c me (changed c me x (Starts a k s)) rest) tt (steps_so (turn a k).after.plan.epoch (changed c me x (Starts a k s)) rest fits tt))
+      (kept_if_so x (is_some s.saved.entries.pending) (Starts a k s) (cuts.steps_course c me (changed c me x (Starts a k s)) rest) tt (steps_so (turn a k).after (changed c me x (Starts a k s)) rest fits tt))
       (gone_on_so x a k rest fits)
 
-  turned_by_so : (x : UpNode) (a : AttemptState) (k : Call) (steps : List Step) → StepsFit hand ticks (turn a k).after.plan.epoch steps → GoesFit c me hand ticks x (cuts.turned_by c me x a k steps)
+  turned_by_so : (x : UpNode) (a : AttemptState) (k : Call) (steps : List Step) → StepsFit hand ticks (turn a k).after steps → GoesFit c me hand ticks x (cuts.turned_by c me x a k steps)
   turned_by_so x a k [] h = gone_on_so x a k [] h
   turned_by_so x a k (step.InstallHere i ∷ rest) h = counted_so x a k i rest x.seat h.1
   turned_by_so x a k (step.StartHere ∷ rest) h = started_so x a k rest x.seat h.1
@@ -275,8 +276,8 @@ module _ (c : Cluster) (me : ℕ) (hand : Delivered) (ticks : Bool) where
   going_so : (x : UpNode) (a : AttemptState) (k : Call) → CallFits hand ticks k → GoesFit c me hand ticks x (cuts.going_course c me x a k)
   going_so x a k fits = either_so _ (is_choosing (turn a k).after.phase) _ _ (tt, called_so (going x a k) (turn a k).after (With_votes (votes_in c (turn a k).after)) tt) (called_so x a k fits)
 
-  begun_so : (x : UpNode) (t : Turn) → TurnFits hand ticks t → IsOf t.after.plan.epoch x.attempt → GoesFit c me hand ticks x (cuts.begun_course c me x t)
-  begun_so x t h of = either_so _ (is_choosing t.after.phase) _ _ (called_so x t.after (With_votes (votes_in c t.after)) tt) (steps_so t.after.plan.epoch x t.steps h of)
+  begun_so : (x : UpNode) (t : Turn) → TurnFits hand ticks t → IsOf t.after x.attempt → GoesFit c me hand ticks x (cuts.begun_course c me x t)
+  begun_so x t h of = either_so _ (is_choosing t.after.phase) _ _ (called_so x t.after (With_votes (votes_in c t.after)) tt) (steps_so t.after x t.steps h of)
 
   leading_so : (x : UpNode) (p members : ℕ) → hand ≡ None → GoesFit c me hand ticks x (cuts.leading_course c me x p members)
   leading_so x p members none =

@@ -1,12 +1,17 @@
 -- What is told of attempts, stops and boots stays as more is told.
-use Rattle.std.specs.Prelude.{ℕ, ◌<◌, ◌≡◌, ◌≢◌, ◌≤◌, ◌⊎◌, ◌||◌, Bool, true, false, List, [], ◌∷◌, if◌then◌else◌}
-use Rattle.std.specs.List.{list_any}
+use Rattle.std.specs.Prelude.{ℕ, ◌<◌, ◌≡◌, ◌≢◌, ◌≤◌, ◌⊎◌, ◌||◌, Bool, true, false, List, [], ◌∷◌, if◌then◌else◌, ◌==◌, ◌++◌}
+use Rattle.std.specs.List.{AllByRecursion, list_any}
 use Rattle.std.proofs.Common.{refl, sym, ap, subst, ◌∙◌, arith, inl, inr}
 use Rattle.cmm_attempt.proofs.Basics.{false_true, same_number}
+use Rattle.cmm_attempt.specs.Attempts.{AttemptState}
+use Rattle.cmm_attempt.specs.declared.promised.Promised.{Promised}
 use Rattle.history.specs.Attempts.{stops_of}
 use Rattle.history.specs.Contact.{IsNew}
 use Rattle.history.specs.Letters.{Letter, arriving, passes, reached_since}
+use Rattle.history.specs.Member.{members_of}
 use Rattle.history.specs.Moment.{Moment, Told}
+use Rattle.history.specs.Records.{promise_among, promises}
+use Rattle.history.specs.Trace.{attempt}
 use Rattle.history.specs.Order.{since}
 use Rattle.history.specs.Seizing.{is_attempt, is_boot}
 use Rattle.history.specs.Setting.{coordinator}
@@ -21,9 +26,11 @@ use Rattle.status_report.specs.declared.entry.Entry.TheVariants as entry
 use Rattle.std.specs.Prelude.{Option, None, Some}
 use Rattle.wire.specs.declared.message.Body.{Body}
 use Rattle.wire.specs.declared.message.Body.TheVariants as body
+use Rattle.run_history.proofs.Idle.{if_false}
+use Rattle.run_records.specs.Kept.{HeardFrom, IsHad, has_told, shows_from}
 use Rattle.run_endings.specs.Laws.{epoch_at, epoch_of}
 use Rattle.run_endings.specs.Nacks.{BodySo, HasBooted, HasStopped, IsMade, IsMadeBy, IsTried}
-use Rattle.run_endings.specs.Sites.{AttemptSo, HandSo, SiteSo, UpIn, UpSo}
+use Rattle.run_endings.specs.Sites.{AttemptIn, AttemptSo, HandSo, SiteSo, UpIn, UpSo}
 use Rattle.run_endings.specs.Ways.{IsOwn, way_of}
 use Rattle.run_endings.proofs.Ways.{or_second}
 
@@ -34,9 +41,11 @@ pub record Stays (before after : List Moment) : Type 0 where
   pub stopped : (k : ℕ) → HasStopped before k → HasStopped after k
   pub booted : (k e : ℕ) → HasBooted before k e → HasBooted after k e
   pub near : (e : ℕ) (test : Letter → Bool) → reached_since (is_attempt e) test before ≡ true → reached_since (is_attempt e) test after ≡ true
+  pub members : (e : ℕ) → members_of e after ≡ members_of e before
+  pub told : (e k : ℕ) → has_told e k before ≡ true → has_told e k after ≡ true
 
 pub stays_self : (ms : List Moment) → Stays ms ms
-stays_self ms = record { tried = λ e h. h; stopped = λ k h. h; booted = λ k e h. h; near = λ e test h. h }
+stays_self ms = record { tried = λ e h. h; stopped = λ k h. h; booted = λ k e h. h; near = λ e test h. h; members = λ e. refl; told = λ e k h. h }
 
 pub stays_then : (first second third : List Moment) → Stays first second → Stays second third → Stays first third
 stays_then first second third h i = record {
@@ -55,12 +64,26 @@ near_more e test x ms none h =
     subst (λ t. (if t then false else (passes test (arriving ms x) || reached_since (is_attempt e) test ms)) ≡ true) (sym none)
     (or_second (passes test (arriving ms x)) (reached_since (is_attempt e) test ms) h)
 
+members_more : (e : ℕ) (x : Moment) (ms : List Moment) → is_attempt e x ≡ false → members_of e (x ∷ ms) ≡ members_of e ms
+members_more e (attempt f members) ms none = if_false (f == e) members (members_of e ms) none
+members_more e _ ms none = refl
+
+any_later : {X : Type 0} (test : X → Bool) (xs ys : List X) → list_any test ys ≡ true → list_any test (xs ++ ys) ≡ true
+any_later test [] ys h = h
+any_later test (x ∷ xs) ys h = or_second (test x) (list_any test (xs ++ ys)) (any_later test xs ys h)
+
+told_more : (e k : ℕ) (x : Moment) (ms : List Moment) → is_attempt e x ≡ false → has_told e k ms ≡ true → has_told e k (x ∷ ms) ≡ true
+told_more e k x ms none h =
+    subst (λ t. list_any (shows_from k) (if t then [] else promise_among e (arriving ms x) ++ promises e ms) ≡ true) (sym none) (any_later (shows_from k) (promise_among e (arriving ms x)) (promises e ms) h)
+
 pub stays_one : (x : Moment) (ms : List Moment) → ((e : ℕ) → is_attempt e x ≡ false) → Stays ms (x ∷ ms)
 stays_one x ms none = record {
   tried = λ e h. or_second (is_attempt e x) (list_any (is_attempt e) ms) h;
   stopped = λ k h. or_second (stops_of k x) (list_any (stops_of k) ms) h;
   booted = λ k e h. booted_more k e x ms (none e) h;
   near = λ e test h. near_more e test x ms (none e) h;
+  members = λ e. members_more e x ms (none e);
+  told = λ e k h. told_more e k x ms (none e) h;
 }
 
 -- ---- where one of node n may begin
@@ -69,12 +92,16 @@ pub record Grows (n : ℕ) (before after : List Moment) : Type 0 where
   pub tried : (e : ℕ) → IsTried before e → IsTried after e
   pub stopped : (k : ℕ) → HasStopped before k → HasStopped after k
   pub booted : (k e : ℕ) → IsTried before e ⊎ (coordinator e ≢ n) → HasBooted before k e → HasBooted after k e
+  pub members : (e : ℕ) → IsTried before e ⊎ (coordinator e ≢ n) → members_of e after ≡ members_of e before
+  pub told : (e k : ℕ) → IsTried before e ⊎ (coordinator e ≢ n) → has_told e k before ≡ true → has_told e k after ≡ true
 
 pub grows_then : (n : ℕ) (first second third : List Moment) → Grows n first second → Grows n second third → Grows n first third
 grows_then n first second third h i = record {
   tried = λ e k. i.tried e (h.tried e k);
   stopped = λ j k. i.stopped j (h.stopped j k);
   booted = λ j e side k. i.booted j e (still e side) (h.booted j e side k);
+  members = λ e side. i.members e (still e side) ∙ h.members e side;
+  told = λ e j side k. i.told e j (still e side) (h.told e j side k);
 }
   where
     still : (e : ℕ) → IsTried first e ⊎ (coordinator e ≢ n) → IsTried second e ⊎ (coordinator e ≢ n)
@@ -82,7 +109,7 @@ grows_then n first second third h i = record {
     still e (inr ne) = inr ne
 
 pub stays_grow : (n : ℕ) (before after : List Moment) → Stays before after → Grows n before after
-stays_grow n before after h = record { tried = h.tried; stopped = h.stopped; booted = λ k e side b. h.booted k e b }
+stays_grow n before after h = record { tried = h.tried; stopped = h.stopped; booted = λ k e side b. h.booted k e b; members = λ e side. h.members e; told = λ e k side t. h.told e k t }
 
 pub grows_self : (n : ℕ) (ms : List Moment) → Grows n ms ms
 grows_self n ms = stays_grow n ms ms (stays_self ms)
@@ -106,6 +133,8 @@ grows_begun n f members ms new own =
       tried = λ e h. or_second (is_attempt e x) (list_any (is_attempt e) ms) h;
       stopped = λ k h. h;
       booted = λ k e side h. booted_more k e x ms (new_number n e f ms new own side) h;
+      members = λ e side. members_more e x ms (new_number n e f ms new own side);
+      told = λ e k side h. told_more e k x ms (new_number n e f ms new own side) h;
     }
 
 -- ---- what rests on it
@@ -135,6 +164,10 @@ body_grows n k before after (body.Collect e members) g h = (h.0, g.tried e h.1)
 body_grows n k before after (body.Install i) g h = (h.0, g.tried i.epoch h.1)
 body_grows n k before after _ g h = tt
 
+had_stays : (before after : List Moment) (n from : ℕ) (b : Body) → Stays before after → IsHad before n from b → IsHad after n from b
+had_stays before after n from (body.Promise e installed members valid flagged committed pending) s h = λ own. s.told e from (h own)
+had_stays before after n from _ s h = tt
+
 pub hand_stays : (before after : List Moment) (n : ℕ) (told : Delivered) → Stays before after → HandSo before n told → HandSo after n told
 hand_stays before after n None s h = tt
 hand_stays before after n (Some d) s h = record {
@@ -145,8 +178,25 @@ hand_stays before after n (Some d) s h = record {
   receiver = h.receiver;
   numbered = h.numbered;
   near = λ e test is. s.near e test (h.near e test is);
+  had = had_stays before after n d.0 d.1.body s h.had;
   stands = body_grows 0 d.0 before after d.1.body (stays_grow 0 before after s) h.stands;
 }
+
+heard_by : (before after : List Moment) (n e k : ℕ) → (has_told e k before ≡ true → has_told e k after ≡ true) → HeardFrom before n e k → HeardFrom after n e k
+heard_by before after n e k told (inl own) = inl own
+heard_by before after n e k told (inr h) = inr (told h)
+
+all_heard : (before after : List Moment) (n e : ℕ) (ps : List Promised) → ((k : ℕ) → has_told e k before ≡ true → has_told e k after ≡ true) → AllByRecursion (λ p. HeardFrom before n e p.shown.summary.node) ps
+    → AllByRecursion (λ p. HeardFrom after n e p.shown.summary.node) ps
+all_heard before after n e [] told h = tt
+all_heard before after n e (p ∷ ps) told h = (heard_by before after n e p.shown.summary.node (told p.shown.summary.node) h.0, all_heard before after n e ps told h.1)
+
+has_by : (before after : List Moment) (n : ℕ) (o : Option AttemptState)
+    → ((a : AttemptState) → o ≡ Some a → (members_of a.plan.epoch after ≡ members_of a.plan.epoch before) × ((k : ℕ) → has_told a.plan.epoch k before ≡ true → has_told a.plan.epoch k after ≡ true)) → AttemptIn before n o → AttemptIn after n o
+has_by before after n None f h = tt
+has_by before after n (Some a) f h =
+    let same : (members_of a.plan.epoch after ≡ members_of a.plan.epoch before) × ((k : ℕ) → has_told a.plan.epoch k before ≡ true → has_told a.plan.epoch k after ≡ true) = f a refl in
+    record { reached = h.reached; members = same.0 ∙ h.members; heard = all_heard before after n a.plan.epoch a.promises same.1 h.heard }
 
 none_or_some : (q : ℕ) → (q ≡ 0) ⊎ (0 < q)
 none_or_some q = omega arith
@@ -160,8 +210,12 @@ up_grows n k before after x low ne g h = record {
   made = made_grows n k (promised_of x) before after g h.made;
   life = λ other. g.booted k (promised_of x) (by_number (none_or_some (promised_of x))) (h.life other);
   attempt = h.attempt;
+  has_so = has_by before after k x.attempt (λ a is. (g.members a.plan.epoch (inr (foreign a is)), λ j told. g.told a.plan.epoch j (inr (foreign a is)) told)) h.has_so;
 }
   where
+    foreign : (a : AttemptState) → x.attempt ≡ Some a → coordinator a.plan.epoch ≢ n
+    foreign a is own = ne (sym (subst (AttemptSo k (promised_of x)) (ap epoch_of is) h.attempt).0 ∙ own)
+
     by_made : IsTried before (promised_of x) ⊎ ((coordinator (promised_of x) ≡ k) × HasStopped before k) → IsTried before (promised_of x) ⊎ (coordinator (promised_of x) ≢ n)
     by_made (inl t) = inl t
     by_made (inr s) = inr (λ own. ne (sym s.0 ∙ own))
@@ -198,6 +252,7 @@ up_stays n before after x s h = record {
   made = made_by before after n (promised_of x) (s.tried (promised_of x)) (s.stopped n) h.made;
   life = λ other. s.booted n (promised_of x) (h.life other);
   attempt = h.attempt;
+  has_so = has_by before after n x.attempt (λ a is. (s.members a.plan.epoch, λ j told. s.told a.plan.epoch j told)) h.has_so;
 }
 
 pub node_stays : (n : ℕ) (before after : List Moment) (node : Node) → Stays before after → UpIn before n node → UpIn after n node

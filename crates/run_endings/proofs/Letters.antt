@@ -92,6 +92,7 @@ arrival c s number x m is whole a judged =
       receiver = came.receiver;
       numbered = numbered_by a.stage.machine l m.body (read_letter a.stage.machine l m.body (letter_sound a.stage.machine number s.moments l a.sound here) came.read).1;
       near = λ e test so. or_first (passes test (letter_of number s.moments)) (reached_since (is_attempt e) test s.moments) (ap (passes test) here ∙ so);
+      had = came.had;
       stands = body_one (delivered number x.from x.to) s.moments x.from m.body tt
           (subst (λ from. BodySo s.moments from m.body) came.sender
           (says_by s.moments l m.body (whole_of l.bytes) refl came.read (λ z at. letter_says number s.moments l z a.stage.laws.once judged here at)));

@@ -1,6 +1,7 @@
 pub mod Ways
 pub mod Grows
 pub mod Letters
+pub mod Attempts
 pub mod Turns
 pub mod Courses
 pub mod Shows

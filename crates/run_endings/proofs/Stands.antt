@@ -25,7 +25,8 @@ use Rattle.refinement.specs.Ties.{Delivered}
 use Rattle.seize.specs.Seizing as seizing
 use Rattle.run_endings.specs.Laws.{epoch_of}
 use Rattle.run_endings.specs.Nacks.{HasBooted, IsMadeBy}
-use Rattle.run_endings.specs.Sites.{AttemptSo, UpSo}
+use Rattle.run_endings.specs.Sites.{AttemptIn, AttemptSo, HandSo, UpSo}
+use Rattle.run_endings.proofs.Attempts.{call_has}
 
 -- ---- the same
 
@@ -33,19 +34,20 @@ pub record SameSeat (x y : UpNode) : Type 0 where
   pub promised : promised_of y ≡ promised_of x
   pub session : session_of y ≡ session_of x
 
-pub seat_so : (ms : List Moment) (n : ℕ) (x y : UpNode) → SameSeat x y → AttemptSo n (promised_of x) (epoch_of y.attempt) → UpSo ms n x → UpSo ms n y
-seat_so ms n x y same attempt h = record {
+pub seat_so : (ms : List Moment) (n : ℕ) (x y : UpNode) → SameSeat x y → AttemptSo n (promised_of x) (epoch_of y.attempt) → AttemptIn ms n y.attempt → UpSo ms n x → UpSo ms n y
+seat_so ms n x y same attempt has h = record {
   made = subst (IsMadeBy ms n) (sym same.promised) h.made;
   life = λ other. subst (HasBooted ms n) (sym same.promised) (h.life (λ is. other (same.session ∙ (is ∙ sym same.promised))));
   attempt = subst (λ q. AttemptSo n q (epoch_of y.attempt)) (sym same.promised) attempt;
+  has_so = has;
 }
 
 pub record SameStand (x y : UpNode) : Type 0 where
   pub seat : SameSeat x y
   pub attempt : epoch_of y.attempt ≡ epoch_of x.attempt
 
-pub stand_so : (ms : List Moment) (n : ℕ) (x y : UpNode) → SameStand x y → UpSo ms n x → UpSo ms n y
-stand_so ms n x y same h = seat_so ms n x y same.seat (subst (AttemptSo n (promised_of x)) (sym same.attempt) h.attempt) h
+pub stand_so : (ms : List Moment) (n : ℕ) (x y : UpNode) → SameStand x y → AttemptIn ms n y.attempt → UpSo ms n x → UpSo ms n y
+stand_so ms n x y same has h = seat_so ms n x y same.seat (subst (AttemptSo n (promised_of x)) (sym same.attempt) h.attempt) has h
 
 pub seat_self : (x y : UpNode) → y.seat ≡ x.seat → SameSeat x y
 seat_self x y is = record { promised = ap (λ (z : Seat). (state_of z).saved.promised) is; session = ap (λ (z : Seat). (state_of z).session) is }
@@ -124,6 +126,25 @@ change_stands c n told x change even may = record { seat = change_seat c n told 
     by_change (Prepares s text) h may = refl
     by_change (Commits s) h may = refl
 
+-- what its attempt has then
+turned_has : (c : Cluster) (ms : List Moment) (n : ℕ) (told : Delivered) (x : UpNode) (a : AttemptState) (k : Call) → x.attempt ≡ Some a → MayCall c told a k → HandSo ms n told → UpSo ms n x → AttemptIn ms n (Some (turn a k).after)
+turned_has c ms n told x a k is may hand h =
+    call_has c ms n told a k (subst (AttemptSo n (promised_of x)) (ap epoch_of is) h.attempt).0 may hand (subst (AttemptIn ms n) is h.has_so)
+
+pub change_has : (c : Cluster) (ms : List Moment) (n : ℕ) (told : Delivered) (x : UpNode) (change : Change) → IsEven change → MayChange c n told x change → HandSo ms n told → UpSo ms n x → AttemptIn ms n (changed c n x change).attempt
+change_has c ms n told x (Promises p) even may hand h = absurd even
+change_has c ms n told x (Leads p members) even may hand h = absurd even
+change_has c ms n told x (Starts a k s) even may hand h = absurd even
+change_has c ms n told x (Counts a k s i) even may hand h = turned_has c ms n told x a k may.0 may.2 hand h
+change_has c ms n told x (Installs s i) even may hand h = h.has_so
+change_has c ms n told x (Sits s e) even may hand h = h.has_so
+change_has c ms n told x (Distrusts d) even may hand h = h.has_so
+change_has c ms n told x (Admits at command a d) even may hand h = h.has_so
+change_has c ms n told x (Proposes s p text) even may hand h = h.has_so
+change_has c ms n told x (Acks s p q left text) even may hand h = h.has_so
+change_has c ms n told x (Prepares s text) even may hand h = h.has_so
+change_has c ms n told x (Commits s) even may hand h = h.has_so
+
 -- ---- acts
 
 -- neither an end nor a change
@@ -152,3 +173,24 @@ act_stands c n told x (Minds q p) mere may = still x (acted c n x (Minds q p)) r
 act_stands c n told x (Notes from place p) mere may = still x (acted c n x (Notes from place p)) refl refl
 act_stands c n told x (Dates now) mere may = still x (acted c n x (Dates now)) refl refl
 act_stands c n told x (Works w) mere may = still x (acted c n x (Works w)) refl refl
+
+pub act_has : (c : Cluster) (ms : List Moment) (n : ℕ) (told : Delivered) (x : UpNode) (a : Act) → IsMere a → MayAct c n told x a → HandSo ms n told → UpSo ms n x → AttemptIn ms n (acted c n x a).attempt
+act_has c ms n told x (Ends a e) mere may hand h = absurd mere
+act_has c ms n told x (Makes change) mere may hand h = absurd mere
+act_has c ms n told x (Goes_on a k) mere may hand h = turned_has c ms n told x a k may.0 may.1 hand h
+act_has c ms n told x (Queues a d kind) mere may hand h =
+    if_either (λ (y : UpNode). AttemptIn ms n y.attempt) (has a.plan.members n)
+    (record x { tasks = after_seize x.tasks d (seizing.begun kind a.plan.epoch a.plan.members n c.id (has (record_of x).valid d)) }) x h.has_so h.has_so
+act_has c ms n told x (Hears from b) mere may hand h = h.has_so
+act_has c ms n told x Ticks mere may hand h = h.has_so
+act_has c ms n told x Waits mere may hand h = h.has_so
+act_has c ms n told x (Accepts kind e members d) mere may hand h = h.has_so
+act_has c ms n told x (Takes at command a) mere may hand h = h.has_so
+act_has c ms n told x (Stores d value a) mere may hand h = h.has_so
+act_has c ms n told x (Writes to b) mere may hand h = h.has_so
+act_has c ms n told x (Gives os) mere may hand h = h.has_so
+act_has c ms n told x (Spreads receivers b) mere may hand h = h.has_so
+act_has c ms n told x (Minds q p) mere may hand h = h.has_so
+act_has c ms n told x (Notes from place p) mere may hand h = h.has_so
+act_has c ms n told x (Dates now) mere may hand h = h.has_so
+act_has c ms n told x (Works w) mere may hand h = h.has_so

@@ -111,22 +111,22 @@ without_some e f w = by_test (is_number f w)
 
 pub way_tried : (n e : ℕ) (ms : List Moment) → way_of n ms ≡ Some e → IsTried ms e
 way_tried n e [] is = absurd (none_some e is)
-way_tried n e (attempt f members ∷ ms) is = by_test (coordinator f == n) is
+way_tried n e (attempt f members ∷ ms) is = by_test (λ at. way_tried n e ms at) (coordinator f == n) is
   where
-    by_test : (t : Bool) → (if t then Some f else way_of n ms) ≡ Some e → ((f == e) || list_any (is_attempt e) ms) ≡ true
-    by_test true is = or_first (f == e) (list_any (is_attempt e) ms) (itself f e (same_some f e is))
-    by_test false is = or_second (f == e) (list_any (is_attempt e) ms) (way_tried n e ms is)
+    by_test : (way_of n ms ≡ Some e → IsTried ms e) → (t : Bool) → (if t then Some f else way_of n ms) ≡ Some e → ((f == e) || list_any (is_attempt e) ms) ≡ true
+    by_test rest true is = or_first (f == e) (list_any (is_attempt e) ms) (itself f e (same_some f e is))
+    by_test rest false is = or_second (f == e) (list_any (is_attempt e) ms) (rest is)
 way_tried n e (ended_votes f have need lacking ∷ ms) is = way_tried n e ms (without_some e f (way_of n ms) is)
 way_tried n e (ended_superseded f q ∷ ms) is = way_tried n e ms (without_some e f (way_of n ms) is)
 way_tried n e (ended_silent f m ∷ ms) is = way_tried n e ms (without_some e f (way_of n ms) is)
 way_tried n e (ended_excluded f m ∷ ms) is = way_tried n e ms (without_some e f (way_of n ms) is)
 way_tried n e (ended_foreign f m ∷ ms) is = way_tried n e ms (without_some e f (way_of n ms) is)
 way_tried n e (start f members held count ∷ ms) is = way_tried n e ms (without_some e f (way_of n ms) is)
-way_tried n e (down m why ∷ ms) is = by_test (m == n) is
+way_tried n e (down m why ∷ ms) is = by_test (λ at. way_tried n e ms at) (m == n) is
   where
-    by_test : (t : Bool) → (if t then None else way_of n ms) ≡ Some e → IsTried ms e
-    by_test true is = absurd (none_some e is)
-    by_test false is = way_tried n e ms is
+    by_test : (way_of n ms ≡ Some e → IsTried ms e) → (t : Bool) → (if t then None else way_of n ms) ≡ Some e → IsTried ms e
+    by_test rest true is = absurd (none_some e is)
+    by_test rest false is = rest is
 way_tried n e (_ ∷ ms) is = way_tried n e ms is
 
 -- ---- lines of node n, and those that tell nothing of attempts

@@ -1,5 +1,5 @@
 -- What is proved of each run of the world, as things that happen: an attempt ends, and starts, while it is under way; what shows that it is
--- superseded; and in which events it ends for want of an answer.
+-- superseded; in which events it ends for want of an answer; and what it has by then of Promises.
 use Rattle.std.specs.Prelude.{ℕ, ◌<◌, ◌≡◌, ◌≤◌, ◌^◌, true, List, length, Option, None, Some}
 use Rattle.cl_base.specs.Limits.{most_devices}
 use Rattle.cl_base.specs.declared.header.Header.{Header}
@@ -7,6 +7,7 @@ use Rattle.cmm_attempt.specs.Attempts.{AttemptState}
 use Rattle.history.specs.Attempts.{stands_against}
 use Rattle.history.specs.Moment.{Moment}
 use Rattle.history.specs.Order.{Always, under_way}
+use Rattle.history.specs.Queue.{all_promised}
 use Rattle.history.specs.Seizing.{is_number}
 use Rattle.history.specs.Setting.{coordinator}
 use Rattle.history.specs.Trace.{ended_excluded, ended_foreign, ended_silent, ended_superseded, ended_votes, start}
@@ -59,6 +60,16 @@ IsSuperseded before _ = Unit {0}
 
 abbrev pub SupersededInEachRun : Type 0
 SupersededInEachRun = OfEachRun (Always IsSuperseded)
+
+-- ---- for want of votes, and for a foreign member, it ends once the Promise of each other member has come
+
+abbrev pub HasPromises : List Moment → Moment → Type 0
+HasPromises before (ended_votes e have need lacking) = (have < need) × (all_promised e before ≡ true)
+HasPromises before (ended_foreign e m) = all_promised e before ≡ true
+HasPromises before _ = Unit {0}
+
+abbrev pub PromisedInEachRun : Type 0
+PromisedInEachRun = OfEachRun (Always HasPromises)
 
 -- ---- for want of an answer it ends in a tick of its coordinator
 

@@ -2,7 +2,9 @@
 use Rattle.std.specs.Prelude.{ℕ, ◌<◌, ◌≡◌, ◌≢◌, ◌≤◌, Bool, true, List, Option, None, Some}
 use Rattle.std.specs.List.{AllByRecursion}
 use Rattle.history.specs.Letters.{Letter, reached_since, says}
-use Rattle.history.specs.Member.{number_of}
+use Rattle.cmm_attempt.specs.Attempts.{AttemptState}
+use Rattle.cmm_attempt.specs.Calls.{IsReached}
+use Rattle.history.specs.Member.{members_of, number_of}
 use Rattle.history.specs.Moment.{Moment}
 use Rattle.history.specs.Names.{named}
 use Rattle.history.specs.Order.{Always}
@@ -22,10 +24,21 @@ use Rattle.status_report.specs.declared.node_entry.NodeEntry.TheVariants as note
 use Rattle.status_report.specs.declared.start_entry.StartEntry.TheVariants as start_entry
 use Rattle.wire.specs.declared.message.Body.{Body}
 use Rattle.wire.specs.declared.message.Body.TheVariants as body
+use Rattle.run_records.specs.Kept.{HeardFrom, IsHad}
 use Rattle.world_model.specs.Sends.{name_of}
-use Rattle.run_endings.specs.Laws.{EndsInTick, EndsUnderWay, IsSuperseded, epoch_at, epoch_of}
+use Rattle.run_endings.specs.Laws.{EndsInTick, EndsUnderWay, HasPromises, IsSuperseded, epoch_at, epoch_of}
 use Rattle.run_endings.specs.Nacks.{BodySo, HasBooted, IsMadeBy, SaysSo}
 use Rattle.run_endings.specs.Ways.{way_of}
+
+-- What an attempt has: its members are those of its line, and each Promise that it has taken is the coordinator's own, or was delivered since it began.
+pub record AttemptHas (moments : List Moment) (n : ℕ) (a : AttemptState) : Type 0 where
+  pub reached : IsReached a
+  pub members : members_of a.plan.epoch moments ≡ a.plan.members
+  pub heard : AllByRecursion (λ p. HeardFrom moments n a.plan.epoch p.shown.summary.node) a.promises
+
+abbrev pub AttemptIn : List Moment → ℕ → Option AttemptState → Type 0
+AttemptIn moments n None = Unit {0}
+AttemptIn moments n (Some a) = AttemptHas moments n a
 
 -- its attempt is its own, of a number that it has promised
 abbrev pub AttemptSo : ℕ → ℕ → Option ℕ → Type 0
@@ -37,6 +50,7 @@ pub record UpSo (moments : List Moment) (n : ℕ) (x : UpNode) : Type 0 where
   pub made : IsMadeBy moments n (promised_of x)
   pub life : session_of x ≢ promised_of x → HasBooted moments n (promised_of x)
   pub attempt : AttemptSo n (promised_of x) (epoch_of x.attempt)
+  pub has_so : AttemptIn moments n x.attempt
 
 abbrev pub UpIn : List Moment → ℕ → Node → Type 0
 UpIn moments n Down = Unit {0}
@@ -61,6 +75,7 @@ pub record Came (moments : List Moment) (n from : ℕ) (b : Body) : Type 0 where
   pub receiver : letter.to ≡ n
   pub numbered : IsNumbered letter b
   pub near : (e : ℕ) (test : Letter → Bool) → test letter ≡ true → reached_since (is_attempt e) test moments ≡ true
+  pub had : IsHad moments n from b
   pub stands : BodySo moments from b
 
 abbrev pub HandSo : List Moment → ℕ → Delivered → Type 0
@@ -90,6 +105,7 @@ pub record Judged (before : List Moment) (x : Moment) : Type 0 where
   pub way : EndsUnderWay before x
   pub superseded : IsSuperseded before x
   pub silent : EndsInTick before x
+  pub promises : HasPromises before x
   pub says_so : SaysSo before x
 
 abbrev pub AllJudged : List Moment → Type 0

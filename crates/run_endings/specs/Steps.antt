@@ -1,7 +1,8 @@
 -- What the guards of `refinement` do not say of ends and of Nacks: an attempt ends by the Nack that is delivered, or for want of an answer in a
 -- tick; a Nack answers the Collect or the Install that is delivered; and no attempt begins where something is delivered.
-use Rattle.std.specs.Prelude.{ℕ, ◌<◌, ◌≡◌, ◌≢◌, ◌≤◌, Bool, true, false, List, [], ◌∷◌, None, Some}
+use Rattle.std.specs.Prelude.{ℕ, ◌<◌, ◌≡◌, ◌≢◌, ◌≤◌, Bool, true, false, List, [], ◌∷◌, None, Some, is_some}
 use Rattle.std.specs.List.{AllByRecursion}
+use Rattle.cmm_attempt.specs.Attempts.{AttemptState}
 use Rattle.cmm_attempt.specs.Calls.{Call, Own_ready, Own_seized, Take, Tick as Call_tick, With_votes}
 use Rattle.cmm_attempt.specs.declared.step.AttemptEnd.{AttemptEnd}
 use Rattle.cmm_attempt.specs.declared.step.AttemptEnd.TheVariants as end
@@ -25,23 +26,25 @@ use Rattle.refinement.specs.Ties.{Delivered}
 
 -- ---- the steps of an attempt
 
--- why the attempt e ends, by what comes to its node
-abbrev pub EndSo : Delivered → Bool → ℕ → AttemptEnd → Type 0
-EndSo told ticks e (end.Superseded q) = Says (λ b. b ≡ body.Nack e q) told
-EndSo told ticks e (end.Silent m) = ticks ≡ true
-EndSo told ticks e _ = Unit {0}
+-- why an attempt ends: by what comes to its node, or once it was given votes
+abbrev pub EndSo : Delivered → Bool → AttemptState → AttemptEnd → Type 0
+EndSo told ticks a (end.Superseded q) = Says (λ b. b ≡ body.Nack a.plan.epoch q) told
+EndSo told ticks a (end.Silent m) = ticks ≡ true
+EndSo told ticks a (end.Votes have need lacking) = (have < need) × (is_some a.votes ≡ true)
+EndSo told ticks a (end.Foreign m) = is_some a.votes ≡ true
+EndSo told ticks a (end.Excluded m) = Unit {0}
 
 abbrev pub NoNack : Body → Type 0
 NoNack (body.Nack e q) = ⊥
 NoNack _ = Unit {0}
 
-abbrev pub StepFits : Delivered → Bool → ℕ → Step → Type 0
-StepFits told ticks e (step.Ended why) = EndSo told ticks e why
-StepFits told ticks e (step.Send to m) = NoNack m.body
-StepFits told ticks e _ = Unit {0}
+abbrev pub StepFits : Delivered → Bool → AttemptState → Step → Type 0
+StepFits told ticks a (step.Ended why) = EndSo told ticks a why
+StepFits told ticks a (step.Send to m) = NoNack m.body
+StepFits told ticks a _ = Unit {0}
 
-abbrev pub StepsFit : Delivered → Bool → ℕ → List Step → Type 0
-StepsFit told ticks e steps = AllByRecursion (StepFits told ticks e) steps
+abbrev pub StepsFit : Delivered → Bool → AttemptState → List Step → Type 0
+StepsFit told ticks a steps = AllByRecursion (StepFits told ticks a) steps
 
 -- an attempt takes the message that is delivered, and its ticks are the node's
 abbrev pub CallFits : Delivered → Bool → Call → Type 0
@@ -68,7 +71,7 @@ ChangeFits told (Leads p members) = told ≡ None
 ChangeFits told _ = Unit {0}
 
 abbrev pub ActFits : Delivered → Bool → UpNode → Act → Type 0
-ActFits told ticks x (Ends a why) = (x.attempt ≡ Some a) × EndSo told ticks a.plan.epoch why
+ActFits told ticks x (Ends a why) = (x.attempt ≡ Some a) × EndSo told ticks a why
 ActFits told ticks x (Writes to b) = BodyFits told x b
 ActFits told ticks x (Spreads receivers b) = BodyFits told x b
 ActFits told ticks x (Makes change) = ChangeFits told change
