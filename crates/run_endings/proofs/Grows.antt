@@ -1,8 +1,8 @@
 -- What is told of attempts, stops and boots stays as more is told.
-use Rattle.std.specs.Prelude.{ℕ, ◌<◌, ◌≡◌, ◌≢◌, ◌≤◌, ◌⊎◌, ◌||◌, Bool, true, false, List, [], ◌∷◌, if◌then◌else◌, ◌==◌, ◌++◌}
+use Rattle.std.specs.Prelude.{ℕ, ◌<◌, ◌≡◌, ◌≢◌, ◌≤◌, ◌⊎◌, ◌||◌, Bool, true, false, List, [], ◌∷◌, if◌then◌else◌, ◌==◌, ◌++◌, nat_lt}
 use Rattle.std.specs.List.{AllByRecursion, list_any}
 use Rattle.std.proofs.Common.{refl, sym, ap, subst, ◌∙◌, arith, inl, inr}
-use Rattle.cmm_attempt.proofs.Basics.{false_true, same_number}
+use Rattle.cmm_attempt.proofs.Basics.{false_true, less, same_number}
 use Rattle.cmm_attempt.specs.Attempts.{AttemptState}
 use Rattle.cmm_attempt.specs.declared.promised.Promised.{Promised}
 use Rattle.history.specs.Attempts.{stops_of}
@@ -53,6 +53,8 @@ stays_then first second third h i = record {
   stopped = λ j k. i.stopped j (h.stopped j k);
   booted = λ j e k. i.booted j e (h.booted j e k);
   near = λ e test k. i.near e test (h.near e test k);
+  members = λ e. i.members e ∙ h.members e;
+  told = λ e j k. i.told e j (h.told e j k);
 }
 
 pub booted_more : (k e : ℕ) (x : Moment) (ms : List Moment) → is_attempt e x ≡ false → HasBooted ms k e → HasBooted (x ∷ ms) k e
@@ -139,7 +141,7 @@ grows_begun n f members ms new own =
 
 -- ---- what rests on it
 
-made_by : (before after : List Moment) (n q : ℕ) → (IsTried before q → IsTried after q) → (HasStopped before n → HasStopped after n) → IsMadeBy before n q → IsMadeBy after n q
+pub made_by : (before after : List Moment) (n q : ℕ) → (IsTried before q → IsTried after q) → (HasStopped before n → HasStopped after n) → IsMadeBy before n q → IsMadeBy after n q
 made_by before after n q tried stopped h some = by_side (h some)
   where
     by_side : IsTried before q ⊎ ((coordinator q ≡ n) × HasStopped before n) → IsTried after q ⊎ ((coordinator q ≡ n) × HasStopped after n)
@@ -199,7 +201,14 @@ has_by before after n (Some a) f h =
     record { reached = h.reached; members = same.0 ∙ h.members; heard = all_heard before after n a.plan.epoch a.promises same.1 h.heard }
 
 none_or_some : (q : ℕ) → (q ≡ 0) ⊎ (0 < q)
-none_or_some q = omega arith
+none_or_some q = by_test (nat_lt 0 q) refl
+  where
+    none : (k : ℕ) → nat_lt 0 k ≡ false → k ≡ 0
+    none k h = grind arith
+
+    by_test : (t : Bool) → nat_lt 0 q ≡ t → (q ≡ 0) ⊎ (0 < q)
+    by_test true is = inr (less 0 q is)
+    by_test false is = inl (none q is)
 
 no_node : (q n : ℕ) → 1 ≤ n → q ≡ 0 → coordinator q ≡ n → ⊥
 no_node q n low none is = grind arith

@@ -281,7 +281,7 @@ pub attempts_are_under_way_in_each_run : AttemptsAreUnderWayInEachRun
 attempts_are_under_way_in_each_run h cells hs few small may = each Judged EndsUnderWay _ (λ before x j. j.way) (run_so h cells hs few small may).judged
 
 pub nodes_have_their_attempts_in_each_run : NodesHaveTheirAttempts
-nodes_have_their_attempts_in_each_run h cells hs few small may = λ e. under_way_so e _ ∙ ap (is_number e) ((run_so h cells hs few small may).sites (coordinator e)).way
+nodes_have_their_attempts_in_each_run h cells hs few small may = λ e. under_way_so e (all_happened (first_cluster h) (first_scene h cells) hs).moments ∙ ap (is_number e) ((run_so h cells hs few small may).sites (coordinator e)).way
 
 pub superseded_in_each_run : SupersededInEachRun
 superseded_in_each_run h cells hs few small may = each Judged IsSuperseded _ (λ before x j. j.superseded) (run_so h cells hs few small may).judged

@@ -2,7 +2,7 @@
 use Rattle.std.specs.Prelude.{ℕ, ◌<◌, ◌≡◌, ◌≤◌, ◌⊎◌, ◌==◌, ◌&&◌, ◌||◌, nat_lt, Bool, true, false, List}
 use Rattle.std.specs.List.{list_any}
 use Rattle.std.proofs.Common.{refl, sym, ap, subst, ◌∙◌, arith, inl, inr}
-use Rattle.cmm_attempt.proofs.Basics.{false_true}
+use Rattle.cmm_attempt.proofs.Basics.{false_true, less}
 use Rattle.history.specs.Attempts.{is_collect_of, is_nack, is_nack_of, is_own_nack, stands_against, stops_of}
 use Rattle.history.specs.Letters.{Letter, is_letter, reached_since}
 use Rattle.history.specs.Member.{number_of}
@@ -59,7 +59,14 @@ nack_here ms n from e q h own =
     nack_same = refl
 
 least_or : (e q : ℕ) → e ≤ q → (e < q) ⊎ (e ≡ q)
-least_or e q h = omega (arith, h)
+least_or e q h = by_test (nat_lt e q) refl
+  where
+    same : (a b : ℕ) → a ≤ b → nat_lt a b ≡ false → a ≡ b
+    same a b most is = grind arith
+
+    by_test : (t : Bool) → nat_lt e q ≡ t → (e < q) ⊎ (e ≡ q)
+    by_test true is = inl (less e q is)
+    by_test false is = inr (same e q h is)
 
 some_above : (e q : ℕ) → e < q → 0 < q
 some_above e q h = omega (arith, h)
