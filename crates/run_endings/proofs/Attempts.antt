@@ -1,5 +1,5 @@
 -- What an attempt has stays with each call: its Promises came, and once it was given votes all have promised.
-use Rattle.std.specs.Prelude.{ℕ, ◌+◌, ◌≡◌, ◌⊎◌, ◌==◌, ◌++◌, ◌&&◌, ◌||◌, not, filter, All, Bool, true, false, List, [], ◌∷◌, Option, None, Some, is_some, if◌then◌else◌}
+use Rattle.std.specs.Prelude.{ℕ, ◌≡◌, ◌⊎◌, ◌==◌, ◌++◌, ◌&&◌, ◌||◌, not, filter, All, Bool, true, false, List, [], ◌∷◌, Option, None, Some, is_some, if◌then◌else◌}
 use Rattle.std.specs.List.{AllByRecursion, list_all, list_any}
 use Rattle.std.proofs.Common.{refl, sym, ap, subst, ◌∙◌, inl, inr}
 use Rattle.attempt_laws.proofs.Stays.{plan_begins, plan_stays}
@@ -16,7 +16,6 @@ use Rattle.cmm_attempt.specs.declared.phase.Phase.TheVariants.{Collecting, Choos
 use Rattle.cmm_attempt.specs.declared.plan.Plan.{Plan}
 use Rattle.cmm_attempt.specs.declared.promised.Promised.{Promised}
 use Rattle.cmm_attempt.specs.declared.promised.Shown.{Shown}
-use Rattle.history.specs.Contact.{others}
 use Rattle.history.specs.Letters.{Letter}
 use Rattle.history.specs.Member.{members_of}
 use Rattle.history.specs.Moment.{Moment}

@@ -152,8 +152,8 @@ pub made_grows : (n k q : ℕ) (before after : List Moment) → Grows n before a
 made_grows n k q before after g h = made_by before after k q (g.tried q) (g.stopped k) h
 
 pub is_made : (before after : List Moment) (q : ℕ) → (IsTried before q → IsTried after q) → (HasStopped before (coordinator q) → HasStopped after (coordinator q)) → IsMade before q → IsMade after q
-is_made before after q tried stopped (inl t) = inl (tried t)
-is_made before after q tried stopped (inr s) = inr (stopped s)
+is_made before after q tried halted (inl t) = inl (tried t)
+is_made before after q tried halted (inr s) = inr (halted s)
 
 pub body_grows : (n k : ℕ) (before after : List Moment) (b : Body) → Grows n before after → BodySo before k b → BodySo after k b
 body_grows n k before after (body.Nack e q) g h = record {
@@ -167,7 +167,7 @@ body_grows n k before after (body.Install i) g h = (h.0, g.tried i.epoch h.1)
 body_grows n k before after _ g h = tt
 
 had_stays : (before after : List Moment) (n from : ℕ) (b : Body) → Stays before after → IsHad before n from b → IsHad after n from b
-had_stays before after n from (body.Promise e installed members valid flagged committed pending) s h = λ own. s.told e from (h own)
+had_stays before after n from (body.Promise e newest members valid flagged committed pending) s h = λ own. s.told e from (h own)
 had_stays before after n from _ s h = tt
 
 pub hand_stays : (before after : List Moment) (n : ℕ) (told : Delivered) → Stays before after → HandSo before n told → HandSo after n told

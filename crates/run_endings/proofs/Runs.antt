@@ -190,8 +190,8 @@ install_bounds c v n from m i x high k up among is member =
     subst (λ q. i.epoch ≤ q) sight.promised ((k.holds.node n).answered_promised i.epoch ((k.holds.epoch i.epoch).counted_answered told.counted n (told.members n ∙ member_so i.members n high member)))
 
 packet_bounds : (c : Cluster) (v : Nodes) (n from : ℕ) (m : Message) (node : Node) → n ≤ 32 → Knows c v → v.node n ≡ node → IsAmong from m.body v.sent → BoundsIn n node (input.Packet from m)
-packet_bounds c v n from m Down high k up among = tt
-packet_bounds c v n from m (Up x) high k up among = λ i is member. install_bounds c v n from m i x high k up among is member
+packet_bounds c v n from m Down high k at among = tt
+packet_bounds c v n from m (Up x) high k at among = λ i is member. install_bounds c v n from m i x high k at among is member
 
 -- ---- lines of the world
 
