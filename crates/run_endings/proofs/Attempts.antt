@@ -31,6 +31,8 @@ use Rattle.run_records.specs.Kept.{HeardFrom, IsHad, has_told, shows_from}
 use Rattle.wire.specs.declared.message.Body.{Body}
 use Rattle.wire.specs.declared.message.Body.TheVariants as body
 use Rattle.wire.specs.declared.message.Message.{Message}
+use Rattle.run_endings.specs.Laws.{IsMemberOf}
+use Rattle.run_endings.specs.Steps.{HasMember}
 use Rattle.run_endings.specs.Sites.{AttemptHas, HandSo}
 use Rattle.run_endings.proofs.Ways.{itself, or_first, or_second}
 
@@ -226,6 +228,9 @@ all_filter f g test (m ∷ ns) h all =
     by_test : (test m ≡ true → g m ≡ true → f m ≡ true) → g m ≡ true → list_all f (filter test ns) ≡ true → (b : Bool) → test m ≡ b → list_all f (if b then m ∷ filter test ns else filter test ns) ≡ true
     by_test here so rest true is = and_both (f m) (list_all f (filter test ns)) (here is so) rest
     by_test here so rest false is = rest
+
+pub member_told : (ms : List Moment) (n : ℕ) (a : AttemptState) (m : ℕ) → AttemptHas ms n a → HasMember a m → IsMemberOf a.plan.epoch m ms
+member_told ms n a m h is = subst (λ ns. list_any (λ k. k == m) ns ≡ true) (sym (ap nodes_of h.members ∙ sym (voted_reached a h.reached).1)) is
 
 pub promised_told : (ms : List Moment) (n : ℕ) (a : AttemptState) → coordinator a.plan.epoch ≡ n → AttemptHas ms n a → is_some a.votes ≡ true → told.all_promised a.plan.epoch ms ≡ true
 promised_told ms n a own h some =

@@ -59,7 +59,7 @@ use Rattle.run_endings.specs.Nacks.{BodySo, HasBooted, HasStopped, IsBegun, IsMa
 use Rattle.run_endings.specs.Sites.{AllJudged, AttemptHas, AttemptIn, AttemptSo, Came, HandSo, IsFine, Judged, SiteSo, UpSo}
 use Rattle.run_endings.specs.Steps.{AllFit, ChangeFits, DoingFits, EndSo}
 use Rattle.run_endings.specs.Ways.{way_of, without}
-use Rattle.run_endings.proofs.Attempts.{first_has, promised_told}
+use Rattle.run_endings.proofs.Attempts.{first_has, member_told, promised_told}
 use Rattle.run_endings.proofs.Goes.{Quietly, Went, quiet_goes, quiet_self, quiet_told, site_quiet, went_quiet, went_then}
 use Rattle.run_endings.proofs.Grows.{Stays, grows_begun, hand_stays, made_by, stays_grow, stays_one, up_stays}
 use Rattle.run_endings.proofs.Sends.{adopted_fine, base_fine, first_fine, last_fine, said_fine, unknown_fine}
@@ -92,7 +92,7 @@ down_way n why ms = if_true (n == n) None (way_of n ms) (itself n n refl)
 down_went : (n : ℕ) (told : Delivered) (why : DownCause) (disk : NodeRecord) (s : Scene) → IsMadeBy (down n why ∷ s.moments) n disk.promised → AllJudged s.moments → HandSo s.moments n told
     → Went n told s.moments (site Down disk) (passing n (gone_line n why) s).moments
 down_went n told why disk s made h hand =
-    line_went n told (entry.Node n (note.Down why)) s.moments (site Down disk) (record { way = tt; superseded = tt; silent = tt; promises = tt; says_so = tt }) (λ f. refl) refl (record { way = down_way n why s.moments; disk = made; up = tt }) h hand
+    line_went n told (entry.Node n (note.Down why)) s.moments (site Down disk) (record { way = tt; superseded = tt; silent = tt; promises = tt; names = tt; says_so = tt }) (λ f. refl) refl (record { way = down_way n why s.moments; disk = made; up = tt }) h hand
 
 down_stays : (n : ℕ) (why : DownCause) (ms : List Moment) → Stays ms (down n why ∷ ms)
 down_stays n why ms = stays_one (down n why) ms (λ f. refl)
@@ -105,11 +105,11 @@ nacked ms n e q (Some d) own says hand = by_nack ms n d.0 e q (subst (Came ms n 
 
 ended_judged : (ms : List Moment) (n : ℕ) (a : AttemptState) (told : Delivered) (ticks : Bool) (why : AttemptEnd) → coordinator a.plan.epoch ≡ n → way_of n ms ≡ Some a.plan.epoch → HandSo ms n told → (ticks ≡ true → under_way ms ≡ Some (Tick n)) → AttemptHas ms n a
     → EndSo told ticks a why → Judged ms (Told (entry.Attempt (ended_entry a.plan.epoch why)))
-ended_judged ms n a told ticks (end.Votes have need lacking) own way hand under has so = record { way = is_on n a.plan.epoch ms own way; superseded = tt; silent = tt; promises = (so.0, promised_told ms n a own has so.1); says_so = tt }
-ended_judged ms n a told ticks (end.Superseded q) own way hand under has so = record { way = is_on n a.plan.epoch ms own way; superseded = nacked ms n a.plan.epoch q told own so hand; silent = tt; promises = tt; says_so = tt }
-ended_judged ms n a told ticks (end.Silent m) own way hand under has so = record { way = is_on n a.plan.epoch ms own way; superseded = tt; silent = under so ∙ ap (λ k. Some (Tick k)) (sym own); promises = tt; says_so = tt }
-ended_judged ms n a told ticks (end.Foreign m) own way hand under has so = record { way = is_on n a.plan.epoch ms own way; superseded = tt; silent = tt; promises = promised_told ms n a own has so; says_so = tt }
-ended_judged ms n a told ticks (end.Excluded m) own way hand under has so = record { way = is_on n a.plan.epoch ms own way; superseded = tt; silent = tt; promises = tt; says_so = tt }
+ended_judged ms n a told ticks (end.Votes have need lacking) own way hand under has so = record { way = is_on n a.plan.epoch ms own way; superseded = tt; silent = tt; promises = (so.0, promised_told ms n a own has so.1); names = tt; says_so = tt }
+ended_judged ms n a told ticks (end.Superseded q) own way hand under has so = record { way = is_on n a.plan.epoch ms own way; superseded = nacked ms n a.plan.epoch q told own so hand; silent = tt; promises = tt; names = tt; says_so = tt }
+ended_judged ms n a told ticks (end.Silent m) own way hand under has so = record { way = is_on n a.plan.epoch ms own way; superseded = tt; silent = under so.0 ∙ ap (λ k. Some (Tick k)) (sym own); promises = tt; names = member_told ms n a m has so.1; says_so = tt }
+ended_judged ms n a told ticks (end.Foreign m) own way hand under has so = record { way = is_on n a.plan.epoch ms own way; superseded = tt; silent = tt; promises = promised_told ms n a own has so.0; names = member_told ms n a m has so.1; says_so = tt }
+ended_judged ms n a told ticks (end.Excluded m) own way hand under has so = record { way = is_on n a.plan.epoch ms own way; superseded = tt; silent = tt; promises = tt; names = member_told ms n a m has so; says_so = tt }
 
 ended_own : (n e : ℕ) (why : AttemptEnd) → coordinator e ≡ n → IsOwnLine n (entry.Attempt (ended_entry e why))
 ended_own n e (end.Votes have need lacking) own = own
@@ -166,7 +166,7 @@ starts_went c n told x kept disk a k st s may made good h so hand =
     let t : Scene = telling line s in
     let stays : Stays s.moments t.moments = stays_one (Told line) s.moments (λ f. refl) in
     let first : Went n told s.moments (site (Up y) disk) t.moments =
-    line_went n told line s.moments (site (Up y) disk) (record { way = is_on n e s.moments own.0 way; superseded = tt; silent = tt; promises = tt; says_so = tt }) (λ f. refl) own.0 (record {
+    line_went n told line s.moments (site (Up y) disk) (record { way = is_on n e s.moments own.0 way; superseded = tt; silent = tt; promises = tt; names = tt; says_so = tt }) (λ f. refl) own.0 (record {
       way = ended_none e (way_of n s.moments) way;
       disk = made_stays s.moments t.moments n disk.promised stays made;
       up = seat_so t.moments n x y (change_seat c n told x (Starts a k st) tt may) tt tt (up_stays n s.moments t.moments x stays so.up);
@@ -262,7 +262,7 @@ promises_went c n told x disk p s may good h k hand = by_attempt x.attempt refl 
         let stays : Stays s.moments t.moments = stays_one (Told line) s.moments (λ f. refl) in
         let first : Went n told s.moments (site (Up y) (record_of y)) t.moments =
         line_went n told line s.moments (site (Up y) (record_of y))
-        (record { way = is_on n e s.moments own.0 way; superseded = collected s.moments n e p told own.0 (below e (promised_of x) p own.2 may.1) may.0 hand; silent = tt; promises = tt; says_so = tt }) (λ f. refl) own.0 (record {
+        (record { way = is_on n e s.moments own.0 way; superseded = collected s.moments n e p told own.0 (below e (promised_of x) p own.2 may.1) may.0 hand; silent = tt; promises = tt; names = tt; says_so = tt }) (λ f. refl) own.0 (record {
           way = ended_none e (way_of n s.moments) way ∙ sym (rest_attempt x p x.attempt);
           disk = (up_so t.moments (stays.tried p begun.1)).made;
           up = up_so t.moments (stays.tried p begun.1);
@@ -286,7 +286,7 @@ leads_went c n told x disk p members s fits may none good h k differ =
     let up_so : UpSo t.moments n y = up_promised t.moments n p y refl refl (λ some. inl tried) (subst (AttemptSo n p) (sym epoch) (own, positive (promised_of x) p may.0, self_most p))
     (first_has t.moments n p members (own_promise n z p) c.attached c.id fits refl (if_true (p == p) members (members_of p s.moments) (itself p p refl))) in
     let first : Went n told s.moments (site (Up y) (record_of y)) t.moments = record {
-      judged = (record { way = tt; superseded = tt; silent = tt; promises = tt; says_so = tt }, h);
+      judged = (record { way = tt; superseded = tt; silent = tt; promises = tt; names = tt; says_so = tt }, h);
       site_so = record { way = if_true (coordinator p == n) (Some p) (way_of n s.moments) (itself (coordinator p) n own) ∙ sym epoch; disk = up_so.made; up = up_so };
       grows = grows_begun n p members s.moments (passing_grows n (unknown_lines n x.requests.waiting) t differ).0.0 own;
       ways = λ j ne way. others_stay n j line s.moments ne own way;

@@ -54,11 +54,11 @@ quiet_told (entry.Attempt e) ms quiet h = absurd quiet
 quiet_told (entry.Start (start_entry.Started e members held count)) ms quiet h = absurd quiet
 quiet_told (entry.Node m (note.Down why)) ms quiet h = absurd quiet
 quiet_told (entry.Packet e) ms quiet h = absurd quiet
-quiet_told _ ms quiet h = quiet_moment _ ms (record { way = tt; superseded = tt; silent = tt; promises = tt; says_so = tt }) (λ e. refl) (λ k. refl) h
+quiet_told _ ms quiet h = quiet_moment _ ms (record { way = tt; superseded = tt; silent = tt; promises = tt; names = tt; says_so = tt }) (λ e. refl) (λ k. refl) h
 
 pub dropped_quiet : (o : Option (ℕ × DropCause)) (s : Scene) → AllJudged s.moments → Quietly s.moments (dropped_so o s).moments
 dropped_quiet None s h = quiet_self s.moments h
-dropped_quiet (Some drop) s h = quiet_moment _ s.moments (record { way = tt; superseded = tt; silent = tt; promises = tt; says_so = tt }) (λ e. refl) (λ k. refl) h
+dropped_quiet (Some drop) s h = quiet_moment _ s.moments (record { way = tt; superseded = tt; silent = tt; promises = tt; names = tt; says_so = tt }) (λ e. refl) (λ k. refl) h
 
 -- ---- a message
 
@@ -77,7 +77,7 @@ posting_quiet n to b s fits so h =
     (λ e.
     let one : Quietly s.moments t.moments =
     quiet_moment (Told (entry.Packet (packet.Sent s.links.next n to (name_of m.body) (spelling m)))) s.moments
-    (record { way = tt; superseded = tt; silent = tt; promises = tt; says_so = read_so s.moments n b (sent_messages_fit m fits.0 fits.1 (size (length (spelling m)) (and_cases _ _ e).0)) so }) (λ f. refl) (λ k. refl) h in
+    (record { way = tt; superseded = tt; silent = tt; promises = tt; names = tt; says_so = read_so s.moments n b (sent_messages_fit m fits.0 fits.1 (size (length (spelling m)) (and_cases _ _ e).0)) so }) (λ f. refl) (λ k. refl) h in
     quiet_then s.moments t.moments (dropped_so o.sent.dropped t).moments one (dropped_quiet o.sent.dropped t one.judged))
     (λ e. quiet_self s.moments h)
 

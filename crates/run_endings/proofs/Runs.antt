@@ -76,7 +76,7 @@ use Rattle.wire.specs.declared.message.Install.{Install}
 use Rattle.wire.specs.declared.message.Message.{Message}
 use Rattle.world_model.specs.First.{first_cluster}
 use Rattle.world_model.specs.Lines.{left_by}
-use Rattle.run_endings.specs.Laws.{AttemptsAreUnderWayInEachRun, EndsInTick, EndsUnderWay, HasPromises, IsSuperseded, NodesHaveTheirAttempts, PromisedInEachRun, SilentInTicksOfEachRun, SupersededInEachRun}
+use Rattle.run_endings.specs.Laws.{AttemptsAreUnderWayInEachRun, EndsInTick, EndsNameMembersInEachRun, EndsUnderWay, HasPromises, IsSuperseded, NamesMember, NodesHaveTheirAttempts, PromisedInEachRun, SilentInTicksOfEachRun, SupersededInEachRun}
 use Rattle.run_endings.specs.Sites.{AllJudged, HandSo, Judged, SiteSo}
 use Rattle.run_endings.specs.Steps.{ticks_in}
 use Rattle.run_endings.specs.Ways.{way_of}
@@ -202,7 +202,7 @@ still v ms x one none ways h =
 
 dropped_went : (o : Option (ℕ × DropCause)) (s : Scene) → AllSo s.nodes s.moments → AllSo (dropped_so o s).nodes (dropped_so o s).moments
 dropped_went None s h = h
-dropped_went (Some drop) s h = still s.nodes s.moments (Told (entry.Packet (packet.Dropped drop.0 drop.1))) (record { way = tt; superseded = tt; silent = tt; promises = tt; says_so = tt }) (λ e. refl) (λ k. refl) h
+dropped_went (Some drop) s h = still s.nodes s.moments (Told (entry.Packet (packet.Dropped drop.0 drop.1))) (record { way = tt; superseded = tt; silent = tt; promises = tt; names = tt; says_so = tt }) (λ e. refl) (λ k. refl) h
 
 armed_kept : (f : ℕ → DiskState) (n k calls : ℕ) (choice : Choice) → (put f n (armed (f n) calls choice) k).kept ≡ (f k).kept
 armed_kept f n k calls choice = go (same_or_not k n)
@@ -227,23 +227,23 @@ commanded_knows c s n d (Some x) k h = h
 -- ---- each thing that happens
 
 happening_went : (c : Cluster) (s : Scene) (x : Happening) → All IsDevice c.attached → MayHappen c s x → KnownScene c s → Stage c (happened c s x) → AllSo s.nodes s.moments → AllSo (happened c s x).nodes (happened c s x).moments
-happening_went c s (Speaks e) fits may a after h = armed_went c e (adding (Said (line.Event e)) s) (still s.nodes s.moments (Said (line.Event e)) (record { way = tt; superseded = tt; silent = tt; promises = tt; says_so = tt }) (λ f. refl) (λ k. refl) h)
-happening_went c s (Begins_part e) fits may a after h = still s.nodes s.moments (Part e) (record { way = tt; superseded = tt; silent = tt; promises = tt; says_so = tt }) (λ f. refl) (λ k. refl) h
-happening_went c s (Notes e) fits may a after h = still s.nodes s.moments (Told (entry.Schedule e)) (record { way = tt; superseded = tt; silent = tt; promises = tt; says_so = tt }) (λ f. refl) (λ k. refl) h
+happening_went c s (Speaks e) fits may a after h = armed_went c e (adding (Said (line.Event e)) s) (still s.nodes s.moments (Said (line.Event e)) (record { way = tt; superseded = tt; silent = tt; promises = tt; names = tt; says_so = tt }) (λ f. refl) (λ k. refl) h)
+happening_went c s (Begins_part e) fits may a after h = still s.nodes s.moments (Part e) (record { way = tt; superseded = tt; silent = tt; promises = tt; names = tt; says_so = tt }) (λ f. refl) (λ k. refl) h
+happening_went c s (Notes e) fits may a after h = still s.nodes s.moments (Told (entry.Schedule e)) (record { way = tt; superseded = tt; silent = tt; promises = tt; names = tt; says_so = tt }) (λ f. refl) (λ k. refl) h
 happening_went c s (Takes n now ends i) fits may a after h =
     taking_went c s n now ends i may.0.0 may.0.1 fits (known c s a) after (plain_hand s.moments n i may.1) (plain_bounds n (s.nodes.node n) i may.1) (λ is. brought_tick (under_way s.moments) n i may.5 is) h
 happening_went c s (Arrives number x m now ends) fits may a after h =
     let t : Scene = telling (entry.Packet (packet.Delivered number x.from x.to)) (removed s number) in
     taking_went c t x.to now ends (input.Packet x.from m) may.3.0 may.3.1 fits (known c s a) after (arrival c s number x m may.0 may.1 a h.judged)
     (packet_bounds c s.nodes x.to x.from m (s.nodes.node x.to) may.3.1 (known c s a) refl may.4) (λ is. absurd (false_true is))
-    (still s.nodes s.moments (delivered number x.from x.to) (record { way = tt; superseded = tt; silent = tt; promises = tt; says_so = tt }) (λ f. refl) (λ k. refl) h)
-happening_went c s (Strays number x) fits may a after h = still s.nodes s.moments (Told (entry.Packet (packet.Delivered number x.from x.to))) (record { way = tt; superseded = tt; silent = tt; promises = tt; says_so = tt }) (λ f. refl) (λ k. refl) h
-happening_went c s (Misses number x) fits may a after h = still s.nodes s.moments (Told (entry.Packet (packet.Dropped number drop.Down))) (record { way = tt; superseded = tt; silent = tt; promises = tt; says_so = tt }) (λ f. refl) (λ k. refl) h
-happening_went c s (Loses_packet number x) fits may a after h = still s.nodes s.moments (Told (entry.Packet (packet.Lost number))) (record { way = tt; superseded = tt; silent = tt; promises = tt; says_so = tt }) (λ f. refl) (λ k. refl) h
+    (still s.nodes s.moments (delivered number x.from x.to) (record { way = tt; superseded = tt; silent = tt; promises = tt; names = tt; says_so = tt }) (λ f. refl) (λ k. refl) h)
+happening_went c s (Strays number x) fits may a after h = still s.nodes s.moments (Told (entry.Packet (packet.Delivered number x.from x.to))) (record { way = tt; superseded = tt; silent = tt; promises = tt; names = tt; says_so = tt }) (λ f. refl) (λ k. refl) h
+happening_went c s (Misses number x) fits may a after h = still s.nodes s.moments (Told (entry.Packet (packet.Dropped number drop.Down))) (record { way = tt; superseded = tt; silent = tt; promises = tt; names = tt; says_so = tt }) (λ f. refl) (λ k. refl) h
+happening_went c s (Loses_packet number x) fits may a after h = still s.nodes s.moments (Told (entry.Packet (packet.Lost number))) (record { way = tt; superseded = tt; silent = tt; promises = tt; names = tt; says_so = tt }) (λ f. refl) (λ k. refl) h
 happening_went c s (Repeats number x) fits may a after h =
     let o : links.Outcome = sending s.links x.from x.to x.bytes in
     let t : Scene = telling (entry.Packet (packet.Repeated number s.links.next)) (with_links s o.after) in
-    dropped_went o.sent.dropped t (still s.nodes s.moments (Told (entry.Packet (packet.Repeated number s.links.next))) (record { way = tt; superseded = tt; silent = tt; promises = tt; says_so = tt }) (λ f. refl) (λ k. refl) h)
+    dropped_went o.sent.dropped t (still s.nodes s.moments (Told (entry.Packet (packet.Repeated number s.links.next))) (record { way = tt; superseded = tt; silent = tt; promises = tt; names = tt; says_so = tt }) (λ f. refl) (λ k. refl) h)
 happening_went c s (Commands n d k now ends) fits may a after h =
     let o : Option Device = slice_get s.devices (d - 1) in
     taking_went c (commanded s n d k).scene n now ends (input.Answered (commanded s n d k).answer) may.0.0 may.0.1 fits (commanded_knows c s n d o k (known c s a)) after tt
@@ -253,7 +253,7 @@ happening_went c s (Writes n d value now ends) fits may a after h =
     let z : Commanded = commanded s n d (command.Write value) in
     taking_went c z.scene n now ends (input.Wrote d value z.answer) may.0.0 may.0.1 fits (commanded_knows c s n d o (command.Write value) (known c s a)) after tt
     (device_bounds n (z.scene.nodes.node n) (input.Wrote d value z.answer) (λ x. tt)) (λ is. absurd (false_true is)) (commanded_went s n d o (command.Write value) h)
-happening_went c s (Refuses n d value cause) fits may a after h = still s.nodes s.moments (Told (entry.Device (device.Refused n d value cause))) (record { way = tt; superseded = tt; silent = tt; promises = tt; says_so = tt }) (λ f. refl) (λ k. refl) h
+happening_went c s (Refuses n d value cause) fits may a after h = still s.nodes s.moments (Told (entry.Device (device.Refused n d value cause))) (record { way = tt; superseded = tt; silent = tt; promises = tt; names = tt; says_so = tt }) (λ f. refl) (λ k. refl) h
 
 -- ---- runs
 
@@ -285,6 +285,9 @@ nodes_have_their_attempts_in_each_run h cells hs few small may = λ e. under_way
 
 pub superseded_in_each_run : SupersededInEachRun
 superseded_in_each_run h cells hs few small may = each Judged IsSuperseded _ (λ before x j. j.superseded) (run_so h cells hs few small may).judged
+
+pub ends_name_members_in_each_run : EndsNameMembersInEachRun
+ends_name_members_in_each_run h cells hs few small may = each Judged NamesMember _ (λ before x j. j.names) (run_so h cells hs few small may).judged
 
 pub promised_in_each_run : PromisedInEachRun
 promised_in_each_run h cells hs few small may = each Judged HasPromises _ (λ before x j. j.promises) (run_so h cells hs few small may).judged

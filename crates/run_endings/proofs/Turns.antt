@@ -1,21 +1,23 @@
 -- What a call gives of ends: an attempt is superseded by a Nack that it takes, and ends for want of an answer in a tick; and it sends no Nack.
 use Rattle.std.specs.Prelude.{ℕ, ◌<◌, ◌≡◌, ◌==◌, ◌++◌, nat_lt, Bool, true, false, List, [], ◌∷◌, Option, None, Some, is_some, map, if◌then◌else◌}
-use Rattle.std.specs.List.{cons_option, filter_map}
+use Rattle.std.specs.List.{cons_option, filter_map, list_any}
 use Rattle.std.proofs.Common.{refl, sym, ap, subst, arith}
+use Rattle.attempt_laws.proofs.Asks.{found_among}
 use Rattle.attempt_laws.proofs.Walk.{Walk, walks}
 use Rattle.cl_base.specs.Seizings.{SeizeResult}
 use Rattle.cmm_attempt.proofs.Basics.{if_either, none_some, same_some}
-use Rattle.cmm_attempt.specs.Attempts.{AttemptState, Turn, again_in, asked_next, begun, beginning, choosing, chosen_by, collects, ended_by, first_state, in_phase, installing, later, plain_devices, promises_of, shortage_under, silent_others, with_steps, install_in, all_promised}
+use Rattle.cmm_attempt.specs.Attempts.{AttemptState, Turn, again_in, asked_next, begun, beginning, choosing, chosen_by, collects, ended_by, first_state, in_phase, installing, later, plain_devices, promises_of, shortage_under, silent_others, with_steps, install_in, all_promised, is_missing}
 use Rattle.cmm_attempt.specs.Calls.{Call, turn}
-use Rattle.cmm_attempt.specs.Counts.{first_short, is_short, short_pending, votes_end}
+use Rattle.cmm_attempt.specs.Counts.{first_foreign, first_short, is_foreign, is_short, short_pending, votes_end}
 use Rattle.cmm_attempt.specs.Plans.{others_of}
-use Rattle.cmm_attempt.specs.Promises.{newest_shown, promised_by, shown_by}
+use Rattle.cmm_attempt.specs.Promises.{first_left_out, is_left_out, newest_shown, promised_by, shown_by}
 use Rattle.cmm_attempt.specs.Seizings.{again_by, again_for, held_set, request, request_body, request_by, request_for, with_next}
 use Rattle.cmm_attempt.specs.declared.attached.AttachedDevice.{AttachedDevice}
 use Rattle.cmm_attempt.specs.declared.counting.BothVotes.{BothVotes}
 use Rattle.cmm_attempt.specs.declared.phase.Phase.{Phase}
 use Rattle.cmm_attempt.specs.declared.phase.Phase.TheVariants.{Collecting, Choosing, SeizingVotes, SeizingOthers, Installing, Over}
 use Rattle.cmm_attempt.specs.declared.plan.Plan.{Plan}
+use Rattle.cmm_attempt.specs.declared.promised.Promised.{Promised}
 use Rattle.cmm_attempt.specs.declared.promised.Shown.{Shown}
 use Rattle.cmm_attempt.specs.declared.seizing.Seizing.{Seizing}
 use Rattle.cmm_attempt.specs.declared.step.AttemptEnd.{AttemptEnd}
@@ -111,6 +113,15 @@ short_fits : (told : Delivered) (ticks : Bool) (s : AttemptState) (devices : ℕ
 short_fits told ticks s devices None e at is = absurd (none_some e is)
 short_fits told ticks s devices (Some both) e at is = short_by told ticks s devices both (first_short both s.plan.members devices) e (ap is_some at) refl is
 
+-- ---- who is named
+
+first_member : (both : BothVotes) (nodes : List ℕ) (n : ℕ) → first_foreign both nodes ≡ Some n → list_any (λ k. k == n) nodes ≡ true
+first_member both nodes n is = (found_among (is_foreign both) nodes n is).1
+
+left_member : (ps : List Promised) (nodes : List ℕ) (o : Option Shown) (n : ℕ) → first_left_out ps nodes o ≡ Some n → list_any (λ k. k == n) nodes ≡ true
+left_member ps nodes None n is = absurd (none_some n is)
+left_member ps nodes (Some newest) n is = (found_among (is_left_out newest ps) nodes n is).1
+
 -- ---- each call
 
 abbrev pub TurnFits : Delivered → Bool → Turn → Type 0
@@ -132,7 +143,7 @@ walk told ticks c fits = record {
   rests = λ s i. tt;
   passes = λ s is e i. tt;
   again = λ s is e i. repeats_fit told ticks (record s { ticks = later s.ticks }) (record s { ticks = later s.ticks }) s.phase;
-  silent = λ s n is late least i. (subst (CallFits told ticks) is fits, tt);
+  silent = λ s n is late least i. ((subst (CallFits told ticks) is fits, (found_among (is_missing s) s.plan.nodes n least).1), tt);
   superseded = λ s from m q is nack i. (subst (λ t. Says (λ b. b ≡ body.Nack s.plan.epoch q) t) (sym (subst (CallFits told ticks) is fits)) nack, tt);
   promise = λ s from m p is awaited of promised i. tt;
   collects = λ s is e k. collects_fit told ticks s s;
@@ -140,8 +151,8 @@ walk told ticks c fits = record {
   no_newest = λ s is all none k. tt;
   chosen = λ s newest is all some k. (tt, tt);
   votes = λ s both is i. tt;
-  foreign = λ s both n is given least k. (ap is_some given, tt);
-  excluded = λ s n is least k. (tt, tt);
+  foreign = λ s both n is given least k. ((ap is_some given, first_member both s.plan.nodes n least), tt);
+  excluded = λ s n is least k. (left_member s.promises s.plan.nodes (newest_shown s.promises) n least, tt);
   impossible = λ s e is short k. (short_fits told ticks s _ s.votes e refl short, tt);
   entries = λ s is enough k. tt;
   requests = λ s is e k. requests_fit told ticks s s.plan s.devices;

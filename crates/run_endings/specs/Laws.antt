@@ -1,15 +1,17 @@
 -- What is proved of each run of the world, as things that happen: an attempt ends, and starts, while it is under way; what shows that it is
 -- superseded; in which events it ends for want of an answer; and what it has by then of Promises.
-use Rattle.std.specs.Prelude.{ℕ, ◌<◌, ◌≡◌, ◌≤◌, ◌^◌, true, List, length, Option, None, Some}
+use Rattle.std.specs.Prelude.{ℕ, ◌<◌, ◌≡◌, ◌==◌, ◌≤◌, ◌^◌, true, List, length, Option, None, Some}
+use Rattle.std.specs.List.{list_any}
 use Rattle.cl_base.specs.Limits.{most_devices}
 use Rattle.cl_base.specs.declared.header.Header.{Header}
 use Rattle.cmm_attempt.specs.Attempts.{AttemptState}
 use Rattle.history.specs.Attempts.{stands_against}
+use Rattle.history.specs.Member.{members_of}
 use Rattle.history.specs.Moment.{Moment}
 use Rattle.history.specs.Order.{Always, under_way}
 use Rattle.history.specs.Queue.{all_promised}
 use Rattle.history.specs.Seizing.{is_number}
-use Rattle.history.specs.Setting.{coordinator}
+use Rattle.history.specs.Setting.{coordinator, nodes_of}
 use Rattle.history.specs.Trace.{ended_excluded, ended_foreign, ended_silent, ended_superseded, ended_votes, start}
 use Rattle.history.specs.UnderWay.{is_under_way}
 use Rattle.node_model.specs.declared.node.Node.{Node}
@@ -70,6 +72,20 @@ HasPromises before _ = Unit {0}
 
 abbrev pub PromisedInEachRun : Type 0
 PromisedInEachRun = OfEachRun (Always HasPromises)
+
+-- ---- who is named at an end is one of its members
+
+abbrev pub IsMemberOf : ℕ → ℕ → List Moment → Type 0
+IsMemberOf e m before = list_any (λ k. k == m) (nodes_of (members_of e before)) ≡ true
+
+abbrev pub NamesMember : List Moment → Moment → Type 0
+NamesMember before (ended_silent e m) = IsMemberOf e m before
+NamesMember before (ended_foreign e m) = IsMemberOf e m before
+NamesMember before (ended_excluded e m) = IsMemberOf e m before
+NamesMember before _ = Unit {0}
+
+abbrev pub EndsNameMembersInEachRun : Type 0
+EndsNameMembersInEachRun = OfEachRun (Always NamesMember)
 
 -- ---- for want of an answer it ends in a tick of its coordinator
 

@@ -26,7 +26,7 @@ use Rattle.wire.specs.declared.message.Body.{Body}
 use Rattle.wire.specs.declared.message.Body.TheVariants as body
 use Rattle.run_records.specs.Kept.{HeardFrom, IsHad}
 use Rattle.world_model.specs.Sends.{name_of}
-use Rattle.run_endings.specs.Laws.{EndsInTick, EndsUnderWay, HasPromises, IsSuperseded, epoch_at, epoch_of}
+use Rattle.run_endings.specs.Laws.{EndsInTick, EndsUnderWay, HasPromises, IsSuperseded, NamesMember, epoch_at, epoch_of}
 use Rattle.run_endings.specs.Nacks.{BodySo, HasBooted, IsMadeBy, SaysSo}
 use Rattle.run_endings.specs.Ways.{way_of}
 
@@ -106,6 +106,7 @@ pub record Judged (before : List Moment) (x : Moment) : Type 0 where
   pub superseded : IsSuperseded before x
   pub silent : EndsInTick before x
   pub promises : HasPromises before x
+  pub names : NamesMember before x
   pub says_so : SaysSo before x
 
 abbrev pub AllJudged : List Moment → Type 0

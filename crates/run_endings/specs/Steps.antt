@@ -1,7 +1,7 @@
 -- What the guards of `refinement` do not say of ends and of Nacks: an attempt ends by the Nack that is delivered, or for want of an answer in a
 -- tick; a Nack answers the Collect or the Install that is delivered; and no attempt begins where something is delivered.
-use Rattle.std.specs.Prelude.{ℕ, ◌<◌, ◌≡◌, ◌≢◌, ◌≤◌, Bool, true, false, List, [], ◌∷◌, None, Some, is_some}
-use Rattle.std.specs.List.{AllByRecursion}
+use Rattle.std.specs.Prelude.{ℕ, ◌<◌, ◌≡◌, ◌≢◌, ◌≤◌, Bool, true, false, List, [], ◌∷◌, None, Some, is_some, ◌==◌}
+use Rattle.std.specs.List.{AllByRecursion, list_any}
 use Rattle.cmm_attempt.specs.Attempts.{AttemptState}
 use Rattle.cmm_attempt.specs.Calls.{Call, Own_ready, Own_seized, Take, Tick as Call_tick, With_votes}
 use Rattle.cmm_attempt.specs.declared.step.AttemptEnd.{AttemptEnd}
@@ -26,13 +26,16 @@ use Rattle.refinement.specs.Ties.{Delivered}
 
 -- ---- the steps of an attempt
 
+abbrev pub HasMember : AttemptState → ℕ → Type 0
+HasMember a m = list_any (λ k. k == m) a.plan.nodes ≡ true
+
 -- why an attempt ends: by what comes to its node, or once it was given votes
 abbrev pub EndSo : Delivered → Bool → AttemptState → AttemptEnd → Type 0
 EndSo told ticks a (end.Superseded q) = Says (λ b. b ≡ body.Nack a.plan.epoch q) told
-EndSo told ticks a (end.Silent m) = ticks ≡ true
+EndSo told ticks a (end.Silent m) = (ticks ≡ true) × HasMember a m
 EndSo told ticks a (end.Votes have need lacking) = (have < need) × (is_some a.votes ≡ true)
-EndSo told ticks a (end.Foreign m) = is_some a.votes ≡ true
-EndSo told ticks a (end.Excluded m) = Unit {0}
+EndSo told ticks a (end.Foreign m) = (is_some a.votes ≡ true) × HasMember a m
+EndSo told ticks a (end.Excluded m) = HasMember a m
 
 abbrev pub NoNack : Body → Type 0
 NoNack (body.Nack e q) = ⊥

@@ -7,7 +7,7 @@
 //! all agents.
 #![tactic(auto)]
 
-ghost use Rattle.run_endings.specs.Laws.{AttemptsAreUnderWayInEachRun, NodesHaveTheirAttempts, PromisedInEachRun, SilentInTicksOfEachRun, SupersededInEachRun};
+ghost use Rattle.run_endings.specs.Laws.{AttemptsAreUnderWayInEachRun, EndsNameMembersInEachRun, NodesHaveTheirAttempts, PromisedInEachRun, SilentInTicksOfEachRun, SupersededInEachRun};
 
 /// Each line that ends an attempt, and each that starts its membership, is of an attempt that is under way: it is the last of its coordinator, which
 /// has not gone down since it began, and it neither ended nor started before.
@@ -35,4 +35,9 @@ pub fn silent_in_ticks_of_each_run()
 /// and the votes are fewer than it needs.
 pub fn promised_in_each_run()
     ensures { PromisedInEachRun }
+{}
+
+/// The node that is named at its end, as silent, foreign or excluded, is one of its members.
+pub fn ends_name_members_in_each_run()
+    ensures { EndsNameMembersInEachRun }
 {}
