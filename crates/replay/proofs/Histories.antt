@@ -164,6 +164,7 @@ told_trace h events text p header disks is told =
       ends_under_way = endings.attempts_are_under_way_in_each_run h 65536 told.happenings header.devices header.cluster_high told.may;
       superseded = endings.superseded_in_each_run h 65536 told.happenings header.devices header.cluster_high told.may;
       silent_in_ticks = endings.silent_in_ticks_of_each_run h 65536 told.happenings header.devices header.cluster_high told.may;
+      waited = endings.silent_after_eight_ticks_in_each_run h 65536 told.happenings header.devices header.cluster_high told.may;
       promised = endings.promised_in_each_run h 65536 told.happenings header.devices header.cluster_high told.may;
       names_members = endings.ends_name_members_in_each_run h 65536 told.happenings header.devices header.cluster_high told.may;
       answers_once = once;

@@ -223,36 +223,36 @@ module _ (c : Cluster) (me : ℕ) (hand : Delivered) (ticks : Bool) where
   steps_so t x (step.StartHere ∷ steps) fits of = steps_so t x steps fits.1 of
   steps_so t x (step.Ended why ∷ steps) fits of = ended_then t why x x.attempt steps refl fits.0 of (steps_so t x steps fits.1 of) (steps_so t (resting x) steps fits.1 tt)
 
-  kept_if_so : (x : UpNode) (keeps : Bool) (change : Change) (rest : Course) → ChangeFits hand change → GoesFit c me hand ticks (changed c me x change) rest → GoesFit c me hand ticks x (cuts.kept_if keeps change rest)
+  kept_if_so : (x : UpNode) (keeps : Bool) (change : Change) (rest : Course) → ChangeFits hand ticks change → GoesFit c me hand ticks (changed c me x change) rest → GoesFit c me hand ticks x (cuts.kept_if keeps change rest)
   kept_if_so x true change rest made k = (made, k)
   kept_if_so x false change rest made k = (made, k)
 
-  gone_on_so : (x : UpNode) (a : AttemptState) (k : Call) (steps : List Step) → StepsFit hand ticks (turn a k).after steps → GoesFit c me hand ticks x (cuts.gone_on c me x a k steps)
-  gone_on_so x a k steps fits = (tt, steps_so (turn a k).after (going x a k) steps fits refl)
+  gone_on_so : (x : UpNode) (a : AttemptState) (k : Call) (steps : List Step) → CallFits hand ticks k → StepsFit hand ticks (turn a k).after steps → GoesFit c me hand ticks x (cuts.gone_on c me x a k steps)
+  gone_on_so x a k steps call fits = (call, steps_so (turn a k).after (going x a k) steps fits refl)
 
-  counted_so : (x : UpNode) (a : AttemptState) (k : Call) (i : Install) (rest : List Step) (seat : Seat) → StepsFit hand ticks (turn a k).after rest → GoesFit c me hand ticks x (cuts.counted c me x a k i rest seat)
-  counted_so x a k i rest (Member s) fits = gone_on_so x a k rest fits
-  counted_so x a k i rest (Forming s) fits =
-      either_so _ (installs_now s i) _ _ (tt, steps_so (turn a k).after (changed c me x (Counts a k s i)) rest fits refl) (gone_on_so x a k rest fits)
+  counted_so : (x : UpNode) (a : AttemptState) (k : Call) (i : Install) (rest : List Step) (seat : Seat) → CallFits hand ticks k → StepsFit hand ticks (turn a k).after rest → GoesFit c me hand ticks x (cuts.counted c me x a k i rest seat)
+  counted_so x a k i rest (Member s) call fits = gone_on_so x a k rest call fits
+  counted_so x a k i rest (Forming s) call fits =
+      either_so _ (installs_now s i) _ _ (call, steps_so (turn a k).after (changed c me x (Counts a k s i)) rest fits refl) (gone_on_so x a k rest call fits)
 
-  started_so : (x : UpNode) (a : AttemptState) (k : Call) (rest : List Step) (seat : Seat) → StepsFit hand ticks (turn a k).after rest → GoesFit c me hand ticks x (cuts.started c me x a k rest seat)
-  started_so x a k rest (Member s) fits = gone_on_so x a k rest fits
-  started_so x a k rest (Forming s) fits =
+  started_so : (x : UpNode) (a : AttemptState) (k : Call) (rest : List Step) (seat : Seat) → CallFits hand ticks k → StepsFit hand ticks (turn a k).after rest → GoesFit c me hand ticks x (cuts.started c me x a k rest seat)
+  started_so x a k rest (Member s) call fits = gone_on_so x a k rest call fits
+  started_so x a k rest (Forming s) call fits =
       either_so _ (starts_now s (turn a k).after.plan.epoch) _ _
-      (kept_if_so x (is_some s.saved.entries.pending) (Starts a k s) (cuts.steps_course c me (changed c me x (Starts a k s)) rest) tt (steps_so (turn a k).after (changed c me x (Starts a k s)) rest fits tt))
-      (gone_on_so x a k rest fits)
+      (kept_if_so x (is_some s.saved.entries.pending) (Starts a k s) (cuts.steps_course c me (changed c me x (Starts a k s)) rest) call (steps_so (turn a k).after (changed c me x (Starts a k s)) rest fits tt))
+      (gone_on_so x a k rest call fits)
 
-  turned_by_so : (x : UpNode) (a : AttemptState) (k : Call) (steps : List Step) → StepsFit hand ticks (turn a k).after steps → GoesFit c me hand ticks x (cuts.turned_by c me x a k steps)
-  turned_by_so x a k [] h = gone_on_so x a k [] h
-  turned_by_so x a k (step.InstallHere i ∷ rest) h = counted_so x a k i rest x.seat h.1
-  turned_by_so x a k (step.StartHere ∷ rest) h = started_so x a k rest x.seat h.1
-  turned_by_so x a k (step.Send to m ∷ rest) h = gone_on_so x a k (step.Send to m ∷ rest) h
-  turned_by_so x a k (step.SeizeHere d kind ∷ rest) h = gone_on_so x a k (step.SeizeHere d kind ∷ rest) h
-  turned_by_so x a k (step.NeedVotes n ∷ rest) h = gone_on_so x a k (step.NeedVotes n ∷ rest) h
-  turned_by_so x a k (step.Ended e ∷ rest) h = gone_on_so x a k (step.Ended e ∷ rest) h
+  turned_by_so : (x : UpNode) (a : AttemptState) (k : Call) (steps : List Step) → CallFits hand ticks k → StepsFit hand ticks (turn a k).after steps → GoesFit c me hand ticks x (cuts.turned_by c me x a k steps)
+  turned_by_so x a k [] call h = gone_on_so x a k [] call h
+  turned_by_so x a k (step.InstallHere i ∷ rest) call h = counted_so x a k i rest x.seat call h.1
+  turned_by_so x a k (step.StartHere ∷ rest) call h = started_so x a k rest x.seat call h.1
+  turned_by_so x a k (step.Send to m ∷ rest) call h = gone_on_so x a k (step.Send to m ∷ rest) call h
+  turned_by_so x a k (step.SeizeHere d kind ∷ rest) call h = gone_on_so x a k (step.SeizeHere d kind ∷ rest) call h
+  turned_by_so x a k (step.NeedVotes n ∷ rest) call h = gone_on_so x a k (step.NeedVotes n ∷ rest) call h
+  turned_by_so x a k (step.Ended e ∷ rest) call h = gone_on_so x a k (step.Ended e ∷ rest) call h
 
   turned_so : (x : UpNode) (a : AttemptState) (k : Call) → CallFits hand ticks k → GoesFit c me hand ticks x (cuts.turned c me x a k)
-  turned_so x a k fits = turned_by_so x a k (turn a k).steps (turn_fits hand ticks a k fits)
+  turned_so x a k fits = turned_by_so x a k (turn a k).steps fits (turn_fits hand ticks a k fits)
 
   if_started_so : (steps : List Step) (y : UpNode) → GoesFit c me hand ticks y (cuts.if_started c me steps y)
   if_started_so steps y = either_so _ (starts_in steps) _ _ (deciding_so y) tt
@@ -274,7 +274,7 @@ module _ (c : Cluster) (me : ℕ) (hand : Delivered) (ticks : Bool) where
   called_so x a k fits = then_so x _ _ (turned_all_so x a k fits) (λ z. if_installed_so (turn a k).steps z)
 
   going_so : (x : UpNode) (a : AttemptState) (k : Call) → CallFits hand ticks k → GoesFit c me hand ticks x (cuts.going_course c me x a k)
-  going_so x a k fits = either_so _ (is_choosing (turn a k).after.phase) _ _ (tt, called_so (going x a k) (turn a k).after (With_votes (votes_in c (turn a k).after)) tt) (called_so x a k fits)
+  going_so x a k fits = either_so _ (is_choosing (turn a k).after.phase) _ _ (fits, called_so (going x a k) (turn a k).after (With_votes (votes_in c (turn a k).after)) tt) (called_so x a k fits)
 
   begun_so : (x : UpNode) (t : Turn) → TurnFits hand ticks t → IsOf t.after x.attempt → GoesFit c me hand ticks x (cuts.begun_course c me x t)
   begun_so x t h of = either_so _ (is_choosing t.after.phase) _ _ (called_so x t.after (With_votes (votes_in c t.after)) tt) (steps_so t.after x t.steps h of)

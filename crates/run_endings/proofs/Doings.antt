@@ -1,5 +1,5 @@
 -- Each small step of a node: its attempt is the one under way by the lines, what it promised rests on what the lines tell, and each line is judged.
-use Rattle.std.specs.Prelude.{ℕ, ◌<◌, ◌≡◌, ◌≤◌, ◌==◌, ◌++◌, Bool, true, false, List, [], ◌∷◌, length, Option, None, Some, All}
+use Rattle.std.specs.Prelude.{ℕ, ◌<◌, ◌≡◌, ◌≤◌, ◌==◌, ◌++◌, Bool, true, false, List, [], ◌∷◌, length, Option, None, Some, All, ◌+◌, nat_le}
 use Rattle.std.specs.List.{list_any}
 use Rattle.std.proofs.Common.{refl, sym, ap, subst, ◌∙◌, arith, inl, inr}
 use Rattle.attempt_laws.proofs.Stays.{plan_begins}
@@ -54,7 +54,8 @@ use Rattle.status_report.specs.declared.node_entry.DownCause.TheVariants as caus
 use Rattle.status_report.specs.declared.node_entry.NodeEntry.TheVariants as note
 use Rattle.wire.specs.declared.message.Body.{Body}
 use Rattle.wire.specs.declared.message.Body.TheVariants as body
-use Rattle.run_endings.specs.Laws.{epoch_of}
+use Rattle.run_endings.specs.Laws.{epoch_of, ticks_of}
+use Rattle.run_endings.specs.Once.{AllOnce, WaitAt, WaitIn, left_after, one}
 use Rattle.run_endings.specs.Nacks.{BodySo, HasBooted, HasStopped, IsBegun, IsMadeBy, IsTried}
 use Rattle.run_endings.specs.Sites.{AllJudged, AttemptHas, AttemptIn, AttemptSo, Came, HandSo, IsFine, Judged, SiteSo, UpSo}
 use Rattle.run_endings.specs.Steps.{AllFit, ChangeFits, DoingFits, EndSo}
@@ -62,10 +63,12 @@ use Rattle.run_endings.specs.Ways.{way_of, without}
 use Rattle.run_endings.proofs.Attempts.{first_has, member_told, promised_told}
 use Rattle.run_endings.proofs.Goes.{Quietly, Went, quiet_goes, quiet_self, quiet_told, site_quiet, went_quiet, went_then}
 use Rattle.run_endings.proofs.Grows.{Stays, grows_begun, hand_stays, made_by, stays_grow, stays_one, up_stays}
-use Rattle.run_endings.proofs.Sends.{adopted_fine, base_fine, first_fine, last_fine, said_fine, unknown_fine}
+use Rattle.run_endings.proofs.Sends.{adopted_fine, base_fine, first_fine, last_fine, said_fine, ticked_fine, unknown_fine}
+use Rattle.run_endings.proofs.Waits.{doing_waits, wait_less}
+use Rattle.node_model.specs.Ticks.{later, ticked_output}
 use Rattle.run_endings.proofs.Shows.{by_collect, by_nack}
-use Rattle.run_endings.proofs.Stands.{IsEven, IsMere, SameStand, act_has, act_stands, change_has, change_seat, change_stands, seat_self, seat_so, stand_so, turn_epoch}
-use Rattle.run_endings.proofs.Ways.{IsOwnLine, ended_none, is_on, itself, or_first, others_stay}
+use Rattle.run_endings.proofs.Stands.{IsEven, IsMere, SameStand, act_has, act_stands, change_has, change_seat, change_stands, seat_self, seat_so, stand_so, still, turn_epoch}
+use Rattle.run_endings.proofs.Ways.{IsOwnLine, ended_none, is_on, itself, or_first, others_stay, others_tick}
 
 -- ---- a line of node n that begins no attempt
 
@@ -78,6 +81,7 @@ line_went n told e ms x one none own so h hand =
       site_so = so;
       grows = stays_grow n ms (Told e ∷ ms) s;
       ways = λ k ne way. others_stay n k e ms ne own way;
+      ticks = λ k f ne at. others_tick n k f e ms ne at own;
       hand = hand_stays ms (Told e ∷ ms) n told s hand;
     }
 
@@ -92,7 +96,7 @@ down_way n why ms = if_true (n == n) None (way_of n ms) (itself n n refl)
 down_went : (n : ℕ) (told : Delivered) (why : DownCause) (disk : NodeRecord) (s : Scene) → IsMadeBy (down n why ∷ s.moments) n disk.promised → AllJudged s.moments → HandSo s.moments n told
     → Went n told s.moments (site Down disk) (passing n (gone_line n why) s).moments
 down_went n told why disk s made h hand =
-    line_went n told (entry.Node n (note.Down why)) s.moments (site Down disk) (record { way = tt; superseded = tt; silent = tt; promises = tt; names = tt; says_so = tt }) (λ f. refl) refl (record { way = down_way n why s.moments; disk = made; up = tt }) h hand
+    line_went n told (entry.Node n (note.Down why)) s.moments (site Down disk) (record { way = tt; superseded = tt; silent = tt; promises = tt; names = tt; waited = tt; says_so = tt }) (λ f. refl) refl (record { way = down_way n why s.moments; disk = made; up = tt }) h hand
 
 down_stays : (n : ℕ) (why : DownCause) (ms : List Moment) → Stays ms (down n why ∷ ms)
 down_stays n why ms = stays_one (down n why) ms (λ f. refl)
@@ -103,13 +107,16 @@ nacked : (ms : List Moment) (n e q : ℕ) (told : Delivered) → coordinator e �
 nacked ms n e q None own says hand = absurd says
 nacked ms n e q (Some d) own says hand = by_nack ms n d.0 e q (subst (Came ms n d.0) says hand) own
 
-ended_judged : (ms : List Moment) (n : ℕ) (a : AttemptState) (told : Delivered) (ticks : Bool) (why : AttemptEnd) → coordinator a.plan.epoch ≡ n → way_of n ms ≡ Some a.plan.epoch → HandSo ms n told → (ticks ≡ true → under_way ms ≡ Some (Tick n)) → AttemptHas ms n a
+eighth : (t k : ℕ) → nat_le 8 t ≡ true → t ≤ k → 8 ≤ k
+eighth t k is h = grind arith
+
+ended_judged : (ms : List Moment) (n : ℕ) (a : AttemptState) (told : Delivered) (ticks : Bool) (why : AttemptEnd) → coordinator a.plan.epoch ≡ n → way_of n ms ≡ Some a.plan.epoch → HandSo ms n told → (ticks ≡ true → under_way ms ≡ Some (Tick n)) → AttemptHas ms n a → a.ticks ≤ ticks_of a.plan.epoch ms
     → EndSo told ticks a why → Judged ms (Told (entry.Attempt (ended_entry a.plan.epoch why)))
-ended_judged ms n a told ticks (end.Votes have need lacking) own way hand under has so = record { way = is_on n a.plan.epoch ms own way; superseded = tt; silent = tt; promises = (so.0, promised_told ms n a own has so.1); names = tt; says_so = tt }
-ended_judged ms n a told ticks (end.Superseded q) own way hand under has so = record { way = is_on n a.plan.epoch ms own way; superseded = nacked ms n a.plan.epoch q told own so hand; silent = tt; promises = tt; names = tt; says_so = tt }
-ended_judged ms n a told ticks (end.Silent m) own way hand under has so = record { way = is_on n a.plan.epoch ms own way; superseded = tt; silent = under so.0 ∙ ap (λ k. Some (Tick k)) (sym own); promises = tt; names = member_told ms n a m has so.1; says_so = tt }
-ended_judged ms n a told ticks (end.Foreign m) own way hand under has so = record { way = is_on n a.plan.epoch ms own way; superseded = tt; silent = tt; promises = promised_told ms n a own has so.0; names = member_told ms n a m has so.1; says_so = tt }
-ended_judged ms n a told ticks (end.Excluded m) own way hand under has so = record { way = is_on n a.plan.epoch ms own way; superseded = tt; silent = tt; promises = tt; names = member_told ms n a m has so; says_so = tt }
+ended_judged ms n a told ticks (end.Votes have need lacking) own way hand under has wait so = record { way = is_on n a.plan.epoch ms own way; superseded = tt; silent = tt; promises = (so.0, promised_told ms n a own has so.1); names = tt; waited = tt; says_so = tt }
+ended_judged ms n a told ticks (end.Superseded q) own way hand under has wait so = record { way = is_on n a.plan.epoch ms own way; superseded = nacked ms n a.plan.epoch q told own so hand; silent = tt; promises = tt; names = tt; waited = tt; says_so = tt }
+ended_judged ms n a told ticks (end.Silent m) own way hand under has wait so = record { way = is_on n a.plan.epoch ms own way; superseded = tt; silent = under so.0 ∙ ap (λ k. Some (Tick k)) (sym own); promises = tt; names = member_told ms n a m has so.1; waited = eighth a.ticks (ticks_of a.plan.epoch ms) so.2 wait; says_so = tt }
+ended_judged ms n a told ticks (end.Foreign m) own way hand under has wait so = record { way = is_on n a.plan.epoch ms own way; superseded = tt; silent = tt; promises = promised_told ms n a own has so.0; names = member_told ms n a m has so.1; waited = tt; says_so = tt }
+ended_judged ms n a told ticks (end.Excluded m) own way hand under has wait so = record { way = is_on n a.plan.epoch ms own way; superseded = tt; silent = tt; promises = tt; names = member_told ms n a m has so; waited = tt; says_so = tt }
 
 ended_own : (n e : ℕ) (why : AttemptEnd) → coordinator e ≡ n → IsOwnLine n (entry.Attempt (ended_entry e why))
 ended_own n e (end.Votes have need lacking) own = own
@@ -135,16 +142,22 @@ ended_way n e (end.Excluded m) ms = refl
 own_of : (n promised e : ℕ) (o : Option ℕ) → o ≡ Some e → AttemptSo n promised o → AttemptSo n promised (Some e)
 own_of n promised e o is h = subst (AttemptSo n promised) is h
 
-ends_went : (c : Cluster) (n : ℕ) (told : Delivered) (ticks : Bool) (x : UpNode) (disk : NodeRecord) (a : AttemptState) (why : AttemptEnd) (s : Scene) → x.attempt ≡ Some a → EndSo told ticks a why
+waited_by : (ms : List Moment) (n : ℕ) (left : Bool) (a : AttemptState) → WaitIn ms n left (Some a) → a.ticks ≤ ticks_of a.plan.epoch ms
+waited_by ms n left a h = fewer a.ticks (one left) (ticks_of a.plan.epoch ms) h.1
+  where
+    fewer : (a b k : ℕ) → a + b ≤ k → a ≤ k
+    fewer a b k h = omega (arith, h)
+
+ends_went : (c : Cluster) (n : ℕ) (told : Delivered) (ticks left : Bool) (x : UpNode) (disk : NodeRecord) (a : AttemptState) (why : AttemptEnd) (s : Scene) → WaitIn s.moments n left x.attempt → x.attempt ≡ Some a → EndSo told ticks a why
     → (ticks ≡ true → under_way s.moments ≡ Some (Tick n)) → AllJudged s.moments → SiteSo s.moments n (site (Up x) disk) → HandSo s.moments n told
     → Went n told s.moments (site (Up (resting x)) disk) (passing n (said c n x (Ends a why)) s).moments
-ends_went c n told ticks x disk a why s is so under h k hand =
+ends_went c n told ticks left x disk a why s wait is so under h k hand =
     let e : ℕ = a.plan.epoch in
     let own : AttemptSo n (promised_of x) (Some e) = own_of n (promised_of x) e (epoch_of x.attempt) (ap epoch_of is) k.up.attempt in
     let way : way_of n s.moments ≡ Some e = k.way ∙ ap epoch_of is in
     let line : Entry = entry.Attempt (ended_entry e why) in
     let stays : Stays s.moments (Told line ∷ s.moments) = stays_one (Told line) s.moments (λ f. ended_no_attempt f e why) in
-    line_went n told line s.moments (site (Up (resting x)) disk) (ended_judged s.moments n a told ticks why own.0 way hand under (subst (AttemptIn s.moments n) is k.up.has_so) so) (λ f. ended_no_attempt f e why) (ended_own n e why own.0) (record {
+    line_went n told line s.moments (site (Up (resting x)) disk) (ended_judged s.moments n a told ticks why own.0 way hand under (subst (AttemptIn s.moments n) is k.up.has_so) (waited_by s.moments n left a (subst (WaitIn s.moments n left) is wait)) so) (λ f. ended_no_attempt f e why) (ended_own n e why own.0) (record {
       way = ended_way n e why s.moments ∙ ended_none e (way_of n s.moments) way;
       disk = made_stays s.moments (Told line ∷ s.moments) n disk.promised stays k.disk;
       up = seat_so (Told line ∷ s.moments) n x (resting x) (seat_self x (resting x) refl) tt tt (up_stays n s.moments (Told line ∷ s.moments) x stays k.up);
@@ -166,7 +179,7 @@ starts_went c n told x kept disk a k st s may made good h so hand =
     let t : Scene = telling line s in
     let stays : Stays s.moments t.moments = stays_one (Told line) s.moments (λ f. refl) in
     let first : Went n told s.moments (site (Up y) disk) t.moments =
-    line_went n told line s.moments (site (Up y) disk) (record { way = is_on n e s.moments own.0 way; superseded = tt; silent = tt; promises = tt; names = tt; says_so = tt }) (λ f. refl) own.0 (record {
+    line_went n told line s.moments (site (Up y) disk) (record { way = is_on n e s.moments own.0 way; superseded = tt; silent = tt; promises = tt; names = tt; waited = tt; says_so = tt }) (λ f. refl) own.0 (record {
       way = ended_none e (way_of n s.moments) way;
       disk = made_stays s.moments t.moments n disk.promised stays made;
       up = seat_so t.moments n x y (change_seat c n told x (Starts a k st) tt may) tt tt (up_stays n s.moments t.moments x stays so.up);
@@ -262,7 +275,7 @@ promises_went c n told x disk p s may good h k hand = by_attempt x.attempt refl 
         let stays : Stays s.moments t.moments = stays_one (Told line) s.moments (λ f. refl) in
         let first : Went n told s.moments (site (Up y) (record_of y)) t.moments =
         line_went n told line s.moments (site (Up y) (record_of y))
-        (record { way = is_on n e s.moments own.0 way; superseded = collected s.moments n e p told own.0 (below e (promised_of x) p own.2 may.1) may.0 hand; silent = tt; promises = tt; names = tt; says_so = tt }) (λ f. refl) own.0 (record {
+        (record { way = is_on n e s.moments own.0 way; superseded = collected s.moments n e p told own.0 (below e (promised_of x) p own.2 may.1) may.0 hand; silent = tt; promises = tt; names = tt; waited = tt; says_so = tt }) (λ f. refl) own.0 (record {
           way = ended_none e (way_of n s.moments) way ∙ sym (rest_attempt x p x.attempt);
           disk = (up_so t.moments (stays.tried p begun.1)).made;
           up = up_so t.moments (stays.tried p begun.1);
@@ -286,10 +299,11 @@ leads_went c n told x disk p members s fits may none good h k differ =
     let up_so : UpSo t.moments n y = up_promised t.moments n p y refl refl (λ some. inl tried) (subst (AttemptSo n p) (sym epoch) (own, positive (promised_of x) p may.0, self_most p))
     (first_has t.moments n p members (own_promise n z p) c.attached c.id fits refl (if_true (p == p) members (members_of p s.moments) (itself p p refl))) in
     let first : Went n told s.moments (site (Up y) (record_of y)) t.moments = record {
-      judged = (record { way = tt; superseded = tt; silent = tt; promises = tt; names = tt; says_so = tt }, h);
+      judged = (record { way = tt; superseded = tt; silent = tt; promises = tt; names = tt; waited = tt; says_so = tt }, h);
       site_so = record { way = if_true (coordinator p == n) (Some p) (way_of n s.moments) (itself (coordinator p) n own) ∙ sym epoch; disk = up_so.made; up = up_so };
       grows = grows_begun n p members s.moments (passing_grows n (unknown_lines n x.requests.waiting) t differ).0.0 own;
       ways = λ j ne way. others_stay n j line s.moments ne own way;
+      ticks = λ j e ne at. others_tick n j e line s.moments ne at own;
       hand = subst (λ d. HandSo t.moments n d) (sym none) tt;
     } in
     went_then n told s.moments t.moments _ (site (Up y) (record_of y)) (site (Up y) (record_of y)) first
@@ -326,26 +340,26 @@ after_saved n told x y os s h k hand next =
     went_then n told s.moments t.moments (passing n os t).moments x y (went_quiet n told s.moments t.moments x q k hand)
     (next q.judged (site_quiet n s.moments t.moments x q k) (hand_stays s.moments t.moments n told q.stays hand))
 
-saved_went : (c : Cluster) (n : ℕ) (told : Delivered) (x : UpNode) (disk : NodeRecord) (change : Change) (s : Scene) → All IsDevice c.attached → MayChange c n told x change → ChangeFits told change → AreGood n (first_lines n change ++ saved_lines c n x change)
+saved_went : (c : Cluster) (n : ℕ) (told : Delivered) (ticks : Bool) (x : UpNode) (disk : NodeRecord) (change : Change) (s : Scene) → All IsDevice c.attached → MayChange c n told x change → ChangeFits told ticks change → AreGood n (first_lines n change ++ saved_lines c n x change)
     → AllJudged s.moments → SiteSo s.moments n (site (Up x) disk) → HandSo s.moments n told → AttemptsDiffer (passing n (first_lines n change ++ saved_lines c n x change) s).moments
     → (let y : UpNode = changed c n x change in Went n told s.moments (site (Up y) (record_of y)) (passing n (first_lines n change ++ saved_lines c n x change) s).moments)
-saved_went c n told x disk (Promises p) s devices may fits good h k hand differ =
+saved_went c n told ticks x disk (Promises p) s devices may fits good h k hand differ =
     after_saved n told (site (Up x) disk) _ (last_lines c n x (Promises p)) s h k hand (λ h2 k2 hand2. promises_went c n told x disk p (telling (entry.Node n note.Saved) s) may good.1 h2 k2 hand2)
-saved_went c n told x disk (Leads p members) s devices may fits good h k hand differ =
+saved_went c n told ticks x disk (Leads p members) s devices may fits good h k hand differ =
     after_saved n told (site (Up x) disk) _ (last_lines c n x (Leads p members)) s h k hand (λ h2 k2 hand2. leads_went c n told x disk p members (telling (entry.Node n note.Saved) s) devices may fits good.1 h2 k2 differ)
-saved_went c n told x disk (Starts a call st) s devices may fits good h k hand differ =
+saved_went c n told ticks x disk (Starts a call st) s devices may fits good h k hand differ =
     let y : UpNode = changed c n x (Starts a call st) in
     after_saved n told (site (Up x) disk) (site (Up y) (record_of y)) (last_lines c n x (Starts a call st)) s h k hand
     (λ h2 k2 hand2. starts_went c n told x disk (record_of y) a call st (telling (entry.Node n note.Saved) s) may (seat_so _ n x y (change_seat c n told x (Starts a call st) tt may) tt tt k2.up).made good.1 h2 k2 hand2)
-saved_went c n told x disk (Counts a call st i) s devices may fits good h k hand differ = even_went c n told x disk (Counts a call st i) s tt may good h k hand
-saved_went c n told x disk (Installs st i) s devices may fits good h k hand differ = even_went c n told x disk (Installs st i) s tt may good h k hand
-saved_went c n told x disk (Sits st e) s devices may fits good h k hand differ = even_went c n told x disk (Sits st e) s tt may good h k hand
-saved_went c n told x disk (Distrusts d) s devices may fits good h k hand differ = even_went c n told x disk (Distrusts d) s tt may good h k hand
-saved_went c n told x disk (Admits at command a d) s devices may fits good h k hand differ = even_went c n told x disk (Admits at command a d) s tt may good h k hand
-saved_went c n told x disk (Proposes st p text) s devices may fits good h k hand differ = even_went c n told x disk (Proposes st p text) s tt may good h k hand
-saved_went c n told x disk (Acks st p q left text) s devices may fits good h k hand differ = even_went c n told x disk (Acks st p q left text) s tt may good h k hand
-saved_went c n told x disk (Prepares st text) s devices may fits good h k hand differ = even_went c n told x disk (Prepares st text) s tt may good h k hand
-saved_went c n told x disk (Commits st) s devices may fits good h k hand differ = even_went c n told x disk (Commits st) s tt may good h k hand
+saved_went c n told ticks x disk (Counts a call st i) s devices may fits good h k hand differ = even_went c n told x disk (Counts a call st i) s tt may good h k hand
+saved_went c n told ticks x disk (Installs st i) s devices may fits good h k hand differ = even_went c n told x disk (Installs st i) s tt may good h k hand
+saved_went c n told ticks x disk (Sits st e) s devices may fits good h k hand differ = even_went c n told x disk (Sits st e) s tt may good h k hand
+saved_went c n told ticks x disk (Distrusts d) s devices may fits good h k hand differ = even_went c n told x disk (Distrusts d) s tt may good h k hand
+saved_went c n told ticks x disk (Admits at command a d) s devices may fits good h k hand differ = even_went c n told x disk (Admits at command a d) s tt may good h k hand
+saved_went c n told ticks x disk (Proposes st p text) s devices may fits good h k hand differ = even_went c n told x disk (Proposes st p text) s tt may good h k hand
+saved_went c n told ticks x disk (Acks st p q left text) s devices may fits good h k hand differ = even_went c n told x disk (Acks st p q left text) s tt may good h k hand
+saved_went c n told ticks x disk (Prepares st text) s devices may fits good h k hand differ = even_went c n told x disk (Prepares st text) s tt may good h k hand
+saved_went c n told ticks x disk (Commits st) s devices may fits good h k hand differ = even_went c n told x disk (Commits st) s tt may good h k hand
 
 -- one that leaves the record as it is, so that there is nothing to save
 made_even : (c : Cluster) (n : ℕ) (told : Delivered) (x : UpNode) (disk : NodeRecord) (change : Change) (s : Scene) → IsEven change → MayChange c n told x change → AreGood n (first_lines n change ++ last_lines c n x change) → AllJudged s.moments
@@ -423,6 +437,25 @@ gone_went n told change why x disk s good h k hand made =
 booted_now : (n e : ℕ) (ms : List Moment) → HasBooted (up n ∷ ms) n e
 booted_now n e ms = or_first (n == n) (list_any (is_boot n) (since (is_attempt e) ms)) (itself n n refl)
 
+-- the clock ticks
+ticks_went : (c : Cluster) (n : ℕ) (told : Delivered) (x : UpNode) (disk : NodeRecord) (s : Scene) → AreGood n (said c n x Ticks) → AllJudged s.moments → SiteSo s.moments n (site (Up x) disk) → HandSo s.moments n told
+    → Went n told s.moments (site (Up (acted c n x Ticks)) disk) (passing n (said c n x Ticks) s).moments
+ticks_went c n told x disk s good h k hand =
+    let y : UpNode = acted c n x Ticks in
+    let line : Entry = entry.Node n note.Ticked in
+    let t : Scene = telling line s in
+    let os : List Output = ticked_output c x (later c x) in
+    let stays : Stays s.moments t.moments = stays_one (Told line) s.moments (λ f. refl) in
+    let so : UpSo t.moments n x = up_stays n s.moments t.moments x stays k.up in
+    let first : Went n told s.moments (site (Up y) disk) t.moments =
+    line_went n told line s.moments (site (Up y) disk) (record { way = tt; superseded = tt; silent = tt; promises = tt; names = tt; waited = tt; says_so = tt }) (λ f. refl) refl (record {
+      way = k.way;
+      disk = made_stays s.moments t.moments n disk.promised stays k.disk;
+      up = stand_so t.moments n x y (still x y refl refl) so.has_so so;
+    }) h hand in
+    went_then n told s.moments t.moments (passing n os t).moments (site (Up y) disk) (site (Up y) disk) first
+    (went_quiet n told t.moments (passing n os t).moments (site (Up y) disk) (quiet_goes n os t (ticked_fine t.moments n c x (later c x)) good.1 first.judged) first.site_so first.hand)
+
 mere_went : (c : Cluster) (n : ℕ) (told : Delivered) (ticks : Bool) (x : UpNode) (disk : NodeRecord) (a : Act) (s : Scene) → IsMere a → MayAct c n told x a → IsSmallAct a → DoingFits told ticks (site (Up x) disk) (Does a) → AreGood n (said c n x a)
     → AllJudged s.moments → SiteSo s.moments n (site (Up x) disk) → HandSo s.moments n told → Went n told s.moments (site (Up (acted c n x a)) disk) (passing n (said c n x a) s).moments
 mere_went c n told ticks x disk a s mere may small fits good h k hand =
@@ -430,30 +463,30 @@ mere_went c n told ticks x disk a s mere may small fits good h k hand =
     went_quiet n told s.moments (passing n (said c n x a) s).moments (site (Up y) disk) (quiet_goes n (said c n x a) s (said_fine c s.moments n told ticks x a mere may small fits k.way k.up hand) good h)
     (stand_site s.moments n x y disk disk (act_stands c n told x a mere may) (act_has c s.moments n told x a mere may hand k.up) k.disk k) hand
 
-act_went : (c : Cluster) (n : ℕ) (told : Delivered) (ticks : Bool) (x : UpNode) (disk : NodeRecord) (a : Act) (s : Scene) → MayAct c n told x a → IsSmallAct a → DoingFits told ticks (site (Up x) disk) (Does a) → AreGood n (said c n x a)
+act_went : (c : Cluster) (n : ℕ) (told : Delivered) (ticks left : Bool) (x : UpNode) (disk : NodeRecord) (a : Act) (s : Scene) → WaitIn s.moments n left x.attempt → MayAct c n told x a → IsSmallAct a → DoingFits told ticks (site (Up x) disk) (Does a) → AreGood n (said c n x a)
     → (ticks ≡ true → under_way s.moments ≡ Some (Tick n)) → AllJudged s.moments → SiteSo s.moments n (site (Up x) disk) → HandSo s.moments n told → Went n told s.moments (site (Up (acted c n x a)) disk) (passing n (said c n x a) s).moments
-act_went c n told ticks x disk (Ends a why) s may small fits good under h k hand = ends_went c n told ticks x disk a why s fits.0 fits.1 under h k hand
-act_went c n told ticks x disk (Makes change) s may small fits good under h k hand = made_went c n told x disk change s may good h k hand
-act_went c n told ticks x disk (Hears from b) s may small fits good under h k hand = mere_went c n told ticks x disk (Hears from b) s tt may small fits good h k hand
-act_went c n told ticks x disk Ticks s may small fits good under h k hand = mere_went c n told ticks x disk Ticks s tt may small fits good h k hand
-act_went c n told ticks x disk Waits s may small fits good under h k hand = mere_went c n told ticks x disk Waits s tt may small fits good h k hand
-act_went c n told ticks x disk (Goes_on a call) s may small fits good under h k hand = mere_went c n told ticks x disk (Goes_on a call) s tt may small fits good h k hand
-act_went c n told ticks x disk (Queues a d kind) s may small fits good under h k hand = mere_went c n told ticks x disk (Queues a d kind) s tt may small fits good h k hand
-act_went c n told ticks x disk (Accepts kind e members d) s may small fits good under h k hand = mere_went c n told ticks x disk (Accepts kind e members d) s tt may small fits good h k hand
-act_went c n told ticks x disk (Takes at command a) s may small fits good under h k hand = mere_went c n told ticks x disk (Takes at command a) s tt may small fits good h k hand
-act_went c n told ticks x disk (Stores d value a) s may small fits good under h k hand = mere_went c n told ticks x disk (Stores d value a) s tt may small fits good h k hand
-act_went c n told ticks x disk (Writes to b) s may small fits good under h k hand = mere_went c n told ticks x disk (Writes to b) s tt may small fits good h k hand
-act_went c n told ticks x disk (Gives os) s may small fits good under h k hand = mere_went c n told ticks x disk (Gives os) s tt may small fits good h k hand
-act_went c n told ticks x disk (Spreads receivers b) s may small fits good under h k hand = mere_went c n told ticks x disk (Spreads receivers b) s tt may small fits good h k hand
-act_went c n told ticks x disk (Minds q p) s may small fits good under h k hand = mere_went c n told ticks x disk (Minds q p) s tt may small fits good h k hand
-act_went c n told ticks x disk (Notes from place p) s may small fits good under h k hand = mere_went c n told ticks x disk (Notes from place p) s tt may small fits good h k hand
-act_went c n told ticks x disk (Dates now) s may small fits good under h k hand = mere_went c n told ticks x disk (Dates now) s tt may small fits good h k hand
-act_went c n told ticks x disk (Works w) s may small fits good under h k hand = mere_went c n told ticks x disk (Works w) s tt may small fits good h k hand
+act_went c n told ticks left x disk (Ends a why) s wait may small fits good under h k hand = ends_went c n told ticks left x disk a why s wait fits.0 fits.1 under h k hand
+act_went c n told ticks left x disk (Makes change) s wait may small fits good under h k hand = made_went c n told x disk change s may good h k hand
+act_went c n told ticks left x disk (Hears from b) s wait may small fits good under h k hand = mere_went c n told ticks x disk (Hears from b) s tt may small fits good h k hand
+act_went c n told ticks left x disk Ticks s wait may small fits good under h k hand = ticks_went c n told x disk s good h k hand
+act_went c n told ticks left x disk Waits s wait may small fits good under h k hand = mere_went c n told ticks x disk Waits s tt may small fits good h k hand
+act_went c n told ticks left x disk (Goes_on a call) s wait may small fits good under h k hand = mere_went c n told ticks x disk (Goes_on a call) s tt may small fits good h k hand
+act_went c n told ticks left x disk (Queues a d kind) s wait may small fits good under h k hand = mere_went c n told ticks x disk (Queues a d kind) s tt may small fits good h k hand
+act_went c n told ticks left x disk (Accepts kind e members d) s wait may small fits good under h k hand = mere_went c n told ticks x disk (Accepts kind e members d) s tt may small fits good h k hand
+act_went c n told ticks left x disk (Takes at command a) s wait may small fits good under h k hand = mere_went c n told ticks x disk (Takes at command a) s tt may small fits good h k hand
+act_went c n told ticks left x disk (Stores d value a) s wait may small fits good under h k hand = mere_went c n told ticks x disk (Stores d value a) s tt may small fits good h k hand
+act_went c n told ticks left x disk (Writes to b) s wait may small fits good under h k hand = mere_went c n told ticks x disk (Writes to b) s tt may small fits good h k hand
+act_went c n told ticks left x disk (Gives os) s wait may small fits good under h k hand = mere_went c n told ticks x disk (Gives os) s tt may small fits good h k hand
+act_went c n told ticks left x disk (Spreads receivers b) s wait may small fits good under h k hand = mere_went c n told ticks x disk (Spreads receivers b) s tt may small fits good h k hand
+act_went c n told ticks left x disk (Minds q p) s wait may small fits good under h k hand = mere_went c n told ticks x disk (Minds q p) s tt may small fits good h k hand
+act_went c n told ticks left x disk (Notes from place p) s wait may small fits good under h k hand = mere_went c n told ticks x disk (Notes from place p) s tt may small fits good h k hand
+act_went c n told ticks left x disk (Dates now) s wait may small fits good under h k hand = mere_went c n told ticks x disk (Dates now) s tt may small fits good h k hand
+act_went c n told ticks left x disk (Works w) s wait may small fits good under h k hand = mere_went c n told ticks x disk (Works w) s tt may small fits good h k hand
 
-doing_went : (c : Cluster) (n : ℕ) (told : Delivered) (ticks : Bool) (node : Node) (disk : NodeRecord) (d : Doing) (s : Scene) → All IsDevice c.attached → May c n told (site node disk) d → IsSmall d → DoingFits told ticks (site node disk) d → DoingApart told d
+doing_went : (c : Cluster) (n : ℕ) (told : Delivered) (ticks left : Bool) (node : Node) (disk : NodeRecord) (d : Doing) (s : Scene) → All IsDevice c.attached → WaitAt s.moments n left node → May c n told (site node disk) d → IsSmall d → DoingFits told ticks (site node disk) d → DoingApart told d
     → AreGood n (gives c n (site node disk) d) → (ticks ≡ true → under_way s.moments ≡ Some (Tick n)) → AllJudged s.moments → SiteSo s.moments n (site node disk) → HandSo s.moments n told
     → (let t : Scene = passing n (gives c n (site node disk) d) s in AttemptsDiffer t.moments → Went n told s.moments (effect c n (site node disk) d) t.moments)
-doing_went c n told ticks Down disk Comes_up s devices may small fits apart good under h k hand differ =
+doing_went c n told ticks left Down disk Comes_up s devices wait may small fits apart good under h k hand differ =
     let t : Scene = passing n (of_node n note.Up ∷ []) s in
     let q : Quietly s.moments t.moments = quiet_told (entry.Node n note.Up) s.moments tt h in
     record {
@@ -465,35 +498,41 @@ doing_went c n told ticks Down disk Comes_up s devices may small fits apart good
       };
       grows = stays_grow n s.moments t.moments q.stays;
       ways = λ j ne own. q.ways j;
+      ticks = λ j e ne own. q.ticks e;
       hand = hand_stays s.moments t.moments n told q.stays hand;
     }
-doing_went c n told ticks (Up x) disk Comes_up s devices may small fits apart good under h k hand differ = absurd may
-doing_went c n told ticks node disk (Goes_down why) s devices may small fits apart good under h k hand differ =
+doing_went c n told ticks left (Up x) disk Comes_up s devices wait may small fits apart good under h k hand differ = absurd may
+doing_went c n told ticks left node disk (Goes_down why) s devices wait may small fits apart good under h k hand differ =
     down_went n told why disk s (made_stays s.moments (down n why ∷ s.moments) n disk.promised (down_stays n why s.moments) k.disk) h hand
-doing_went c n told ticks Down disk (Does a) s devices may small fits apart good under h k hand differ = absurd may
-doing_went c n told ticks (Up x) disk (Does a) s devices may small fits apart good under h k hand differ = act_went c n told ticks x disk a s may small fits good under h k hand
-doing_went c n told ticks Down disk (Saves change) s devices may small fits apart good under h k hand differ = absurd may
-doing_went c n told ticks (Up x) disk (Saves change) s devices may small fits apart good under h k hand differ = saved_went c n told x disk change s devices may fits good h k hand differ
-doing_went c n told ticks Down disk (Loses change why) s devices may small fits apart good under h k hand differ = absurd may
-doing_went c n told ticks (Up x) disk (Loses change why) s devices may small fits apart good under h k hand differ =
+doing_went c n told ticks left Down disk (Does a) s devices wait may small fits apart good under h k hand differ = absurd may
+doing_went c n told ticks left (Up x) disk (Does a) s devices wait may small fits apart good under h k hand differ = act_went c n told ticks left x disk a s wait may small fits good under h k hand
+doing_went c n told ticks left Down disk (Saves change) s devices wait may small fits apart good under h k hand differ = absurd may
+doing_went c n told ticks left (Up x) disk (Saves change) s devices wait may small fits apart good under h k hand differ = saved_went c n told ticks x disk change s devices may fits good h k hand differ
+doing_went c n told ticks left Down disk (Loses change why) s devices wait may small fits apart good under h k hand differ = absurd may
+doing_went c n told ticks left (Up x) disk (Loses change why) s devices wait may small fits apart good under h k hand differ =
     gone_went n told change why (site (Up x) disk) (record_of (changed c n x change)) s good h k hand (λ ms so came. lost_made c n told x change why ms may apart came so.up)
-doing_went c n told ticks Down disk (Forgets change why) s devices may small fits apart good under h k hand differ = absurd may
-doing_went c n told ticks (Up x) disk (Forgets change why) s devices may small fits apart good under h k hand differ =
+doing_went c n told ticks left Down disk (Forgets change why) s devices wait may small fits apart good under h k hand differ = absurd may
+doing_went c n told ticks left (Up x) disk (Forgets change why) s devices wait may small fits apart good under h k hand differ =
     gone_went n told change why (site (Up x) disk) disk s good h k hand (λ ms so came. made_stays ms (down n why ∷ ms) n disk.promised (down_stays n why ms) so.disk)
 
 -- one after another
-pub all_went : (c : Cluster) (n : ℕ) (told : Delivered) (ticks : Bool) (x : Site) (ds : List Doing) (s : Scene) → All IsDevice c.attached → MayAll c n told x ds → AllSmall ds → AllFit c n told ticks x ds → AllApart told ds → AreGood n (given_all c n x ds)
-    → (ticks ≡ true → under_way s.moments ≡ Some (Tick n)) → AllJudged s.moments → SiteSo s.moments n x → HandSo s.moments n told
-    → (let t : Scene = passing n (given_all c n x ds) s in AttemptsDiffer t.moments → Went n told s.moments (after_all c n x ds) t.moments)
-all_went c n told ticks x [] s devices may small fits apart good under h k hand differ = went_quiet n told s.moments s.moments x (quiet_self s.moments h) k hand
-all_went c n told ticks x (d ∷ ds) s devices may small fits apart good under h k hand differ =
+pub record AllWent (n : ℕ) (told : Delivered) (before : List Moment) (x : Site) (after : List Moment) : Type 0 where
+  pub went : Went n told before x after
+  pub waits : WaitAt after n false x.node
+
+pub all_went : (c : Cluster) (n : ℕ) (told : Delivered) (ticks left : Bool) (x : Site) (ds : List Doing) (s : Scene) → All IsDevice c.attached → WaitAt s.moments n left x.node → AllOnce left ds → MayAll c n told x ds → AllSmall ds → AllFit c n told ticks x ds
+    → AllApart told ds → AreGood n (given_all c n x ds) → (ticks ≡ true → under_way s.moments ≡ Some (Tick n)) → AllJudged s.moments → SiteSo s.moments n x → HandSo s.moments n told
+    → (let t : Scene = passing n (given_all c n x ds) s in AttemptsDiffer t.moments → AllWent n told s.moments (after_all c n x ds) t.moments)
+all_went c n told ticks left x [] s devices wait once may small fits apart good under h k hand differ =
+    record { went = went_quiet n told s.moments s.moments x (quiet_self s.moments h) k hand; waits = wait_less s.moments n left x.node wait }
+all_went c n told ticks left x (d ∷ ds) s devices wait once may small fits apart good under h k hand differ =
     let os : List Output = gives c n x d in
     let y : Site = effect c n x d in
     let more : List Output = given_all c n y ds in
     let t : Scene = passing n os s in
     let last : AttemptsDiffer (passing n more t).moments = subst (λ (z : Scene). AttemptsDiffer z.moments) (passing_append n os more s) differ in
-    let first : Went n told s.moments y t.moments = doing_went c n told ticks x.node x.disk d s devices may.0 small.0 fits.0 apart.0 (first_good n os more good) under h k hand (passing_grows n more t last).0 in
-    let rest : Went n told t.moments (after_all c n y ds) (passing n more t).moments =
-    all_went c n told ticks y ds t devices may.1 small.1 fits.1 apart.1 (then_good n os more good) (λ is. passing_under n os s ∙ under is) first.judged first.site_so first.hand last in
-    subst (λ (z : Scene). Went n told s.moments (after_all c n y ds) z.moments) (sym (passing_append n os more s))
-    (went_then n told s.moments t.moments (passing n more t).moments y (after_all c n y ds) first rest)
+    let first : Went n told s.moments y t.moments = doing_went c n told ticks left x.node x.disk d s devices wait may.0 small.0 fits.0 apart.0 (first_good n os more good) under h k hand (passing_grows n more t last).0 in
+    let rest : AllWent n told t.moments (after_all c n y ds) (passing n more t).moments =
+    all_went c n told ticks (left_after left d) y ds t devices (doing_waits c n told left x.node x.disk d s may.0 small.0 once.0 wait) once.1 may.1 small.1 fits.1 apart.1 (then_good n os more good) (λ is. passing_under n os s ∙ under is) first.judged first.site_so first.hand last in
+    subst (λ (z : Scene). AllWent n told s.moments (after_all c n y ds) z.moments) (sym (passing_append n os more s))
+    (record { went = went_then n told s.moments t.moments (passing n more t).moments y (after_all c n y ds) first rest.went; waits = rest.waits })

@@ -27,6 +27,8 @@ use Rattle.wire.specs.Spelling.{Fits, spelling}
 use Rattle.wire.specs.declared.message.Body.{Body}
 use Rattle.wire.specs.declared.message.Message.{Message}
 use Rattle.world_model.specs.Sends.{is_sent, name_of}
+use Rattle.history.specs.Setting.{coordinator}
+use Rattle.run_endings.specs.Laws.{ticks_of}
 use Rattle.run_endings.specs.Nacks.{BodySo}
 use Rattle.run_endings.specs.Sites.{AllJudged, AreFine, HandSo, IsQuietLine, Judged, SiteSo}
 use Rattle.run_endings.specs.Ways.{IsOwn, way_of}
@@ -38,27 +40,29 @@ pub record Quietly (before after : List Moment) : Type 0 where
   pub judged : AllJudged after
   pub stays : Stays before after
   pub ways : (k : ℕ) → way_of k after ≡ way_of k before
+  pub ticks : (e : ℕ) → ticks_of e after ≡ ticks_of e before
 
 pub quiet_self : (ms : List Moment) → AllJudged ms → Quietly ms ms
-quiet_self ms h = record { judged = h; stays = stays_self ms; ways = λ k. refl }
+quiet_self ms h = record { judged = h; stays = stays_self ms; ways = λ k. refl; ticks = λ e. refl }
 
 pub quiet_then : (first second third : List Moment) → Quietly first second → Quietly second third → Quietly first third
-quiet_then first second third h i = record { judged = i.judged; stays = stays_then first second third h.stays i.stays; ways = λ k. i.ways k ∙ h.ways k }
+quiet_then first second third h i = record { judged = i.judged; stays = stays_then first second third h.stays i.stays; ways = λ k. i.ways k ∙ h.ways k; ticks = λ e. i.ticks e ∙ h.ticks e }
 
 -- a moment that tells nothing of them
-pub quiet_moment : (x : Moment) (ms : List Moment) → Judged ms x → ((e : ℕ) → is_attempt e x ≡ false) → ((k : ℕ) → way_of k (x ∷ ms) ≡ way_of k ms) → AllJudged ms → Quietly ms (x ∷ ms)
-quiet_moment x ms one none ways h = record { judged = (one, h); stays = stays_one x ms none; ways = ways }
+pub quiet_moment : (x : Moment) (ms : List Moment) → Judged ms x → ((e : ℕ) → is_attempt e x ≡ false) → ((k : ℕ) → way_of k (x ∷ ms) ≡ way_of k ms) → ((e : ℕ) → ticks_of e (x ∷ ms) ≡ ticks_of e ms) → AllJudged ms → Quietly ms (x ∷ ms)
+quiet_moment x ms one none ways ticks h = record { judged = (one, h); stays = stays_one x ms none; ways = ways; ticks = ticks }
 
 pub quiet_told : (e : Entry) (ms : List Moment) → IsQuietLine e → AllJudged ms → Quietly ms (Told e ∷ ms)
 quiet_told (entry.Attempt e) ms quiet h = absurd quiet
 quiet_told (entry.Start (start_entry.Started e members held count)) ms quiet h = absurd quiet
 quiet_told (entry.Node m (note.Down why)) ms quiet h = absurd quiet
+quiet_told (entry.Node m note.Ticked) ms quiet h = absurd quiet
 quiet_told (entry.Packet e) ms quiet h = absurd quiet
-quiet_told _ ms quiet h = quiet_moment _ ms (record { way = tt; superseded = tt; silent = tt; promises = tt; names = tt; says_so = tt }) (λ e. refl) (λ k. refl) h
+quiet_told _ ms quiet h = quiet_moment _ ms (record { way = tt; superseded = tt; silent = tt; promises = tt; names = tt; waited = tt; says_so = tt }) (λ e. refl) (λ k. refl) (λ e. refl) h
 
 pub dropped_quiet : (o : Option (ℕ × DropCause)) (s : Scene) → AllJudged s.moments → Quietly s.moments (dropped_so o s).moments
 dropped_quiet None s h = quiet_self s.moments h
-dropped_quiet (Some drop) s h = quiet_moment _ s.moments (record { way = tt; superseded = tt; silent = tt; promises = tt; names = tt; says_so = tt }) (λ e. refl) (λ k. refl) h
+dropped_quiet (Some drop) s h = quiet_moment _ s.moments (record { way = tt; superseded = tt; silent = tt; promises = tt; names = tt; waited = tt; says_so = tt }) (λ e. refl) (λ k. refl) (λ e. refl) h
 
 -- ---- a message
 
@@ -77,7 +81,7 @@ posting_quiet n to b s fits so h =
     (λ e.
     let one : Quietly s.moments t.moments =
     quiet_moment (Told (entry.Packet (packet.Sent s.links.next n to (name_of m.body) (spelling m)))) s.moments
-    (record { way = tt; superseded = tt; silent = tt; promises = tt; names = tt; says_so = read_so s.moments n b (sent_messages_fit m fits.0 fits.1 (size (length (spelling m)) (and_cases _ _ e).0)) so }) (λ f. refl) (λ k. refl) h in
+    (record { way = tt; superseded = tt; silent = tt; promises = tt; names = tt; waited = tt; says_so = read_so s.moments n b (sent_messages_fit m fits.0 fits.1 (size (length (spelling m)) (and_cases _ _ e).0)) so }) (λ f. refl) (λ k. refl) (λ f. refl) h in
     quiet_then s.moments t.moments (dropped_so o.sent.dropped t).moments one (dropped_quiet o.sent.dropped t one.judged))
     (λ e. quiet_self s.moments h)
 
@@ -106,6 +110,7 @@ pub record Went (n : ℕ) (told : Delivered) (before : List Moment) (x : Site) (
   pub site_so : SiteSo after n x
   pub grows : Grows n before after
   pub ways : (k : ℕ) → k ≢ n → IsOwn k (way_of k before) → way_of k after ≡ way_of k before
+  pub ticks : (k e : ℕ) → k ≢ n → coordinator e ≡ k → ticks_of e after ≡ ticks_of e before
   pub hand : HandSo after n told
 
 pub site_quiet : (n : ℕ) (before after : List Moment) (x : Site) → Quietly before after → SiteSo before n x → SiteSo after n x
@@ -122,6 +127,7 @@ went_quiet n told before after x q h hand = record {
   site_so = site_quiet n before after x q h;
   grows = stays_grow n before after q.stays;
   ways = λ k ne own. q.ways k;
+  ticks = λ k e ne own. q.ticks e;
   hand = hand_stays before after n told q.stays hand;
 }
 
@@ -131,5 +137,6 @@ went_then n told first second third x y h i = record {
   site_so = i.site_so;
   grows = grows_then n first second third h.grows i.grows;
   ways = λ k ne own. i.ways k ne (subst (IsOwn k) (sym (h.ways k ne own)) own) ∙ h.ways k ne own;
+  ticks = λ k e ne own. i.ticks k e ne own ∙ h.ticks k e ne own;
   hand = i.hand;
 }

@@ -4,9 +4,11 @@ pub mod Letters
 pub mod Attempts
 pub mod Turns
 pub mod Courses
+pub mod Once
 pub mod Shows
 pub mod Stands
 pub mod Sends
+pub mod Waits
 pub mod Goes
 pub mod Doings
 pub mod Runs

@@ -76,12 +76,15 @@ use Rattle.wire.specs.declared.message.Install.{Install}
 use Rattle.wire.specs.declared.message.Message.{Message}
 use Rattle.world_model.specs.First.{first_cluster}
 use Rattle.world_model.specs.Lines.{left_by}
-use Rattle.run_endings.specs.Laws.{AttemptsAreUnderWayInEachRun, EndsInTick, EndsNameMembersInEachRun, EndsUnderWay, HasPromises, IsSuperseded, NamesMember, NodesHaveTheirAttempts, PromisedInEachRun, SilentInTicksOfEachRun, SupersededInEachRun}
+use Rattle.run_endings.specs.Laws.{AttemptsAreUnderWayInEachRun, EndsInTick, EndsNameMembersInEachRun, EndsUnderWay, HasPromises, HasWaited, IsSuperseded, NamesMember, NodesHaveTheirAttempts, PromisedInEachRun, SilentAfterEightTicks, SilentInTicksOfEachRun, SupersededInEachRun, ticks_of}
+use Rattle.run_endings.specs.Once.{WaitAt}
 use Rattle.run_endings.specs.Sites.{AllJudged, HandSo, Judged, SiteSo}
 use Rattle.run_endings.specs.Steps.{ticks_in}
 use Rattle.run_endings.specs.Ways.{way_of}
 use Rattle.run_endings.proofs.Courses.{BoundsIn, doings_fit}
-use Rattle.run_endings.proofs.Doings.{all_went}
+use Rattle.run_endings.proofs.Doings.{AllWent, all_went}
+use Rattle.run_endings.proofs.Once.{doings_once}
+use Rattle.run_endings.proofs.Waits.{at_stays}
 use Rattle.run_endings.proofs.Goes.{Quietly, Went, quiet_moment, site_quiet}
 use Rattle.run_endings.proofs.Grows.{site_grows}
 use Rattle.run_endings.proofs.Letters.{arrival}
@@ -90,6 +93,7 @@ use Rattle.run_endings.proofs.Ways.{under_way_so}
 pub record AllSo (v : Nodes) (ms : List Moment) : Type 0 where
   pub judged : AllJudged ms
   pub sites : (k : ℕ) → SiteSo ms k (site (v.node k) (v.disk k).kept)
+  pub waits : (k : ℕ) → WaitAt ms k false (v.node k)
 
 -- ---- a node takes something
 
@@ -105,24 +109,27 @@ known c s a = record { machine = a.stage.machine; holds = a.stage.holds; stands 
 
 step_went : (c : Cluster) (v : Nodes) (n now : ℕ) (ends : method.Outcome) (i : Input) (s : Scene) → n ≤ 32 → All IsDevice c.attached → Knows c v → AreGood n (given_by c n now ends i v) → HandSo s.moments n (delivered_by i) → BoundsIn n (v.node n) i
     → (ticks_in i ≡ true → under_way s.moments ≡ Some (event.Tick n))
-    → (let o : Outcome DiskState = stepped disk_rules c n now ends (v.node n) (v.disk n) i in AttemptsDiffer (passing n o.given s).moments → AllJudged s.moments → SiteSo s.moments n (site (v.node n) (v.disk n).kept)
-    → Went n (delivered_by i) s.moments (site o.after o.disk.kept) (passing n o.given s).moments)
-step_went c v n now ends i s high fits k good hand bounds under differ h at =
+    → (let o : Outcome DiskState = stepped disk_rules c n now ends (v.node n) (v.disk n) i in AttemptsDiffer (passing n o.given s).moments → AllJudged s.moments → SiteSo s.moments n (site (v.node n) (v.disk n).kept) → WaitAt s.moments n false (v.node n)
+    → AllWent n (delivered_by i) s.moments (site o.after o.disk.kept) (passing n o.given s).moments)
+step_went c v n now ends i s high fits k good hand bounds under differ h at wait =
     let o : Outcome DiskState = stepped disk_rules c n now ends (v.node n) (v.disk n) i in
     let cut : CutSo disk_rules c n now ends (v.node n) (v.disk n) i [] o = steps_are_cut_so disk_rules disks_keep_rules c n now ends (v.node n) (v.disk n) i in
     let x : Site = site (v.node n) (v.disk n).kept in
     let ds : List Doing = doings c n now ends cut.replies i (v.node n) in
     let may : MayAll c n (delivered_by i) x ds =
     step_may c k.machine n now ends (v.node n) (v.disk n).kept i cut.replies high fits k.holds (k.stands n).tied (k.stands n).joins in
-    let g : Went n (delivered_by i) s.moments (after_all c n x ds) (passing n (given_all c n x ds) s).moments =
-    all_went c n (delivered_by i) (ticks_in i) x ds s fits may (doings_small c n now ends cut.replies i (v.node n) (v.disk n).kept) (doings_fit c n now ends cut.replies i (v.disk n).kept (v.node n) bounds)
+    let g : AllWent n (delivered_by i) s.moments (after_all c n x ds) (passing n (given_all c n x ds) s).moments =
+    all_went c n (delivered_by i) (ticks_in i) false x ds s fits wait (doings_once c n now ends cut.replies i (v.node n) bounds) may (doings_small c n now ends cut.replies i (v.node n) (v.disk n).kept) (doings_fit c n now ends cut.replies i (v.disk n).kept (v.node n) bounds)
     (doings_apart c n now ends cut.replies i (v.node n) cut.losses) (subst (AreGood n) (sym cut.comes.given) good) under h at hand (subst (λ os. AttemptsDiffer (passing n os s).moments) (sym cut.comes.given) differ) in
-    subst (λ (z : Site). Went n (delivered_by i) s.moments z (passing n o.given s).moments) cut.comes.left
-    (subst (λ os. Went n (delivered_by i) s.moments (after_all c n x ds) (passing n os s).moments) cut.comes.given g)
+    subst (λ (z : Site). AllWent n (delivered_by i) s.moments z (passing n o.given s).moments) cut.comes.left
+    (subst (λ os. AllWent n (delivered_by i) s.moments (after_all c n x ds) (passing n os s).moments) cut.comes.given g)
 
 put_sites : (v : Nodes) (n : ℕ) (node : Node) (disk : DiskState) (ms : List Moment) → SiteSo ms n (site node disk.kept) → ((k : ℕ) → k ≢ n → SiteSo ms k (site (v.node k) (v.disk k).kept)) → (k : ℕ)
     → SiteSo ms k (site (put v.node n node k) (put v.disk n disk k).kept)
 put_sites v n node disk ms here there = put_all (λ k x r. SiteSo ms k (site x r)) v n node disk here there
+
+put_waits : (v : Nodes) (n : ℕ) (node : Node) (disk : DiskState) (ms : List Moment) → WaitAt ms n false node → ((k : ℕ) → k ≢ n → WaitAt ms k false (v.node k)) → (k : ℕ) → WaitAt ms k false (put v.node n node k)
+put_waits v n node disk ms here there = put_all (λ k x r. WaitAt ms k false x) v n node disk here there
 
 taking_went : (c : Cluster) (s : Scene) (n now : ℕ) (ends : method.Outcome) (i : Input) → 1 ≤ n → n ≤ 32 → All IsDevice c.attached → Knows c s.nodes → Stage c (taking c n now ends i s) → HandSo s.moments n (delivered_by i) → BoundsIn n (s.nodes.node n) i
     → (ticks_in i ≡ true → under_way s.moments ≡ Some (event.Tick n)) → AllSo s.nodes s.moments → AllSo (taking c n now ends i s).nodes (taking c n now ends i s).moments
@@ -131,11 +138,13 @@ taking_went c s n now ends i low high fits k after hand bounds under h =
     let t : Scene = record s { nodes = v } in
     let os : List Output = given_by c n now ends i s.nodes in
     let o : Outcome DiskState = stepped disk_rules c n now ends (s.nodes.node n) (s.nodes.disk n) i in
-    let g : Went n (delivered_by i) s.moments (site o.after o.disk.kept) (passing n os t).moments =
-    step_went c s.nodes n now ends i t high fits k (taking_good c s n now ends i after) hand bounds under after.laws.once h.judged (h.sites n) in
+    let all : AllWent n (delivered_by i) s.moments (site o.after o.disk.kept) (passing n os t).moments =
+    step_went c s.nodes n now ends i t high fits k (taking_good c s n now ends i after) hand bounds under after.laws.once h.judged (h.sites n) (h.waits n) in
+    let g : Went n (delivered_by i) s.moments (site o.after o.disk.kept) (passing n os t).moments = all.went in
     subst (λ w. AllSo w (passing n os t).moments) (sym (passing_nodes n os t)) (record {
       judged = g.judged;
       sites = put_sites s.nodes n o.after o.disk (passing n os t).moments g.site_so (λ j ne. site_grows n j s.moments (passing n os t).moments _ low ne g.grows (λ own. g.ways j ne own) (h.sites j));
+      waits = put_waits s.nodes n o.after o.disk (passing n os t).moments all.waits (λ j ne. at_stays s.moments (passing n os t).moments j false (s.nodes.node j) (λ e own. g.ticks j e ne own) (h.waits j));
     })
 
 -- ---- what comes
@@ -195,14 +204,14 @@ packet_bounds c v n from m (Up x) high k at among = λ i is member. install_boun
 
 -- ---- lines of the world
 
-still : (v : Nodes) (ms : List Moment) (x : Moment) → Judged ms x → ((e : ℕ) → is_attempt e x ≡ false) → ((k : ℕ) → way_of k (x ∷ ms) ≡ way_of k ms) → AllSo v ms → AllSo v (x ∷ ms)
-still v ms x one none ways h =
-    let q : Quietly ms (x ∷ ms) = quiet_moment x ms one none ways h.judged in
-    record { judged = q.judged; sites = λ k. site_quiet k ms (x ∷ ms) _ q (h.sites k) }
+still : (v : Nodes) (ms : List Moment) (x : Moment) → Judged ms x → ((e : ℕ) → is_attempt e x ≡ false) → ((k : ℕ) → way_of k (x ∷ ms) ≡ way_of k ms) → ((e : ℕ) → ticks_of e (x ∷ ms) ≡ ticks_of e ms) → AllSo v ms → AllSo v (x ∷ ms)
+still v ms x one none ways ticks h =
+    let q : Quietly ms (x ∷ ms) = quiet_moment x ms one none ways ticks h.judged in
+    record { judged = q.judged; sites = λ k. site_quiet k ms (x ∷ ms) _ q (h.sites k); waits = λ k. at_stays ms (x ∷ ms) k false (v.node k) (λ e own. ticks e) (h.waits k) }
 
 dropped_went : (o : Option (ℕ × DropCause)) (s : Scene) → AllSo s.nodes s.moments → AllSo (dropped_so o s).nodes (dropped_so o s).moments
 dropped_went None s h = h
-dropped_went (Some drop) s h = still s.nodes s.moments (Told (entry.Packet (packet.Dropped drop.0 drop.1))) (record { way = tt; superseded = tt; silent = tt; promises = tt; names = tt; says_so = tt }) (λ e. refl) (λ k. refl) h
+dropped_went (Some drop) s h = still s.nodes s.moments (Told (entry.Packet (packet.Dropped drop.0 drop.1))) (record { way = tt; superseded = tt; silent = tt; promises = tt; names = tt; waited = tt; says_so = tt }) (λ e. refl) (λ k. refl) (λ e. refl) h
 
 armed_kept : (f : ℕ → DiskState) (n k calls : ℕ) (choice : Choice) → (put f n (armed (f n) calls choice) k).kept ≡ (f k).kept
 armed_kept f n k calls choice = go (same_or_not k n)
@@ -212,13 +221,13 @@ armed_kept f n k calls choice = go (same_or_not k n)
     go (inr ne) = ap (λ (d : DiskState). d.kept) (put_there f n (armed (f n) calls choice) k ne)
 
 armed_went : (c : Cluster) (e : Event) (s : Scene) → AllSo s.nodes s.moments → AllSo (armed_by c e s).nodes (armed_by c e s).moments
-armed_went c (event.Fault n d done) s h = record { judged = h.judged; sites = h.sites }
-armed_went c (event.CrashAt n calls choice) s h = record { judged = h.judged; sites = λ k. subst (λ r. SiteSo s.moments k (site (s.nodes.node k) r)) (sym (armed_kept s.nodes.disk n k calls (left_by choice))) (h.sites k) }
+armed_went c (event.Fault n d done) s h = record { judged = h.judged; sites = h.sites; waits = h.waits }
+armed_went c (event.CrashAt n calls choice) s h = record { judged = h.judged; sites = λ k. subst (λ r. SiteSo s.moments k (site (s.nodes.node k) r)) (sym (armed_kept s.nodes.disk n k calls (left_by choice))) (h.sites k); waits = h.waits }
 armed_went c _ s h = h
 
 commanded_went : (s : Scene) (n d : ℕ) (o : Option Device) (k : PrCommand) → AllSo s.nodes s.moments → AllSo (commanded_at s n d o k).scene.nodes (commanded_at s n d o k).scene.moments
 commanded_went s n d None k h = h
-commanded_went s n d (Some x) k h = record { judged = h.judged; sites = h.sites }
+commanded_went s n d (Some x) k h = record { judged = h.judged; sites = h.sites; waits = h.waits }
 
 commanded_knows : (c : Cluster) (s : Scene) (n d : ℕ) (o : Option Device) (k : PrCommand) → Knows c s.nodes → Knows c (commanded_at s n d o k).scene.nodes
 commanded_knows c s n d None k h = h
@@ -227,23 +236,23 @@ commanded_knows c s n d (Some x) k h = h
 -- ---- each thing that happens
 
 happening_went : (c : Cluster) (s : Scene) (x : Happening) → All IsDevice c.attached → MayHappen c s x → KnownScene c s → Stage c (happened c s x) → AllSo s.nodes s.moments → AllSo (happened c s x).nodes (happened c s x).moments
-happening_went c s (Speaks e) fits may a after h = armed_went c e (adding (Said (line.Event e)) s) (still s.nodes s.moments (Said (line.Event e)) (record { way = tt; superseded = tt; silent = tt; promises = tt; names = tt; says_so = tt }) (λ f. refl) (λ k. refl) h)
-happening_went c s (Begins_part e) fits may a after h = still s.nodes s.moments (Part e) (record { way = tt; superseded = tt; silent = tt; promises = tt; names = tt; says_so = tt }) (λ f. refl) (λ k. refl) h
-happening_went c s (Notes e) fits may a after h = still s.nodes s.moments (Told (entry.Schedule e)) (record { way = tt; superseded = tt; silent = tt; promises = tt; names = tt; says_so = tt }) (λ f. refl) (λ k. refl) h
+happening_went c s (Speaks e) fits may a after h = armed_went c e (adding (Said (line.Event e)) s) (still s.nodes s.moments (Said (line.Event e)) (record { way = tt; superseded = tt; silent = tt; promises = tt; names = tt; waited = tt; says_so = tt }) (λ f. refl) (λ k. refl) (λ f. refl) h)
+happening_went c s (Begins_part e) fits may a after h = still s.nodes s.moments (Part e) (record { way = tt; superseded = tt; silent = tt; promises = tt; names = tt; waited = tt; says_so = tt }) (λ f. refl) (λ k. refl) (λ f. refl) h
+happening_went c s (Notes e) fits may a after h = still s.nodes s.moments (Told (entry.Schedule e)) (record { way = tt; superseded = tt; silent = tt; promises = tt; names = tt; waited = tt; says_so = tt }) (λ f. refl) (λ k. refl) (λ f. refl) h
 happening_went c s (Takes n now ends i) fits may a after h =
     taking_went c s n now ends i may.0.0 may.0.1 fits (known c s a) after (plain_hand s.moments n i may.1) (plain_bounds n (s.nodes.node n) i may.1) (λ is. brought_tick (under_way s.moments) n i may.5 is) h
 happening_went c s (Arrives number x m now ends) fits may a after h =
     let t : Scene = telling (entry.Packet (packet.Delivered number x.from x.to)) (removed s number) in
     taking_went c t x.to now ends (input.Packet x.from m) may.3.0 may.3.1 fits (known c s a) after (arrival c s number x m may.0 may.1 a h.judged)
     (packet_bounds c s.nodes x.to x.from m (s.nodes.node x.to) may.3.1 (known c s a) refl may.4) (λ is. absurd (false_true is))
-    (still s.nodes s.moments (delivered number x.from x.to) (record { way = tt; superseded = tt; silent = tt; promises = tt; names = tt; says_so = tt }) (λ f. refl) (λ k. refl) h)
-happening_went c s (Strays number x) fits may a after h = still s.nodes s.moments (Told (entry.Packet (packet.Delivered number x.from x.to))) (record { way = tt; superseded = tt; silent = tt; promises = tt; names = tt; says_so = tt }) (λ f. refl) (λ k. refl) h
-happening_went c s (Misses number x) fits may a after h = still s.nodes s.moments (Told (entry.Packet (packet.Dropped number drop.Down))) (record { way = tt; superseded = tt; silent = tt; promises = tt; names = tt; says_so = tt }) (λ f. refl) (λ k. refl) h
-happening_went c s (Loses_packet number x) fits may a after h = still s.nodes s.moments (Told (entry.Packet (packet.Lost number))) (record { way = tt; superseded = tt; silent = tt; promises = tt; names = tt; says_so = tt }) (λ f. refl) (λ k. refl) h
+    (still s.nodes s.moments (delivered number x.from x.to) (record { way = tt; superseded = tt; silent = tt; promises = tt; names = tt; waited = tt; says_so = tt }) (λ f. refl) (λ k. refl) (λ f. refl) h)
+happening_went c s (Strays number x) fits may a after h = still s.nodes s.moments (Told (entry.Packet (packet.Delivered number x.from x.to))) (record { way = tt; superseded = tt; silent = tt; promises = tt; names = tt; waited = tt; says_so = tt }) (λ f. refl) (λ k. refl) (λ f. refl) h
+happening_went c s (Misses number x) fits may a after h = still s.nodes s.moments (Told (entry.Packet (packet.Dropped number drop.Down))) (record { way = tt; superseded = tt; silent = tt; promises = tt; names = tt; waited = tt; says_so = tt }) (λ f. refl) (λ k. refl) (λ f. refl) h
+happening_went c s (Loses_packet number x) fits may a after h = still s.nodes s.moments (Told (entry.Packet (packet.Lost number))) (record { way = tt; superseded = tt; silent = tt; promises = tt; names = tt; waited = tt; says_so = tt }) (λ f. refl) (λ k. refl) (λ f. refl) h
 happening_went c s (Repeats number x) fits may a after h =
     let o : links.Outcome = sending s.links x.from x.to x.bytes in
     let t : Scene = telling (entry.Packet (packet.Repeated number s.links.next)) (with_links s o.after) in
-    dropped_went o.sent.dropped t (still s.nodes s.moments (Told (entry.Packet (packet.Repeated number s.links.next))) (record { way = tt; superseded = tt; silent = tt; promises = tt; names = tt; says_so = tt }) (λ f. refl) (λ k. refl) h)
+    dropped_went o.sent.dropped t (still s.nodes s.moments (Told (entry.Packet (packet.Repeated number s.links.next))) (record { way = tt; superseded = tt; silent = tt; promises = tt; names = tt; waited = tt; says_so = tt }) (λ f. refl) (λ k. refl) (λ f. refl) h)
 happening_went c s (Commands n d k now ends) fits may a after h =
     let o : Option Device = slice_get s.devices (d - 1) in
     taking_went c (commanded s n d k).scene n now ends (input.Answered (commanded s n d k).answer) may.0.0 may.0.1 fits (commanded_knows c s n d o k (known c s a)) after tt
@@ -253,13 +262,13 @@ happening_went c s (Writes n d value now ends) fits may a after h =
     let z : Commanded = commanded s n d (command.Write value) in
     taking_went c z.scene n now ends (input.Wrote d value z.answer) may.0.0 may.0.1 fits (commanded_knows c s n d o (command.Write value) (known c s a)) after tt
     (device_bounds n (z.scene.nodes.node n) (input.Wrote d value z.answer) (λ x. tt)) (λ is. absurd (false_true is)) (commanded_went s n d o (command.Write value) h)
-happening_went c s (Refuses n d value cause) fits may a after h = still s.nodes s.moments (Told (entry.Device (device.Refused n d value cause))) (record { way = tt; superseded = tt; silent = tt; promises = tt; names = tt; says_so = tt }) (λ f. refl) (λ k. refl) h
+happening_went c s (Refuses n d value cause) fits may a after h = still s.nodes s.moments (Told (entry.Device (device.Refused n d value cause))) (record { way = tt; superseded = tt; silent = tt; promises = tt; names = tt; waited = tt; says_so = tt }) (λ f. refl) (λ k. refl) (λ f. refl) h
 
 -- ---- runs
 
 first_so : (h : Header) (cells : ℕ) → AllSo (first_scene h cells).nodes (first_scene h cells).moments
 unfolding first_scene
-first_so h cells = record { judged = tt; sites = λ k. record { way = refl; disk = λ some. absurd (none_below some); up = tt } }
+first_so h cells = record { judged = tt; sites = λ k. record { way = refl; disk = λ some. absurd (none_below some); up = tt }; waits = λ k. tt }
   where
     none_below : 0 < 0 → ⊥
     none_below e = grind arith
@@ -288,6 +297,9 @@ superseded_in_each_run h cells hs few small may = each Judged IsSuperseded _ (λ
 
 pub ends_name_members_in_each_run : EndsNameMembersInEachRun
 ends_name_members_in_each_run h cells hs few small may = each Judged NamesMember _ (λ before x j. j.names) (run_so h cells hs few small may).judged
+
+pub silent_after_eight_ticks_in_each_run : SilentAfterEightTicks
+silent_after_eight_ticks_in_each_run h cells hs few small may = each Judged HasWaited _ (λ before x j. j.waited) (run_so h cells hs few small may).judged
 
 pub promised_in_each_run : PromisedInEachRun
 promised_in_each_run h cells hs few small may = each Judged HasPromises _ (λ before x j. j.promises) (run_so h cells hs few small may).judged

@@ -13,7 +13,7 @@ use Rattle.node_model.specs.Attempts.{adopted_line, adopted_lines, adopted_of, a
 use Rattle.node_model.specs.Entries.{unknown_line, unknown_lines}
 use Rattle.node_model.specs.Presidents.{sent_to}
 use Rattle.node_model.specs.Seats.{coordinator_of, promised_of, session_of}
-use Rattle.node_model.specs.Ticks.{heartbeat_of, heartbeats_to, later, ticked_output}
+use Rattle.node_model.specs.Ticks.{heartbeat_of, heartbeats_to, ticked_output}
 use Rattle.node_model.specs.Updates.{request_again, request_again_by, request_again_to}
 use Rattle.node_model.specs.declared.cluster.Cluster.{Cluster}
 use Rattle.node_model.specs.declared.node.UpNode.{UpNode}
@@ -128,7 +128,7 @@ beats_fine : (ms : List Moment) (n : ℕ) (x : UpNode) (receivers : ℕ) → Are
 unfolding heartbeats_to
 beats_fine ms n x receivers = mapped (IsFine ms n) (λ m. Sends m (heartbeat_of x)) (numbers_to receivers most_nodes) (λ m. tt)
 
-ticked_fine : (ms : List Moment) (n : ℕ) (c : Cluster) (before x : UpNode) → AreFine ms n (ticked_output c before x)
+pub ticked_fine : (ms : List Moment) (n : ℕ) (c : Cluster) (before x : UpNode) → AreFine ms n (ticked_output c before x)
 ticked_fine ms n c before x = both (IsFine ms n) (heartbeats_to x _) (request_again before) (beats_fine ms n x _) (again_fine ms n before before.presidency)
 
 -- ---- what is delivered
@@ -193,7 +193,7 @@ pub said_fine : (c : Cluster) (ms : List Moment) (n : ℕ) (told : Delivered) (t
 said_fine c ms n told ticks x (Ends a e) mere may small fits way so hand = absurd mere
 said_fine c ms n told ticks x (Makes change) mere may small fits way so hand = absurd mere
 said_fine c ms n told ticks x (Hears from b) mere may small fits way so hand = tt
-said_fine c ms n told ticks x Ticks mere may small fits way so hand = (tt, ticked_fine ms n c x (later c x))
+said_fine c ms n told ticks x Ticks mere may small fits way so hand = absurd mere
 said_fine c ms n told ticks x Waits mere may small fits way so hand = tt
 said_fine c ms n told ticks x (Goes_on a k) mere may small fits way so hand = tt
 said_fine c ms n told ticks x (Queues a d kind) mere may small fits way so hand = tt

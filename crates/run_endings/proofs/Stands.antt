@@ -52,7 +52,7 @@ stand_so ms n x y same has h = seat_so ms n x y same.seat (subst (AttemptSo n (p
 pub seat_self : (x y : UpNode) → y.seat ≡ x.seat → SameSeat x y
 seat_self x y is = record { promised = ap (λ (z : Seat). (state_of z).saved.promised) is; session = ap (λ (z : Seat). (state_of z).session) is }
 
-still : (x y : UpNode) → y.seat ≡ x.seat → y.attempt ≡ x.attempt → SameStand x y
+pub still : (x y : UpNode) → y.seat ≡ x.seat → y.attempt ≡ x.attempt → SameStand x y
 still x y seat attempt = record { seat = seat_self x y seat; attempt = ap epoch_of attempt }
 
 -- ---- changes
@@ -147,17 +147,18 @@ change_has c ms n told x (Commits s) even may hand h = h.has_so
 
 -- ---- acts
 
--- neither an end nor a change
+-- no end, no change, and no tick of the clock
 abbrev pub IsMere : Act → Type 0
 IsMere (Ends a e) = ⊥
 IsMere (Makes change) = ⊥
+IsMere Ticks = ⊥
 IsMere _ = Unit {0}
 
 pub act_stands : (c : Cluster) (n : ℕ) (told : Delivered) (x : UpNode) (a : Act) → IsMere a → MayAct c n told x a → SameStand x (acted c n x a)
 act_stands c n told x (Ends a e) mere may = absurd mere
 act_stands c n told x (Makes change) mere may = absurd mere
 act_stands c n told x (Hears from b) mere may = still x (acted c n x (Hears from b)) refl refl
-act_stands c n told x Ticks mere may = still x (acted c n x Ticks) refl refl
+act_stands c n told x Ticks mere may = absurd mere
 act_stands c n told x Waits mere may = still x (acted c n x Waits) refl refl
 act_stands c n told x (Goes_on a k) mere may = record { seat = seat_self x (acted c n x (Goes_on a k)) refl; attempt = turn_epoch c told x a k may.0 may.1 }
 act_stands c n told x (Queues a d kind) mere may =
@@ -182,7 +183,7 @@ act_has c ms n told x (Queues a d kind) mere may hand h =
     if_either (λ (y : UpNode). AttemptIn ms n y.attempt) (has a.plan.members n)
     (record x { tasks = after_seize x.tasks d (seizing.begun kind a.plan.epoch a.plan.members n c.id (has (record_of x).valid d)) }) x h.has_so h.has_so
 act_has c ms n told x (Hears from b) mere may hand h = h.has_so
-act_has c ms n told x Ticks mere may hand h = h.has_so
+act_has c ms n told x Ticks mere may hand h = absurd mere
 act_has c ms n told x Waits mere may hand h = h.has_so
 act_has c ms n told x (Accepts kind e members d) mere may hand h = h.has_so
 act_has c ms n told x (Takes at command a) mere may hand h = h.has_so

@@ -143,7 +143,7 @@ walk told ticks c fits = record {
   rests = λ s i. tt;
   passes = λ s is e i. tt;
   again = λ s is e i. repeats_fit told ticks (record s { ticks = later s.ticks }) (record s { ticks = later s.ticks }) s.phase;
-  silent = λ s n is late least i. ((subst (CallFits told ticks) is fits, (found_among (is_missing s) s.plan.nodes n least).1), tt);
+  silent = λ s n is late least i. ((subst (CallFits told ticks) is fits, (found_among (is_missing s) s.plan.nodes n least).1, late), tt);
   superseded = λ s from m q is nack i. (subst (λ t. Says (λ b. b ≡ body.Nack s.plan.epoch q) t) (sym (subst (CallFits told ticks) is fits)) nack, tt);
   promise = λ s from m p is awaited of promised i. tt;
   collects = λ s is e k. collects_fit told ticks s s;

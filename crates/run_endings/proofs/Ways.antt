@@ -1,5 +1,5 @@
 -- The attempt that is under way is that of its coordinator; the lines of one node leave those of the others.
-use Rattle.std.specs.Prelude.{ℕ, ◌≡◌, ◌≢◌, ◌==◌, ◌&&◌, ◌||◌, not, Bool, true, false, List, [], ◌∷◌, Option, None, Some, if◌then◌else◌}
+use Rattle.std.specs.Prelude.{ℕ, ◌+◌, ◌≡◌, ◌≢◌, ◌==◌, ◌&&◌, ◌||◌, not, Bool, true, false, List, [], ◌∷◌, Option, None, Some, if◌then◌else◌}
 use Rattle.std.specs.List.{list_any}
 use Rattle.std.proofs.Common.{refl, sym, ap, ◌∙◌, arith}
 use Rattle.cmm_attempt.proofs.Basics.{false_true, none_some, same_number, same_some}
@@ -16,6 +16,7 @@ use Rattle.status_report.specs.declared.entry.Entry.{Entry}
 use Rattle.status_report.specs.declared.entry.Entry.TheVariants as entry
 use Rattle.status_report.specs.declared.node_entry.NodeEntry.TheVariants as note
 use Rattle.status_report.specs.declared.start_entry.StartEntry.TheVariants as start_entry
+use Rattle.run_endings.specs.Laws.{ticks_of}
 use Rattle.run_endings.specs.Nacks.{IsTried}
 use Rattle.run_endings.specs.Ways.{IsOwn, way_of, without}
 
@@ -140,6 +141,7 @@ IsOwnLine n (entry.Attempt (attempt_entry.Foreign e m)) = coordinator e ≡ n
 IsOwnLine n (entry.Attempt (attempt_entry.Excluded e m)) = coordinator e ≡ n
 IsOwnLine n (entry.Start (start_entry.Started e members held count)) = coordinator e ≡ n
 IsOwnLine n (entry.Node m (note.Down why)) = m ≡ n
+IsOwnLine n (entry.Node m note.Ticked) = m ≡ n
 IsOwnLine n _ = Unit {0}
 
 of_another : (k n e f : ℕ) → k ≢ n → coordinator e ≡ n → coordinator f ≡ k → (f == e) ≡ false
@@ -168,3 +170,10 @@ ended_none e w is = ap (without e) is ∙ by_test (e == e) (itself e e refl)
     by_test : (t : Bool) → t ≡ true → (if t then None else Some e) ≡ None
     by_test true k = refl
     by_test false k = absurd (false_true k)
+
+-- ---- another node's attempt
+
+pub others_tick : (n k e : ℕ) (x : Entry) (ms : List Moment) → k ≢ n → coordinator e ≡ k → IsOwnLine n x → ticks_of e (Told x ∷ ms) ≡ ticks_of e ms
+others_tick n k e (entry.Node m note.Ticked) ms ne own line = if_false (m == coordinator e) (ticks_of e ms + 1) (ticks_of e ms) (apart m (coordinator e) (λ same. ne (sym own ∙ (sym same ∙ line))))
+others_tick n k e (entry.Attempt (attempt_entry.Begun f members)) ms ne own line = if_false (f == e) 0 (ticks_of e ms) (apart f e (λ same. ne (sym own ∙ (sym (ap coordinator same) ∙ line))))
+others_tick n k e _ ms ne own line = refl

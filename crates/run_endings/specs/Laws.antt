@@ -1,6 +1,6 @@
 -- What is proved of each run of the world, as things that happen: an attempt ends, and starts, while it is under way; what shows that it is
 -- superseded; in which events it ends for want of an answer; and what it has by then of Promises.
-use Rattle.std.specs.Prelude.{ℕ, ◌<◌, ◌≡◌, ◌==◌, ◌≤◌, ◌^◌, true, List, length, Option, None, Some}
+use Rattle.std.specs.Prelude.{ℕ, ◌+◌, [], ◌∷◌, if◌then◌else◌, ◌<◌, ◌≡◌, ◌==◌, ◌≤◌, ◌^◌, true, List, length, Option, None, Some}
 use Rattle.std.specs.List.{list_any}
 use Rattle.cl_base.specs.Limits.{most_devices}
 use Rattle.cl_base.specs.declared.header.Header.{Header}
@@ -12,7 +12,7 @@ use Rattle.history.specs.Order.{Always, under_way}
 use Rattle.history.specs.Queue.{all_promised}
 use Rattle.history.specs.Seizing.{is_number}
 use Rattle.history.specs.Setting.{coordinator, nodes_of}
-use Rattle.history.specs.Trace.{ended_excluded, ended_foreign, ended_silent, ended_superseded, ended_votes, start}
+use Rattle.history.specs.Trace.{attempt, ticked, ended_excluded, ended_foreign, ended_silent, ended_superseded, ended_votes, start}
 use Rattle.history.specs.UnderWay.{is_under_way}
 use Rattle.node_model.specs.declared.node.Node.{Node}
 use Rattle.node_model.specs.declared.node.Node.TheVariants.{Down, Up}
@@ -95,3 +95,19 @@ EndsInTick before _ = Unit {0}
 
 abbrev pub SilentInTicksOfEachRun : Type 0
 SilentInTicksOfEachRun = OfEachRun (Always EndsInTick)
+
+-- .. at the eighth that came since it began, at the earliest
+
+-- how many ticks of its coordinator came since the attempt e began
+abbrev pub ticks_of : ℕ → List Moment → ℕ
+ticks_of e [] = 0
+ticks_of e (attempt f members ∷ before) = if f == e then 0 else ticks_of e before
+ticks_of e (ticked n ∷ before) = if n == coordinator e then ticks_of e before + 1 else ticks_of e before
+ticks_of e (_ ∷ before) = ticks_of e before
+
+abbrev pub HasWaited : List Moment → Moment → Type 0
+HasWaited before (ended_silent e m) = 8 ≤ ticks_of e before
+HasWaited before _ = Unit {0}
+
+abbrev pub SilentAfterEightTicks : Type 0
+SilentAfterEightTicks = OfEachRun (Always HasWaited)

@@ -4,4 +4,5 @@ pub mod Laws
 pub mod Ways
 pub mod Nacks
 pub mod Steps
+pub mod Once
 pub mod Sites

@@ -26,7 +26,7 @@ use Rattle.wire.specs.declared.message.Body.{Body}
 use Rattle.wire.specs.declared.message.Body.TheVariants as body
 use Rattle.run_records.specs.Kept.{HeardFrom, IsHad}
 use Rattle.world_model.specs.Sends.{name_of}
-use Rattle.run_endings.specs.Laws.{EndsInTick, EndsUnderWay, HasPromises, IsSuperseded, NamesMember, epoch_at, epoch_of}
+use Rattle.run_endings.specs.Laws.{EndsInTick, EndsUnderWay, HasPromises, HasWaited, IsSuperseded, NamesMember, epoch_at, epoch_of}
 use Rattle.run_endings.specs.Nacks.{BodySo, HasBooted, IsMadeBy, SaysSo}
 use Rattle.run_endings.specs.Ways.{way_of}
 
@@ -84,11 +84,12 @@ HandSo moments n (Some d) = Came moments n d.0 d.1.body
 
 -- ---- what a node gives
 
--- a line that tells nothing of attempts, of starts, and of nodes that go down
+-- a line that tells nothing of attempts, of starts, of ticks, and of nodes that go down
 abbrev pub IsQuietLine : Entry → Type 0
 IsQuietLine (entry.Attempt e) = ⊥
 IsQuietLine (entry.Start (start_entry.Started e members held count)) = ⊥
 IsQuietLine (entry.Node m (note.Down why)) = ⊥
+IsQuietLine (entry.Node m note.Ticked) = ⊥
 IsQuietLine (entry.Packet e) = ⊥
 IsQuietLine _ = Unit {0}
 
@@ -107,6 +108,7 @@ pub record Judged (before : List Moment) (x : Moment) : Type 0 where
   pub silent : EndsInTick before x
   pub promises : HasPromises before x
   pub names : NamesMember before x
+  pub waited : HasWaited before x
   pub says_so : SaysSo before x
 
 abbrev pub AllJudged : List Moment → Type 0

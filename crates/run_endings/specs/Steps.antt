@@ -1,6 +1,6 @@
 -- What the guards of `refinement` do not say of ends and of Nacks: an attempt ends by the Nack that is delivered, or for want of an answer in a
 -- tick; a Nack answers the Collect or the Install that is delivered; and no attempt begins where something is delivered.
-use Rattle.std.specs.Prelude.{ℕ, ◌<◌, ◌≡◌, ◌≢◌, ◌≤◌, Bool, true, false, List, [], ◌∷◌, None, Some, is_some, ◌==◌}
+use Rattle.std.specs.Prelude.{ℕ, ◌<◌, ◌≡◌, ◌≢◌, ◌≤◌, Bool, true, false, List, [], ◌∷◌, None, Some, is_some, ◌==◌, nat_le}
 use Rattle.std.specs.List.{AllByRecursion, list_any}
 use Rattle.cmm_attempt.specs.Attempts.{AttemptState}
 use Rattle.cmm_attempt.specs.Calls.{Call, Own_ready, Own_seized, Take, Tick as Call_tick, With_votes}
@@ -18,8 +18,8 @@ use Rattle.node_model.specs.declared.node.UpNode.{UpNode}
 use Rattle.refinement.specs.Courses.{Course}
 use Rattle.refinement.specs.Courses.Course.{Acts, Falls, Keeps, Stops}
 use Rattle.refinement.specs.Doings.{Act, Change, Doing, Site, acted, changed, effect}
-use Rattle.refinement.specs.Doings.Act.{Ends, Makes, Spreads, Writes}
-use Rattle.refinement.specs.Doings.Change.{Leads}
+use Rattle.refinement.specs.Doings.Act.{Ends, Goes_on, Makes, Spreads, Writes}
+use Rattle.refinement.specs.Doings.Change.{Counts, Leads, Starts}
 use Rattle.refinement.specs.Doings.Doing.{Does, Saves}
 use Rattle.refinement.specs.Guards.{OfUp, Says}
 use Rattle.refinement.specs.Ties.{Delivered}
@@ -32,7 +32,7 @@ HasMember a m = list_any (λ k. k == m) a.plan.nodes ≡ true
 -- why an attempt ends: by what comes to its node, or once it was given votes
 abbrev pub EndSo : Delivered → Bool → AttemptState → AttemptEnd → Type 0
 EndSo told ticks a (end.Superseded q) = Says (λ b. b ≡ body.Nack a.plan.epoch q) told
-EndSo told ticks a (end.Silent m) = (ticks ≡ true) × HasMember a m
+EndSo told ticks a (end.Silent m) = (ticks ≡ true) × HasMember a m × (nat_le 8 a.ticks ≡ true)
 EndSo told ticks a (end.Votes have need lacking) = (have < need) × (is_some a.votes ≡ true)
 EndSo told ticks a (end.Foreign m) = (is_some a.votes ≡ true) × HasMember a m
 EndSo told ticks a (end.Excluded m) = HasMember a m
@@ -69,26 +69,29 @@ abbrev pub BodyFits : Delivered → UpNode → Body → Type 0
 BodyFits told x (body.Nack e q) = Says (IsAsked e) told × (q ≡ promised_of x) × (e ≤ q) × (0 < e → e ≡ q → session_of x ≢ q)
 BodyFits told x _ = Unit {0}
 
-abbrev pub ChangeFits : Delivered → Change → Type 0
-ChangeFits told (Leads p members) = told ≡ None
-ChangeFits told _ = Unit {0}
+abbrev pub ChangeFits : Delivered → Bool → Change → Type 0
+ChangeFits told ticks (Leads p members) = told ≡ None
+ChangeFits told ticks (Counts a k s i) = CallFits told ticks k
+ChangeFits told ticks (Starts a k s) = CallFits told ticks k
+ChangeFits told ticks _ = Unit {0}
 
 abbrev pub ActFits : Delivered → Bool → UpNode → Act → Type 0
 ActFits told ticks x (Ends a why) = (x.attempt ≡ Some a) × EndSo told ticks a why
 ActFits told ticks x (Writes to b) = BodyFits told x b
 ActFits told ticks x (Spreads receivers b) = BodyFits told x b
-ActFits told ticks x (Makes change) = ChangeFits told change
+ActFits told ticks x (Makes change) = ChangeFits told ticks change
+ActFits told ticks x (Goes_on a k) = CallFits told ticks k
 ActFits told ticks x _ = Unit {0}
 
 abbrev pub GoesFit : Cluster → ℕ → Delivered → Bool → UpNode → Course → Type 0
 GoesFit c me told ticks x Stops = Unit {0}
 GoesFit c me told ticks x (Acts a rest) = ActFits told ticks x a × GoesFit c me told ticks (acted c me x a) rest
-GoesFit c me told ticks x (Keeps change rest) = ChangeFits told change × GoesFit c me told ticks (changed c me x change) rest
+GoesFit c me told ticks x (Keeps change rest) = ChangeFits told ticks change × GoesFit c me told ticks (changed c me x change) rest
 GoesFit c me told ticks x (Falls why) = Unit {0}
 
 abbrev pub DoingFits : Delivered → Bool → Site → Doing → Type 0
 DoingFits told ticks x (Does a) = OfUp (λ y. ActFits told ticks y a) x.node
-DoingFits told ticks x (Saves change) = ChangeFits told change
+DoingFits told ticks x (Saves change) = ChangeFits told ticks change
 DoingFits told ticks x _ = Unit {0}
 
 abbrev pub AllFit : Cluster → ℕ → Delivered → Bool → Site → List Doing → Type 0

@@ -7,7 +7,7 @@
 //! all agents.
 #![tactic(auto)]
 
-ghost use Rattle.run_endings.specs.Laws.{AttemptsAreUnderWayInEachRun, EndsNameMembersInEachRun, NodesHaveTheirAttempts, PromisedInEachRun, SilentInTicksOfEachRun, SupersededInEachRun};
+ghost use Rattle.run_endings.specs.Laws.{AttemptsAreUnderWayInEachRun, EndsNameMembersInEachRun, NodesHaveTheirAttempts, PromisedInEachRun, SilentAfterEightTicks, SilentInTicksOfEachRun, SupersededInEachRun};
 
 /// Each line that ends an attempt, and each that starts its membership, is of an attempt that is under way: it is the last of its coordinator, which
 /// has not gone down since it began, and it neither ended nor started before.
@@ -29,6 +29,11 @@ pub fn superseded_in_each_run()
 /// It ends for want of an answer in a tick of its coordinator alone.
 pub fn silent_in_ticks_of_each_run()
     ensures { SilentInTicksOfEachRun }
+{}
+
+/// .. and not before the eighth tick of its coordinator since it began.
+pub fn silent_after_eight_ticks_in_each_run()
+    ensures { SilentAfterEightTicks }
 {}
 
 /// For want of votes, and for a member that is not configured, it ends once the Promise of each other member has come to its coordinator since it began;
