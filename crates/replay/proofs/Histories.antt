@@ -28,6 +28,7 @@ use Rattle.run_attempts.proofs.Runs as attempts
 use Rattle.run_commands.proofs.Laws as commands
 use Rattle.run_answers.proofs.Answered.{answered_of_each_run}
 use Rattle.run_downs.proofs.Runs as downs
+use Rattle.run_endings.proofs.Runs as endings
 use Rattle.run_lines.proofs.Runs.{lines_of_each_run}
 use Rattle.run_writes.proofs.Runs.{writes_of_each_run}
 use Rattle.run_messages.proofs.Runs.{heartbeats_of_each_run}
@@ -162,6 +163,12 @@ told_trace h events text p header disks is told =
       beats_due = attempts.beats_are_due_in_each_run h 65536 told.happenings header.devices header.cluster_high told.may;
       attempts_begin = attempts.attempts_begin_in_each_run h 65536 told.happenings header.devices header.cluster_high told.may;
       installs_bring = attempts.installs_bring_members_in_each_run h 65536 told.happenings header.devices header.cluster_high told.may;
+      ends_under_way = endings.attempts_are_under_way_in_each_run h 65536 told.happenings header.devices header.cluster_high told.may;
+      superseded = endings.superseded_in_each_run h 65536 told.happenings header.devices header.cluster_high told.may;
+      silent_in_ticks = endings.silent_in_ticks_of_each_run h 65536 told.happenings header.devices header.cluster_high told.may;
+      waited = endings.silent_after_eight_ticks_in_each_run h 65536 told.happenings header.devices header.cluster_high told.may;
+      promised = endings.promised_in_each_run h 65536 told.happenings header.devices header.cluster_high told.may;
+      names_members = endings.ends_name_members_in_each_run h 65536 told.happenings header.devices header.cluster_high told.may;
       answers_once = once;
       numbered = commands.commands_are_numbered_in_each_run h 65536 told.happenings header.devices header.cluster_high told.may;
       own_answers = commands.own_answers_fit_in_each_run h 65536 told.happenings header.devices header.cluster_high told.may;

@@ -1,0 +1,14 @@
+pub mod Ways
+pub mod Grows
+pub mod Letters
+pub mod Attempts
+pub mod Turns
+pub mod Courses
+pub mod Once
+pub mod Shows
+pub mod Stands
+pub mod Sends
+pub mod Waits
+pub mod Goes
+pub mod Doings
+pub mod Runs
