@@ -33,13 +33,14 @@ use Rattle.run_downs.specs.Laws.{BootIsSaid, CrashIsSaid, FencedByWrite, SavesIn
 use Rattle.run_history.specs.Telling.{lines_upon}
 use Rattle.run_history.specs.Scenes.{text_of}
 use Rattle.run_lines.specs.Laws.{IsAnswered}
+use Rattle.run_rounds.specs.Parts.{PartsInOrder, shown}
 use Rattle.replay.specs.Sessions.{first_so_far}
 use Rattle.replay.specs.Outcomes.{pieces}
 use Rattle.replay.specs.Replays.{OfCluster, OfDevice, Schedule, entries, schedule_of, texts_of}
 
 -- There are moments of which the text is what is printed: exactly these events are said, in this order. They are what can
 -- happen in one cluster: each line has its entries, and is skipped exactly where that is due (but for the lines of which
--- `run_lines` says nothing); the links and the devices do what their lines say, each start has its base, what was
+-- `run_lines` says nothing); the parts of rounds come in their order; the links and the devices do what their lines say, each start has its base, what was
 -- acknowledged is kept, no device takes a write of a node that a greater membership left out, a node installs, is ready, is a
 -- member and has prepared by the messages that tell of it, and a membership starts with a majority of the votes under its
 -- base and with devices that were seized for it, as its coordinator knew. The bytes of each message spell it: a Promise and
@@ -57,6 +58,7 @@ pub record IsTrace (h : Header) (events : List Event) (text : List ℕ) : Type 0
   pub said : lines_of moments ≡ lines_upon [] events
   pub told : text ≡ text_of moments
   pub lines : EachEvent (IsAnswered (setting_of h)) moments
+  pub parts : PartsInOrder (setting_of h) shown moments
   pub links : Links 65536 moments
   pub no_drop_due : drop_due 65536 moments ≡ None
   pub devices : DeviceRun h moments
