@@ -10,6 +10,8 @@ use Rattle.schedule_text.specs.declared.header.HeaderState.{HeaderState}
 use Rattle.schedule_text.specs.declared.kind.Kind.{Kind}
 use Rattle.schedule_text.specs.declared.line.ClusterLine.{ClusterLine}
 use Rattle.schedule_text.specs.declared.line.ClusterLine.TheVariants as cluster
+use Rattle.schedule_text.specs.declared.line.Line.{Line}
+use Rattle.schedule_text.specs.declared.line.Line.TheVariants as line
 use Rattle.schedule_text.specs.declared.line.SoFar.{SoFar}
 use Rattle.schedule_text.specs.Allowed.{IsAllowedEvent, IsHeader}
 use Rattle.schedule_text.specs.Headers.{HeaderStep, More, Over, Bad, head_of, header_step}
@@ -18,7 +20,8 @@ use Rattle.grammar_laws.specs.Reads.{HasSeconds, LacksServers}
 use Rattle.grammar_laws.proofs.Events.{events_are_allowed, seconds_fit}
 use Rattle.grammar_laws.proofs.Heads.{IsFineHead, IsFineState, head_fine, state_kept}
 use Rattle.refinement.specs.Worlds.{IsNamed}
-use Rattle.run_history.specs.Telling.{IsInHeader}
+use Rattle.run_history.specs.Telling.{IsInHeader, lines_upon}
+use Rattle.run_rounds.specs.Laws.{AsksSome}
 use Rattle.replay.specs.Sessions.{first_so_far}
 use Rattle.replay.specs.Replays.{OfCluster, OfDevice, Schedule, behind, events_of, schedule_of, stepped, with_event}
 use Rattle.replay.specs.Histories.{AreAllowed}
@@ -117,3 +120,12 @@ all_named h s (e ∷ events) are = (named h s e are.0 are.1, all_named h (so_far
 pub all_in_header : (h : Header) (s : SoFar) (events : List Event) → AreAllowed h s events → AllByRecursion (IsInHeader h) events
 all_in_header h s [] are = tt
 all_in_header h s (e ∷ events) are = (in_header h s e are.0, all_in_header h (so_far_after_event s e) events are.2)
+
+-- a line that asks for rounds asks for one at least
+asks : (h : Header) (s : SoFar) (e : Event) → IsAllowedEvent h s e → AsksSome (line.Event e)
+asks h s (event.Rounds count nodes) is = is.0
+asks h s _ is = tt
+
+pub all_ask : (h : Header) (s : SoFar) (events : List Event) (before : List Line) → AreAllowed h s events → AllByRecursion AsksSome before → AllByRecursion AsksSome (lines_upon before events)
+all_ask h s [] before are some = some
+all_ask h s (e ∷ events) before are some = all_ask h (so_far_after_event s e) events (line.Event e ∷ before) are.2 (asks h s e are.0, some)

@@ -10,6 +10,7 @@ use Rattle.cl_base.specs.declared.header.Version.{Version}
 use Rattle.cl_base.specs.declared.header.Version.TheVariants.{One, Two}
 use Rattle.schedule_text.specs.declared.event.Event.{Event}
 use Rattle.schedule_text.specs.declared.header.HeaderState.TheVariants.{Opening}
+use Rattle.schedule_text.specs.declared.line.Line.{Line}
 use Rattle.schedule_text.specs.Allowed.{IsHeader}
 use Rattle.schedule_text.specs.Headers.{is_server}
 use Rattle.schedule_text.specs.Versions.{most_nodes_of}
@@ -31,6 +32,8 @@ use Rattle.run_downs.proofs.Runs as downs
 use Rattle.run_endings.proofs.Runs as endings
 use Rattle.run_lines.proofs.Runs.{lines_of_each_run}
 use Rattle.run_writes.proofs.Runs.{writes_of_each_run}
+use Rattle.run_rounds.specs.Laws.{AsksSome}
+use Rattle.run_rounds.proofs.Runs.{parts_of_each_run}
 use Rattle.run_messages.proofs.Runs.{heartbeats_of_each_run}
 use Rattle.run_messages.proofs.Spelling.{spelled_of_each_run}
 use Rattle.run_records.proofs.Runs.{installed_base_of_each_run, newest_base_of_each_run, newest_of_each_run, records_of_each_run}
@@ -42,7 +45,7 @@ use Rattle.world_model.specs.First.{first_cluster, first_world}
 use Rattle.world_model.specs.Lines.{line_on}
 use Rattle.world_model.specs.Worlds.{Play, WorldState, play}
 use Rattle.run_history.specs.Happenings.{all_happened}
-use Rattle.run_history.specs.Telling.{IsTold}
+use Rattle.run_history.specs.Telling.{IsTold, lines_upon}
 use Rattle.run_history.specs.Scenes.{first_scene}
 use Rattle.run_history.proofs.Told.{worlds_are_told}
 use Rattle.replay.specs.declared.task.Task.{Task}
@@ -51,7 +54,7 @@ use Rattle.replay.specs.Sessions.{first_so_far}
 use Rattle.replay.specs.Outcomes.{outcome_of, pieces}
 use Rattle.replay.specs.Replays.{OfCluster, OfDevice, Schedule, schedule_of, texts_of}
 use Rattle.replay.specs.Histories.{AreAllowed, IsTrace, TellsFirstOf, TellsHistory}
-use Rattle.replay.proofs.Allows.{IsAllowedSchedule, all_in_header, all_named, first_allowed, schedule_allowed}
+use Rattle.replay.proofs.Allows.{IsAllowedSchedule, all_ask, all_in_header, all_named, first_allowed, schedule_allowed}
 use Rattle.replay.proofs.Firsts.{IsFirstOf, lines_first}
 use Rattle.replay.proofs.Plays.{line_behind}
 
@@ -81,8 +84,9 @@ disks_in : (devices : List HeaderDevice) → AllByRecursion (λ (d : HeaderDevic
 disks_in [] are = tt
 disks_in (d ∷ devices) are = (disk_of d.kind are.0, disks_in devices are.1)
 
-told_trace : (h : Header) (events : List Event) (text : List ℕ) (p : Play) → IsHeader h → LacksServers h → text ≡ p.text → IsTold h 65536 [] events p → IsTrace h events text
-told_trace h events text p header disks is told =
+told_trace : (h : Header) (events : List Event) (text : List ℕ) (p : Play) → IsHeader h → LacksServers h → AllByRecursion AsksSome (lines_upon [] events) → text ≡ p.text → IsTold h 65536 [] events p
+    → IsTrace h events text
+told_trace h events text p header disks asks is told =
     let links = links_of_each_run h 65536 told.happenings told.may in
     let built : AreDisks h = disks_in h.devices disks in
     let devices = devices_of_each_run h 65536 told.happenings header.devices built told.may in
@@ -110,6 +114,9 @@ told_trace h events text p header disks is told =
       told = is ∙ told.text;
       lines = lines_of_each_run h 65536 told.happenings (setting_of h) header.devices header.cluster_high refl told.may told.shaped;
       writes = writes_of_each_run h 65536 told.happenings (setting_of h) header.devices header.cluster_high refl built told.may told.shaped;
+      parts =
+          parts_of_each_run h 65536 told.happenings (setting_of h) header.devices refl told.may told.shaped
+          (subst (λ (ls : List Line). AllByRecursion AsksSome ls) (sym told.said) asks);
       links = links.run;
       no_drop_due = links.due;
       devices = devices.run;
@@ -184,7 +191,7 @@ told_trace h events text p header disks is told =
 pub trace_of : (agents : List AgentState) (h : Header) (events : List Event) (text : List ℕ) → IsHeader h → LacksServers h → AreAllowed h first_so_far events
     → text ≡ texts_of (first_world h 65536 agents) events → IsTrace h events text
 trace_of agents h events text header disks allowed is =
-    told_trace h events text (lines_on events (play (first_world h 65536 agents) [])) header disks (is ∙ sym (texts_are events (first_world h 65536 agents) []))
+    told_trace h events text (lines_on events (play (first_world h 65536 agents) [])) header disks (all_ask h first_so_far events [] allowed tt) (is ∙ sym (texts_are events (first_world h 65536 agents) []))
     (worlds_are_told h 65536 agents [] events (few_nodes h.version h.nodes header.nodes_high) header.devices header.cluster_high (all_named h first_so_far events allowed)
     (all_in_header h first_so_far events allowed))
 

@@ -31,10 +31,10 @@ use Rattle.run_history.proofs.ContactFlying.{number_found}
 use Rattle.run_history.specs.Happenings.{IsUp}
 use Rattle.run_history.specs.Members.{NodeLines}
 use Rattle.run_history.specs.Scenes.{Scene}
-use Rattle.run_history.specs.Shapes.{MayBegin, Want, asking, booting, brings, coming_to, if_up, of_oldest, of_packet, probing, taking_this, writing}
+use Rattle.run_history.specs.Shapes.{Want, asking, booting, brings, coming_to, if_up, of_oldest, of_packet, probing, taking_this, writing}
 use Rattle.run_history.specs.Shapes.Want.{Lose, Repeat}
 use Rattle.run_messages.specs.Laws.{IsSeated, membership_in}
-use Rattle.run_lines.specs.Entries.{Leaves, NodePresides, PresidesAt, Ties}
+use Rattle.run_lines.specs.Entries.{Leaves, MayBegin, NodePresides, PresidesAt, Ties}
 use Rattle.run_lines.specs.Laws.{IsSpokenOf, NumberIsLeft}
 
 -- ---- nodes

@@ -1,5 +1,6 @@
 pub mod Adds
 pub mod Outputs
 pub mod Answered
+pub mod Begins
 pub mod Steps
 pub mod Runs

@@ -39,14 +39,16 @@ use Rattle.run_history.proofs.Reached.{Reached, reached_more}
 use Rattle.run_history.specs.Happenings.{Happening, IsUp, MayAllHappen, all_happened, armed_by, happened}
 use Rattle.run_history.specs.Happenings.Happening.{Begins, Notes, Speaks}
 use Rattle.run_history.specs.Scenes.{Scene, adding, first_scene}
-use Rattle.run_history.specs.Shapes.{Due, IsDue, MayBegin, Opens, ShapedFrom, Want, asking, booting, brings, coming_to, commanding, due_after, if_up, nothing, of_oldest, of_packet, opened, probing, taking_this, writing}
+use Rattle.run_history.specs.Rounds.{Progress}
+use Rattle.run_history.specs.Shapes.{Due, IsDue, Opens, ShapedFrom, Want, asking, booting, brings, coming_to, commanding, due_after, if_up, nothing, of_oldest, of_packet, opened, probing, taking_this, writing}
 use Rattle.run_history.specs.Shapes as want
 use Rattle.run_history.specs.Stages.{Stage}
 use Rattle.run_history.specs.WorldLines.{IsLinked}
 use Rattle.run_messages.proofs.Runs.{memberships_of_each_run}
-use Rattle.run_lines.specs.Entries.{Awaits, IsReady, Leaves, NodePresides, PresidesAt, Ties}
+use Rattle.run_lines.specs.Entries.{Awaits, IsReady, Leaves, MayBegin, NodePresides, PresidesAt, Ties}
 use Rattle.run_lines.specs.Laws.{IsAnswered, LinesOfEachRun}
 use Rattle.run_lines.proofs.Answered.{answered, part_answered}
+use Rattle.run_lines.proofs.Begins.{next_may}
 use Rattle.run_lines.proofs.Steps.{due_so}
 
 -- ---- what an event brings may be due
@@ -139,7 +141,7 @@ armed_brings c s (event.CrashAt n calls choice) = refl
 armed_brings c s (event.Fault n d done) = refl
 armed_brings c s _ = refl
 
-armed_moments : (c : Cluster) (s : Scene) (e : Event) → (armed_by c e s).moments ≡ s.moments
+pub armed_moments : (c : Cluster) (s : Scene) (e : Event) → (armed_by c e s).moments ≡ s.moments
 armed_moments c s (event.CrashAt n calls choice) = refl
 armed_moments c s (event.Fault n d done) = refl
 armed_moments c s _ = refl
@@ -166,16 +168,17 @@ part_opens c S s e ties may k = record {
 rounds_end : (c : Cluster) (S : Setting) (s : Scene) → Awaits S s [] → Awaits S (happened c s (Notes schedule.RoundsDone)) []
 rounds_end c S s k = record { ready = tt; events = λ later none. (none, k.events [] refl) }
 
-opens_so : (c : Cluster) (S : Setting) (s : Scene) (in_round : Bool) (h : Happening) → Ties S s → Opens s in_round h → Awaits S s [] → Awaits S (happened c s h) (opened c (happened c s h) h).wants
-opens_so c S s false (Speaks e) ties opens k = line_opens c S s e ties k
-opens_so c S s true (Begins e) ties opens k = part_opens c S s e ties opens k
-opens_so c S s true (Notes e) ties opens k = subst (λ z. Awaits S (happened c s (Notes z)) []) (sym opens) (rounds_end c S s k)
+opens_so : (c : Cluster) (S : Setting) (s : Scene) (rounds : Option Progress) (h : Happening) → Ties S s → Opens s rounds h → Awaits S s []
+    → Awaits S (happened c s h) (opened c (happened c s h) rounds h).wants
+opens_so c S s None (Speaks e) ties opens k = line_opens c S s e ties k
+opens_so c S s (Some p) (Begins e) ties opens k = part_opens c S s e ties (next_may s p e opens) k
+opens_so c S s (Some p) (Notes e) ties opens k = subst (λ z. Awaits S (happened c s (Notes z)) []) (sym opens.0) (rounds_end c S s k)
 opens_so c S s _ _ ties opens k = absurd opens
 
-step_so : (c : Cluster) (S : Setting) (s : Scene) (wants : List Want) (in_round : Bool) (h : Happening) → Ties S s → IsDue s (record { wants = wants; in_round = in_round }) h → Awaits S s wants
-    → Awaits S (happened c s h) (due_after c (happened c s h) (record { wants = wants; in_round = in_round }) h).wants
-step_so c S s [] in_round h ties comes k = opens_so c S s in_round h ties comes k
-step_so c S s (w ∷ wants) in_round h ties comes k = due_so c S s w wants h comes k
+step_so : (c : Cluster) (S : Setting) (s : Scene) (wants : List Want) (rounds : Option Progress) (h : Happening) → Ties S s → IsDue s (record { wants = wants; rounds = rounds }) h → Awaits S s wants
+    → Awaits S (happened c s h) (due_after c (happened c s h) (record { wants = wants; rounds = rounds }) h).wants
+step_so c S s [] rounds h ties comes k = opens_so c S s rounds h ties comes k
+step_so c S s (w ∷ wants) rounds h ties comes k = due_so c S s w wants h comes k
 
 -- ---- the run
 
@@ -210,7 +213,7 @@ run_so h cells S tied [] s d last r may shaped k = subst (λ (z : Due). Awaits S
 run_so h cells S tied (g ∷ hs) s d last r may shaped k =
     let c : Cluster = first_cluster h in
     run_so h cells S tied hs (happened c s g) (due_after c (happened c s g) d g) last (reached_more c (first_scene h cells) s g r may.0) may.1 shaped.1
-    (step_so c S s d.wants d.in_round g (tied s r) shaped.0 k)
+    (step_so c S s d.wants d.rounds g (tied s r) shaped.0 k)
 
 first_awaits : (h : Header) (cells : ℕ) (S : Setting) → Awaits S (first_scene h cells) []
 unfolding first_scene

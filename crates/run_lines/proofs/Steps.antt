@@ -104,7 +104,7 @@ begins_probed n before after f = ap (λ xs. list_any (is_probe n) xs) f.is ∙ a
 abbrev before_telling : Cluster → ℕ → ℕ → method.Outcome → Input → Scene → Scene
 before_telling c n now ends i s = record s { nodes = moved c s.nodes (Takes_in n now ends i) }
 
-taken_adds : (c : Cluster) (n now : ℕ) (ends : method.Outcome) (i : Input) (s : Scene) → Adds s.moments (taking c n now ends i s).moments
+pub taken_adds : (c : Cluster) (n now : ℕ) (ends : method.Outcome) (i : Input) (s : Scene) → Adds s.moments (taking c n now ends i s).moments
 taken_adds c n now ends i s =
     adds_passing n (given_by c n now ends i s.nodes) (before_telling c n now ends i s) (gives_entries c n now ends (s.nodes.node n) (s.nodes.disk n) i)
 
@@ -178,7 +178,7 @@ done_same : (s : Scene) (n d : ℕ) (o : Option Device) (k : PrCommand) → (com
 done_same s n d None k = refl
 done_same s n d (Some x) k = refl
 
-done_adds : (c : Cluster) (s : Scene) (n d now : ℕ) (ends : method.Outcome) (k : PrCommand) (i : Input) → Adds s.moments (taking c n now ends i (commanded s n d k).scene).moments
+pub done_adds : (c : Cluster) (s : Scene) (n d now : ℕ) (ends : method.Outcome) (k : PrCommand) (i : Input) → Adds s.moments (taking c n now ends i (commanded s n d k).scene).moments
 done_adds c s n d now ends k i =
     subst (λ ms. Adds ms (taking c n now ends i (commanded s n d k).scene).moments) (done_same s n d (slice_get s.devices (d - 1)) k) (taken_adds c n now ends i (commanded s n d k).scene)
 

@@ -1,7 +1,10 @@
 -- The entries that what is due leaves, and when it may be due.
-use Rattle.std.specs.Prelude.{ℕ, ◌≡◌, true, List, [], ◌∷◌, Option, None, Some, slice_get}
+use Rattle.std.specs.Prelude.{ℕ, ◌≡◌, true, List, [], ◌∷◌, Option, None, Some, is_some, slice_get}
 use Rattle.std.specs.List.{list_any}
 use Rattle.cl_base.specs.declared.packet.DropCause.TheVariants as drop_cause
+use Rattle.interconnect.specs.Links.{packet_of}
+use Rattle.schedule_text.specs.declared.event.Event.{Event}
+use Rattle.schedule_text.specs.declared.event.Event.TheVariants as event
 use Rattle.status_report.specs.declared.entry.Entry.{Entry}
 use Rattle.status_report.specs.declared.entry.Entry.TheVariants as entry
 use Rattle.status_report.specs.declared.node_entry.DownCause.TheVariants as cause
@@ -20,6 +23,7 @@ use Rattle.node_model.specs.declared.presidency.Presidency.{Presidency}
 use Rattle.node_model.specs.declared.seat.Seat.{Seat}
 use Rattle.node_model.specs.declared.seat.Seat.TheVariants.{Forming, Member}
 use Rattle.refinement.specs.Guards.{IsDown}
+use Rattle.world_model.specs.Devices.{due_at}
 use Rattle.world_model.specs.Lines.{monitors}
 use Rattle.run_history.specs.Happenings.{IsUp}
 use Rattle.run_history.specs.Members.{NodeLines}
@@ -70,6 +74,13 @@ IsReady s (want.Take n input.CommandDue ∷ wants) = wants ≡ want.Command n �
 IsReady s (want.Take n (input.Reported resource good) ∷ wants) = (monitors resource (Some (s.nodes.node n)) ≡ true) × (wants ≡ [])
 IsReady s (want.Take n i ∷ wants) = IsUp (s.nodes.node n) × (wants ≡ [])
 IsReady s (w ∷ wants) = wants ≡ []
+
+-- a part is never skipped: a packet in flight comes, a node that is up ticks, and does a command that is due
+abbrev pub MayBegin : Scene → Event → Type 0
+MayBegin s (event.Deliver number) = is_some (packet_of s.links.packets number) ≡ true
+MayBegin s (event.Tick n) = IsUp (s.nodes.node n)
+MayBegin s (event.Disk n) = is_some (due_at (Some (s.nodes.node n))) ≡ true
+MayBegin s _ = ⊥
 
 -- each event is answered, once what is due has come
 pub record Awaits (S : Setting) (s : Scene) (wants : List Want) : Type 0 where

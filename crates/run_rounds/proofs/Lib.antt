@@ -1,0 +1,11 @@
+pub mod Numbers
+pub mod Rising
+pub mod Links
+pub mod Agree
+pub mod Next
+pub mod Tells
+pub mod Adds
+pub mod Owns
+pub mod Downs
+pub mod Walk
+pub mod Runs
