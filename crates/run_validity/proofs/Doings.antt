@@ -1,0 +1,367 @@
+-- The small steps of a node, one after another.
+use Rattle.std.specs.Prelude.{ℕ, ◌≡◌, ◌≢◌, ◌<◌, ◌≤◌, ◌⊎◌, ◌+◌, ◌==◌, ◌++◌, All, Bool, true, false, List, [], ◌∷◌, length}
+use Rattle.std.proofs.Common.{refl, sym, ap, subst, ◌∙◌, inl, inr, arith}
+use Rattle.cl_base.specs.Sets.{has, set_with}
+use Rattle.cl_base.specs.declared.header.Header.{Header}
+use Rattle.cl_base.specs.declared.panic.Panic.TheVariants as panic
+use Rattle.cmm_attempt.specs.Calls.{IsDevice}
+use Rattle.cmm_member.specs.Nodes.{NodeState, with_joined}
+use Rattle.cmm_member.specs.Records.{NodeRecord}
+use Rattle.device_queue.specs.Queue.{progress_after}
+use Rattle.device_queue.specs.declared.progress.Progress.TheVariants.{Joined}
+use Rattle.membership_machine.specs.Invariant.{Holds}
+use Rattle.membership_machine.specs.State.{Memberships}
+use Rattle.pgr_device.specs.declared.command.PrCommand.{PrCommand}
+use Rattle.pgr_device.specs.declared.command.PrCommand.TheVariants as command
+use Rattle.seize.specs.Answers.{Answer}
+use Rattle.seize.specs.declared.kind.JoinResult.TheVariants as end
+use Rattle.status_report.specs.declared.device_entry.DeviceEntry.TheVariants as device_entry
+use Rattle.status_report.specs.declared.entry.Entry.{Entry}
+use Rattle.status_report.specs.declared.entry.Entry.TheVariants as entry
+use Rattle.status_report.specs.declared.node_entry.DownCause.{DownCause}
+use Rattle.status_report.specs.declared.node_entry.DownCause.TheVariants as cause
+use Rattle.status_report.specs.declared.node_entry.NodeEntry.TheVariants as note
+use Rattle.status_report.specs.declared.update_entry.UpdateEntry.TheVariants as update_entry
+use Rattle.ccr_commit.specs.Entries.{texts_of}
+use Rattle.history.specs.Moment.{Moment}
+use Rattle.history.specs.Trace.{down}
+use Rattle.history.specs.Validated.{Open}
+use Rattle.node_model.specs.Devices.{answer_told}
+use Rattle.node_model.specs.Seats.{installed_of, promised_of, record_of, session_of, state_of}
+use Rattle.node_model.specs.declared.cluster.Cluster.{Cluster}
+use Rattle.node_model.specs.declared.node.Node.{Node}
+use Rattle.node_model.specs.declared.node.Node.TheVariants.{Down, Up}
+use Rattle.node_model.specs.declared.node.UpNode.{UpNode}
+use Rattle.node_model.specs.declared.output.Output.{Output}
+use Rattle.refinement.proofs.Acts.{does_one}
+use Rattle.refinement.proofs.Changes.{sees}
+use Rattle.refinement.proofs.Facts.{facts_of, joins_one}
+use Rattle.refinement.proofs.Ties.{known_stays}
+use Rattle.refinement.specs.Doings.{Act, Change, Doing, Site, acted, after_all, answered_so, changed, effect, first_lines, given_all, gives, gone_line, last_lines, of_node, said, site}
+use Rattle.refinement.specs.Doings.Act.{Makes, Takes}
+use Rattle.refinement.specs.Doings.Change.{Acks, Admits, Commits, Counts, Distrusts, Installs, Leads, Prepares, Promises, Proposes, Sits, Starts}
+use Rattle.refinement.specs.Doings.Doing.{Comes_up, Does, Forgets, Goes_down, Loses, Saves}
+use Rattle.refinement.specs.Events.{of_doing}
+use Rattle.refinement.specs.Facts.{JoinsFit, JoinsIn}
+use Rattle.refinement.specs.Guards.{May, MayAct, MayAll, MayChange}
+use Rattle.refinement.specs.Runs.{Nodes}
+use Rattle.refinement.specs.Ties.{Delivered, GoesOn, Known, NodeTied, SiteTied, setting_of}
+use Rattle.refinement.specs.Worlds.{AllFit}
+use Rattle.run_history.proofs.Changes.{At}
+use Rattle.run_history.proofs.Ups.{same_state}
+use Rattle.run_history.proofs.Walk.{passing_append}
+use Rattle.run_history.specs.Guards.{Hand, MadeAt, hand_after}
+use Rattle.run_history.specs.Marks.{ActSo, AllSo, DoingSo}
+use Rattle.run_history.specs.Scenes.{Scene, passing, telling}
+use Rattle.run_records.specs.Losses.{AllApart, DoingApart, IsLoss}
+use Rattle.run_seizings.proofs.Acts.{ActMay}
+use Rattle.run_seizings.proofs.Asked.{AllMay, DoingMay, SavesSo}
+use Rattle.run_seizings.proofs.Changes.{IsPromise, NoCollect, fit_parts}
+use Rattle.run_seizings.proofs.Progress.{if_so, same_is}
+use Rattle.run_validity.specs.Kept.{Excuse, NoExcuse, SiteSo, readying}
+use Rattle.run_validity.specs.Laws.{Agrees, told_validity}
+use Rattle.run_validity.proofs.Acts.{act_goes, strict}
+use Rattle.run_validity.proofs.Answers.{IsFirst, NotJoined, admitted_valid, line_of, taken_up, taken_valid}
+use Rattle.run_validity.proofs.Changes.{IsPlain, counts_go, joins_go, leads_go, mid_goes, plain_goes, promises_go}
+use Rattle.run_validity.proofs.Courses.{AllTrust, DoingTrusts, TrustsAct, TrustsChange}
+use Rattle.run_validity.proofs.Goes.{Goes, goes_at, line_goes}
+use Rattle.run_validity.proofs.Stills.{IsAside}
+
+-- ---- what is known of small steps
+
+abbrev pub DoingLost : Doing → Type 0
+DoingLost (Loses ch why) = IsLoss why
+DoingLost (Forgets ch why) = IsLoss why
+DoingLost _ = Unit {0}
+
+abbrev pub AllLost : List Doing → Type 0
+AllLost [] = Unit {0}
+AllLost (d ∷ ds) = DoingLost d × AllLost ds
+
+doing_lost : (told : Delivered) (d : Doing) → DoingApart told d → DoingLost d
+doing_lost told (Loses ch why) k = k
+doing_lost told (Forgets ch why) k = k
+doing_lost told _ k = tt
+
+pub all_lost : (told : Delivered) (ds : List Doing) → AllApart told ds → AllLost ds
+all_lost told [] k = tt
+all_lost told (d ∷ ds) k = (doing_lost told d k.0, all_lost told ds k.1)
+
+pub record Small (h : Header) (c : Cluster) (n : ℕ) (told : Delivered) (g : Hand) (x : Site) (ds : List Doing) : Type 0 where
+  pub may : MayAll c n told x ds
+  pub so : AllSo ds
+  pub guard : AllMay h c n told g x ds
+  pub lost : AllLost ds
+  pub fit : AllFit n (given_all c n x ds)
+
+pub small_rest : (h : Header) (c : Cluster) (n : ℕ) (told : Delivered) (g : Hand) (x : Site) (d : Doing) (ds : List Doing) → Small h c n told g x (d ∷ ds)
+    → Small h c n told (hand_after g d) (effect c n x d) ds
+small_rest h c n told g x d ds k =
+    record { may = k.may.1; so = k.so.1; guard = k.guard.1; lost = k.lost.1; fit = (fit_parts n (gives c n x d) (given_all c n (effect c n x d) ds) k.fit).1 }
+
+-- ---- a node goes down, or comes up
+
+crash_told : (h : Header) (ms : List Moment) (n d : ℕ) (b : Bool) (why : DownCause) → Agrees (told_validity h n d ms) b → Agrees (told_validity h n d (down n why ∷ ms)) b
+crash_told h ms n d b cause.Crash k = k
+crash_told h ms n d b cause.Stopped k = subst (λ v. Agrees v b) (sym (if_so (n == n) Open (told_validity h n d ms) (same_is n))) tt
+crash_told h ms n d b (cause.Panic panic.Disk) k = subst (λ v. Agrees v b) (sym (if_so (n == n) Open (told_validity h n d ms) (same_is n))) tt
+crash_told h ms n d b (cause.Panic (panic.Fenced e)) k = k
+crash_told h ms n d b (cause.Panic (panic.Excluded q)) k = k
+crash_told h ms n d b (cause.Panic (panic.Stop r)) k = k
+
+-- of a save that was lost nothing is told
+loss_told : (h : Header) (ms : List Moment) (n d : ℕ) (b : Bool) (why : DownCause) → IsLoss why → Agrees (told_validity h n d (down n why ∷ ms)) b
+loss_told h ms n d b cause.Stopped is = subst (λ v. Agrees v b) (sym (if_so (n == n) Open (told_validity h n d ms) (same_is n))) tt
+loss_told h ms n d b (cause.Panic panic.Disk) is = subst (λ v. Agrees v b) (sym (if_so (n == n) Open (told_validity h n d ms) (same_is n))) tt
+loss_told h ms n d b cause.Crash is = absurd is
+loss_told h ms n d b (cause.Panic (panic.Fenced e)) is = absurd is
+loss_told h ms n d b (cause.Panic (panic.Excluded q)) is = absurd is
+loss_told h ms n d b (cause.Panic (panic.Stop r)) is = absurd is
+
+gone_goes : (h : Header) (n : ℕ) (told : Delivered) (v w : Nodes) (disk : NodeRecord) (x : UpNode) (why : DownCause) (s : Scene) → Goes h n told v w NoExcuse (site (Up x) disk) s
+    → Goes h n told v w NoExcuse (site Down disk) (passing n (gone_line n why) s)
+gone_goes h n told v w disk x why s k =
+    line_goes h n told v w NoExcuse NoExcuse (site (Up x) disk) (site Down disk) s (entry.Node n (note.Down why)) tt (λ j ne is. ne (sym is)) (record {
+      valid = λ d is. inl (crash_told h s.moments n d (has disk.valid d) why (strict (Agrees (told_validity h n d s.moments) (has disk.valid d)) (k.here.valid d is)));
+      up = tt;
+    }) k
+
+-- whatever its record was, and is
+abbrev AnyExcuse : Excuse
+AnyExcuse d = Unit {0}
+
+any_site : (h : Header) (ms : List Moment) (n : ℕ) (new : NodeRecord) → SiteSo h ms n AnyExcuse (site Down new)
+any_site h ms n new = record { valid = λ d is. inr tt; up = tt }
+
+lost_line : (h : Header) (n : ℕ) (told : Delivered) (v w : Nodes) (new : NodeRecord) (why : DownCause) (s : Scene) → IsLoss why → Goes h n told v w AnyExcuse (site Down new) s
+    → Goes h n told v w NoExcuse (site Down new) (passing n (gone_line n why) s)
+lost_line h n told v w new why s loss k =
+    line_goes h n told v w AnyExcuse NoExcuse (site Down new) (site Down new) s (entry.Node n (note.Down why)) tt (λ j ne is. ne (sym is))
+    (record { valid = λ d is. inl (loss_told h s.moments n d (has new.valid d) why loss); up = tt }) k
+
+-- a command of n leaves the others
+own_command : (k n : ℕ) (c : PrCommand) → k ≢ n → IsAside k n c
+own_command k n (command.Ignore new) ne = λ is. ne (sym is)
+own_command k n command.Word ne = λ is. ne (sym is)
+own_command k n command.Keys ne = tt
+own_command k n (command.Reserve kind key) ne = tt
+own_command k n (command.Register key new) ne = tt
+own_command k n (command.Release kind key) ne = tt
+own_command k n (command.Clear key) ne = tt
+own_command k n (command.Preempt kind key victim) ne = tt
+own_command k n command.Holder ne = tt
+own_command k n command.Read ne = tt
+own_command k n (command.Write value) ne = tt
+own_command k n (command.Swap expect new) ne = tt
+
+pub lost_goes : (h : Header) (n : ℕ) (told : Delivered) (v w : Nodes) (e : Excuse) (x : Site) (new : NodeRecord) (ch : Change) (why : DownCause) (s : Scene) → IsLoss why
+    → Goes h n told v w e x s → Goes h n told v w NoExcuse (site Down new) (passing n (first_lines n ch ++ gone_line n why) s)
+lost_goes h n told v w e x new ch why s loss k = by_change ch
+  where
+    any : Goes h n told v w AnyExcuse (site Down new) s
+    any = goes_at h n told v w e AnyExcuse x (site Down new) s (any_site h s.moments n new) k
+
+    more : (z : Entry) → Goes h n told v w AnyExcuse (site Down new) (telling z s) → Goes h n told v w NoExcuse (site Down new) (passing n (gone_line n why) (telling z s))
+    more z l = lost_line h n told v w new why (telling z s) loss l
+
+    none : Goes h n told v w NoExcuse (site Down new) (passing n (gone_line n why) s)
+    none = lost_line h n told v w new why s loss any
+
+    by_change : (ch : Change) → Goes h n told v w NoExcuse (site Down new) (passing n (first_lines n ch ++ gone_line n why) s)
+    by_change (Admits at q a d) =
+        let z : Entry = entry.Device (device_entry.Command n at q (answer_told a)) in
+        more z (line_goes h n told v w AnyExcuse AnyExcuse (site Down new) (site Down new) s z tt (λ j ne. own_command j n q ne) (any_site h (telling z s).moments n new) any)
+    by_change (Proposes y p text) =
+        let z : Entry = entry.Update (update_entry.Proposed y.session (length (texts_of y.saved.entries) + 1) text) in
+        more z (line_goes h n told v w AnyExcuse AnyExcuse (site Down new) (site Down new) s z tt (λ j ne. tt) (any_site h (telling z s).moments n new) any)
+    by_change (Promises p) = none
+    by_change (Leads p members) = none
+    by_change (Counts a q y i) = none
+    by_change (Installs y i) = none
+    by_change (Starts a q y) = none
+    by_change (Sits y p) = none
+    by_change (Distrusts d) = none
+    by_change (Acks y p q left text) = none
+    by_change (Prepares y text) = none
+    by_change (Commits y) = none
+
+none_below : 0 < 0 → ⊥
+none_below e = omega (arith, e)
+
+up_goes : (h : Header) (c : Cluster) (n : ℕ) (told : Delivered) (v w : Nodes) (disk : NodeRecord) (s : Scene) → Goes h n told v w NoExcuse (site Down disk) s
+    → Goes h n told v w NoExcuse (effect c n (site Down disk) Comes_up) (passing n (of_node n note.Up ∷ []) s)
+up_goes h c n told v w disk s k =
+    line_goes h n told v w NoExcuse NoExcuse (site Down disk) (effect c n (site Down disk) Comes_up) s (entry.Node n note.Up) tt (λ j ne. tt)
+    (record { valid = k.here.valid; up = record { moved = λ some. absurd (none_below some); tasks = tt } }) k
+
+-- ---- each small step, but the readying and the answer to a command
+
+made_plain : (ch : Change) → MadeAt ch → IsPlain ch
+made_plain (Starts a q y) made = tt
+made_plain (Sits y e) made = tt
+made_plain (Promises p) made = absurd made
+made_plain (Leads p members) made = absurd made
+made_plain (Counts a q y i) made = absurd made
+made_plain (Installs y i) made = absurd made
+made_plain (Distrusts d) made = absurd made
+made_plain (Admits on command a d) made = absurd made
+made_plain (Proposes y p text) made = absurd made
+made_plain (Acks y p q left text) made = absurd made
+made_plain (Prepares y text) made = absurd made
+made_plain (Commits y) made = absurd made
+
+no_truth : false ≡ true → ⊥
+no_truth e = cc
+
+does_goes : (h : Header) (c : Cluster) (n : ℕ) (told : Delivered) (v w : Nodes) (disk : NodeRecord) (x : UpNode) (g : Hand) (a : Act) (s : Scene) → disk ≡ record_of x
+    → MayAct c n told x a → ActSo a → ActMay h n told g x a → TrustsAct a → AllFit n (said c n x a) → Goes h n told v w NoExcuse (site (Up x) disk) s
+    → Goes h n told v w NoExcuse (site (Up (acted c n x a)) disk) (passing n (said c n x a) s)
+does_goes h c n told v w disk x g (Makes ch) s same may so guard trusts fit k =
+    plain_goes h c n told v w disk disk x ch false s same (same ∙ sym may.1) may.0 (made_plain ch guard) (λ e. absurd (no_truth e)) fit k
+does_goes h c n told v w disk x g (Takes at q a) s same may so guard trusts fit k = absurd trusts
+does_goes h c n told v w disk x g a s same may so guard trusts fit k = act_goes h c n told v w disk x g a s same may so guard tt fit k
+
+saves_goes : (h : Header) (c : Cluster) (M : Memberships) (n : ℕ) (told : Delivered) (v w : Nodes) (disk : NodeRecord) (x : UpNode) (ch : Change) (s : Scene) → At c M n told disk x
+    → disk ≡ record_of x → installed_of x ≤ promised_of x → MayChange c n told x ch → SavesSo told ch → TrustsChange ch → AllFit n (gives c n (site (Up x) disk) (Saves ch))
+    → Goes h n told v w NoExcuse (site (Up x) disk) s → Goes h n told v w NoExcuse (effect c n (site (Up x) disk) (Saves ch)) (passing n (gives c n (site (Up x) disk) (Saves ch)) s)
+saves_goes h c M n told v w disk x ch s at same order may saves trusts fit k = by_change ch may saves trusts fit
+  where
+    calm : (ch : Change) → (IsPromise ch → ⊥) → SavesSo told ch → true ≡ true → NoCollect told
+    calm ch other (inl promise) is = absurd (other promise)
+    calm ch other (inr none) is = none
+
+    plainly : (ch : Change) → IsPlain ch → (IsPromise ch → ⊥) → MayChange c n told x ch → SavesSo told ch → AllFit n (gives c n (site (Up x) disk) (Saves ch))
+        → Goes h n told v w NoExcuse (effect c n (site (Up x) disk) (Saves ch)) (passing n (gives c n (site (Up x) disk) (Saves ch)) s)
+    plainly ch is other m q f = plain_goes h c n told v w disk (record_of (changed c n x ch)) x ch true s same refl m is (calm ch other q) f k
+
+    by_change : (ch : Change) → MayChange c n told x ch → SavesSo told ch → TrustsChange ch → AllFit n (gives c n (site (Up x) disk) (Saves ch))
+        → Goes h n told v w NoExcuse (effect c n (site (Up x) disk) (Saves ch)) (passing n (gives c n (site (Up x) disk) (Saves ch)) s)
+    by_change (Promises p) m q t f = promises_go h c n told v w disk x p s same order m f k
+    by_change (Leads p members) m q t f = leads_go h c n told v w disk x p members true s same order m (calm (Leads p members) (λ z. z) q) f k
+    by_change (Counts a j y i) m q t f = counts_go h c M n told v w disk x a j y i true s at m (calm (Counts a j y i) (λ z. z) q) k
+    by_change (Installs y i) m q t f = joins_go h c n told v w disk x y i true s m (calm (Installs y i) (λ z. z) q) k
+    by_change (Starts a j y) m q t f = plainly (Starts a j y) tt (λ z. z) m q f
+    by_change (Sits y p) m q t f = plainly (Sits y p) tt (λ z. z) m q f
+    by_change (Proposes y p text) m q t f = plainly (Proposes y p text) tt (λ z. z) m q f
+    by_change (Acks y p j left text) m q t f = plainly (Acks y p j left text) tt (λ z. z) m q f
+    by_change (Prepares y text) m q t f = plainly (Prepares y text) tt (λ z. z) m q f
+    by_change (Commits y) m q t f = plainly (Commits y) tt (λ z. z) m q f
+    by_change (Distrusts d) m q t f = absurd t
+    by_change (Admits on command a d) m q t f = absurd t
+
+-- what is known of the machine
+pub record Ready (c : Cluster) (M : Memberships) (n : ℕ) (told : Delivered) (x : Site) : Type 0 where
+  pub fits : All IsDevice c.attached
+  pub holds : Holds (setting_of c) M
+  pub known : Known M told
+  pub tied : SiteTied c M n x
+  pub joins : JoinsIn x.node
+
+abbrev Done : Header → Cluster → ℕ → Delivered → Nodes → Nodes → Site → Doing → Scene → Type 0
+Done h c n told v w x d s = Goes h n told v w NoExcuse (effect c n x d) (passing n (gives c n x d) s)
+
+up_done : (h : Header) (c : Cluster) (M : Memberships) (n : ℕ) (told : Delivered) (v w : Nodes) (disk : NodeRecord) (x : UpNode) (g : Hand) (d : Doing) (s : Scene)
+    → Ready c M n told (site (Up x) disk) → May c n told (site (Up x) disk) d → DoingSo d → DoingMay h n told g (site (Up x) disk) d → DoingTrusts d → DoingLost d
+    → AllFit n (gives c n (site (Up x) disk) d) → Goes h n told v w NoExcuse (site (Up x) disk) s → Done h c n told v w (site (Up x) disk) d s
+up_done h c M n told v w disk x g Comes_up s r may so guard trusts loses fit k = absurd may
+up_done h c M n told v w disk x g (Goes_down why) s r may so guard trusts loses fit k = gone_goes h n told v w disk x why s k
+up_done h c M n told v w disk x g (Does a) s r may so guard trusts loses fit k =
+    does_goes h c n told v w disk x g a s (sees c M n disk x.attempt x.seat r.tied.0).disk_so may so guard trusts fit k
+up_done h c M n told v w disk x g (Saves ch) s r may so guard trusts loses fit k =
+    saves_goes h c M n told v w disk x ch s (record { holds = r.holds; known = r.known; tied = r.tied }) (sees c M n disk x.attempt x.seat r.tied.0).disk_so
+    (facts_of c M n disk x r.holds r.tied r.joins).order may guard.1 trusts fit k
+up_done h c M n told v w disk x g (Loses ch why) s r may so guard trusts loses fit k =
+    lost_goes h n told v w NoExcuse (site (Up x) disk) (record_of (changed c n x ch)) ch why s loses k
+up_done h c M n told v w disk x g (Forgets ch why) s r may so guard trusts loses fit k = lost_goes h n told v w NoExcuse (site (Up x) disk) disk ch why s loses k
+
+down_done : (h : Header) (c : Cluster) (n : ℕ) (told : Delivered) (v w : Nodes) (disk : NodeRecord) (d : Doing) (s : Scene) → May c n told (site Down disk) d
+    → Goes h n told v w NoExcuse (site Down disk) s → Done h c n told v w (site Down disk) d s
+down_done h c n told v w disk Comes_up s may k = up_goes h c n told v w disk s k
+down_done h c n told v w disk (Goes_down why) s may k = absurd may
+down_done h c n told v w disk (Does a) s may k = absurd may
+down_done h c n told v w disk (Saves ch) s may k = absurd may
+down_done h c n told v w disk (Loses ch why) s may k = absurd may
+down_done h c n told v w disk (Forgets ch why) s may k = absurd may
+
+doing_done : (h : Header) (c : Cluster) (M : Memberships) (n : ℕ) (told : Delivered) (v w : Nodes) (x : Site) (g : Hand) (d : Doing) (s : Scene)
+    → Ready c M n told x → May c n told x d → DoingSo d → DoingMay h n told g x d → DoingTrusts d → DoingLost d → AllFit n (gives c n x d)
+    → Goes h n told v w NoExcuse x s → Done h c n told v w x d s
+doing_done h c M n told v w x g d s r may so guard trusts loses fit k = by_node x.node r may guard fit k
+  where
+    by_node : (node : Node) → Ready c M n told (site node x.disk) → May c n told (site node x.disk) d → DoingMay h n told g (site node x.disk) d
+        → AllFit n (gives c n (site node x.disk) d) → Goes h n told v w NoExcuse (site node x.disk) s → Done h c n told v w (site node x.disk) d s
+    by_node Down z m e f l = down_done h c n told v w x.disk d s m l
+    by_node (Up y) z m e f l = up_done h c M n told v w x.disk y g d s z m so e trusts loses f l
+
+-- ---- one after another
+
+pub record Next (c : Cluster) (n : ℕ) (told : Delivered) (y : Site) : Type 0 where
+  pub machine : Memberships
+  pub ready : Ready c machine n told y
+
+pub next_of : (c : Cluster) (M : Memberships) (n : ℕ) (told : Delivered) (x : Site) (d : Doing) → Ready c M n told x → May c n told x d → Next c n told (effect c n x d)
+next_of c M n told x d r may =
+    let o : GoesOn c M n (effect c n x d) (gives c n x d) (of_doing n d) = does_one c M n told x d r.fits r.holds r.known r.tied may in
+    record {
+      machine = o.machine;
+      ready = record {
+        fits = r.fits;
+        holds = o.holds;
+        known = known_stays c M o.machine told r.holds o.grows r.known;
+        tied = o.tied;
+        joins = joins_one c M n told x.node x.disk d r.holds r.tied r.joins may;
+      };
+    }
+
+pub all_go : (h : Header) (c : Cluster) (M : Memberships) (n : ℕ) (told : Delivered) (v w : Nodes) (x : Site) (g : Hand) (ds : List Doing) (s : Scene) → Ready c M n told x
+    → Small h c n told g x ds → AllTrust ds → Goes h n told v w NoExcuse x s
+    → Goes h n told v w NoExcuse (after_all c n x ds) (passing n (given_all c n x ds) s)
+all_go h c M n told v w x g [] s r small trusts k = k
+all_go h c M n told v w x g (d ∷ ds) s r small trusts k =
+    let first : List Output = gives c n x d in
+    let rest : List Output = given_all c n (effect c n x d) ds in
+    let parts : AllFit n first × AllFit n rest = fit_parts n first rest small.fit in
+    let z : Next c n told (effect c n x d) = next_of c M n told x d r small.may.0 in
+    let one : Goes h n told v w NoExcuse (effect c n x d) (passing n first s) =
+    doing_done h c M n told v w x g d s r small.may.0 small.so.0 small.guard.0 trusts.0 small.lost.0 parts.0 k in
+    subst (λ t. Goes h n told v w NoExcuse (after_all c n (effect c n x d) ds) t) (sym (passing_append n first rest s))
+    (all_go h c z.machine n told v w (effect c n x d) (hand_after g d) ds (passing n first s) z.ready (small_rest h c n told g x d ds small) trusts.1 one)
+
+-- the rest goes on behind the first
+pub rest_go : (h : Header) (c : Cluster) (M : Memberships) (n : ℕ) (told : Delivered) (v w : Nodes) (x : Site) (g : Hand) (d : Doing) (ds : List Doing) (s : Scene) → Ready c M n told x
+    → Small h c n told g x (d ∷ ds) → AllTrust ds → Goes h n told v w NoExcuse (effect c n x d) (passing n (gives c n x d) s)
+    → Goes h n told v w NoExcuse (after_all c n x (d ∷ ds)) (passing n (given_all c n x (d ∷ ds)) s)
+rest_go h c M n told v w x g d ds s r small trusts k =
+    let z : Next c n told (effect c n x d) = next_of c M n told x d r small.may.0 in
+    subst (λ t. Goes h n told v w NoExcuse (after_all c n (effect c n x d) ds) t) (sym (passing_append n (gives c n x d) (given_all c n (effect c n x d) ds) s))
+    (all_go h c z.machine n told v w (effect c n x d) (hand_after g d) ds (passing n (gives c n x d) s) z.ready (small_rest h c n told g x d ds small) trusts k)
+
+-- ---- the answer to a command
+
+pub takes_goes : (h : Header) (c : Cluster) (n : ℕ) (told : Delivered) (v w : Nodes) (disk : NodeRecord) (x : UpNode) (at : ℕ) (k : PrCommand) (a : Answer) (s : Scene)
+    → disk ≡ record_of x → IsFirst x at k → NotJoined (progress_after x.tasks a) → Goes h n told v w (readying (site (Up x) disk)) (site (Up x) disk) s
+    → Goes h n told v w NoExcuse (site (Up (answered_so x a)) disk) (passing n (said c n x (Takes at k a)) s)
+takes_goes h c n told v w disk x at k a s same f ban l =
+    let z : Entry = entry.Device (device_entry.Command n at k (answer_told a)) in
+    line_goes h n told v w (readying (site (Up x) disk)) NoExcuse (site (Up x) disk) (site (Up (answered_so x a)) disk) s z tt (λ j ne. own_command j n k ne) (record {
+      valid = λ d is. inl (taken_valid h s.moments n at d x disk k a same f ban l.here.up (l.here.valid d is));
+      up = taken_up s.moments n at x (answered_so x a) k a f refl refl refl l.here.up;
+    }) l
+
+pub admits_goes : (h : Header) (c : Cluster) (n : ℕ) (told : Delivered) (v w : Nodes) (disk : NodeRecord) (x : UpNode) (at : ℕ) (k : PrCommand) (a : Answer) (d : ℕ) (s : Scene)
+    → disk ≡ record_of x → NoCollect told → IsFirst x at k → progress_after x.tasks a ≡ Joined d end.Joined → Goes h n told v w (readying (site (Up x) disk)) (site (Up x) disk) s
+    → Goes h n told v w NoExcuse (effect c n (site (Up x) disk) (Saves (Admits at k a d))) (passing n (gives c n (site (Up x) disk) (Saves (Admits at k a d))) s)
+admits_goes h c n told v w disk x at k a d s same calm f joined l =
+    let z : Entry = entry.Device (device_entry.Command n at k (answer_told a)) in
+    let y : UpNode = changed c n x (Admits at k a d) in
+    let t : NodeState = with_joined (state_of (answered_so x a).seat) d in
+    let state : state_of y.seat ≡ t = same_state (answered_so x a).seat t in
+    let new : NodeRecord = record_of y in
+    let valid : set_with disk.valid d ≡ new.valid = ap (λ (r : NodeRecord). set_with r.valid d) same ∙ sym (ap (λ (u : NodeState). u.saved.valid) state) in
+    mid_goes h n told v w y new (telling z s) true (λ is. calm)
+    (line_goes h n told v w (readying (site (Up x) disk)) NoExcuse (site (Up x) disk) (site (Up y) new) s z tt (λ j ne. own_command j n k ne) (record {
+      valid = λ e is.
+          inl (subst (λ r. Agrees (told_validity h n e (line_of n at k a ∷ s.moments)) (has r e)) valid
+          (admitted_valid h s.moments n at e d x disk k a same f joined l.here.up (l.here.valid e is)));
+      up = taken_up s.moments n at x y k a f (ap (λ (u : NodeState). u.session) state) (ap (λ (u : NodeState). u.saved.installed) state) refl l.here.up;
+    }) l)
