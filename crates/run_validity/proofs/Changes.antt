@@ -76,7 +76,7 @@ and_not : (a b : Bool) → b ≡ false → (a && b) ≡ false
 and_not true b h = h
 and_not false b h = refl
 
-saved_still : (h : Header) (ms : List Moment) (n : ℕ) → in_collect n ms ≡ false → Still h ms n (saved n)
+pub saved_still : (h : Header) (ms : List Moment) (n : ℕ) → in_collect n ms ≡ false → Still h ms n (saved n)
 saved_still h ms n calm = record {
   valid = λ d. refl;
   moved = or_not ((n == n) && in_collect n ms) (moved_on n ms) (and_not (n == n) (in_collect n ms) calm);

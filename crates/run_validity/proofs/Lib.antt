@@ -6,3 +6,4 @@ pub mod Changes
 pub mod Answers
 pub mod Courses
 pub mod Doings
+pub mod Steps
