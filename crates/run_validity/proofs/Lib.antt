@@ -7,3 +7,6 @@ pub mod Answers
 pub mod Courses
 pub mod Doings
 pub mod Steps
+pub mod Dues
+pub mod First
+pub mod Moments
