@@ -10,3 +10,5 @@ pub mod Steps
 pub mod Dues
 pub mod First
 pub mod Moments
+pub mod Histories
+pub mod Runs
