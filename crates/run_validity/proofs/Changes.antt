@@ -5,6 +5,7 @@ use Rattle.std.proofs.Common.{refl, sym, ap, subst, ◌∙◌, inl, inr, arith}
 use Rattle.attempt_laws.proofs.Goes.{chosen_reached, goes_by_call}
 use Rattle.attempt_laws.proofs.Stays.{plan_stays}
 use Rattle.ccr_commit.specs.Entries.{all_committed, texts_of, with_next}
+use Rattle.cl_base.specs.Limits.{most_devices}
 use Rattle.cl_base.specs.Sets.{has}
 use Rattle.cl_base.specs.declared.header.Header.{Header}
 use Rattle.cmm_attempt.proofs.Basics.{if_either}
@@ -34,7 +35,7 @@ use Rattle.history.specs.Member.{in_collect, last_installed}
 use Rattle.history.specs.Moment.{Moment, Told}
 use Rattle.history.specs.Setting.{coordinator}
 use Rattle.history.specs.Trace.{attempt, installed, saved}
-use Rattle.history.specs.Validated.{Open, moved_on}
+use Rattle.history.specs.Validated.{moved_on}
 use Rattle.node_model.specs.Attempts.{base_lines, is_to_join, joining_from, joining_with, starting_as}
 use Rattle.node_model.specs.Entries.{unknown_lines}
 use Rattle.node_model.specs.Members.{rested_by}
@@ -62,8 +63,9 @@ use Rattle.run_seizings.proofs.Progress.{if_so, or_left, same_is}
 use Rattle.run_seizings.proofs.Promising.{After, and_both, same_so}
 use Rattle.run_validity.specs.Kept.{JoinSo, MovedSo, NoExcuse, SiteSo, TaskSo, UpSo, WorkSo}
 use Rattle.run_validity.specs.Laws.{Agrees, told_validity}
-use Rattle.run_validity.proofs.Acts.{up_same}
+use Rattle.run_validity.proofs.Acts.{strict, up_same}
 use Rattle.run_validity.proofs.Goes.{AreMild, Goes, HandSo, HasCollect, IsCollect, goes_at, line_goes, mild_append, mild_goes, outputs_go}
+use Rattle.run_validity.proofs.Installs.{Brings, install_told, mid_brings}
 use Rattle.run_validity.proofs.Mild.{adopted_mild, bases_mild, superseded_mild, unknown_mild}
 use Rattle.run_validity.proofs.Stills.{Still, entered_more, or_not, site_stays, task_stays}
 
@@ -294,16 +296,13 @@ none_tasks : (ms after : List Moment) (n q e r f : ℕ) (ts : List Task) → (q 
 none_tasks ms after n q e r f [] ban k = tt
 none_tasks ms after n q e r f (t ∷ ts) ban k = (none_work ms after n q e r f t.device t.work ban k.0, none_tasks ms after n q e r f ts ban k.1)
 
--- what an install brings is open
-open_now : (h : Header) (ms : List Moment) (n d e : ℕ) (b : Bool) → Agrees (told_validity h n d (installed n e ∷ ms)) b
-open_now h ms n d e b = subst (λ v. Agrees v b) (sym (if_so (n == n) Open (told_validity h n d ms) (same_is n))) tt
-
 installed_so : (h : Header) (n e : ℕ) (told : Delivered) (v w : Nodes) (x y : UpNode) (disk new : NodeRecord) (s : Scene) → e ≡ session_of y → e ≡ installed_of y
+    → ((d : ℕ) → IsDevice h d → Agrees (told_validity h n d s.moments) (has disk.valid d) → Agrees (told_validity h n d (installed n e ∷ s.moments)) (has new.valid d))
     → (UpSo s.moments n x → AllByRecursion (TaskSo (installed n e ∷ s.moments) n (session_of y) (installed_of y)) y.tasks) → Goes h n told v w NoExcuse (site (Up x) disk) s
     → Goes h n told v w NoExcuse (site (Up y) new) (telling (entry.Node n (note.Installed e)) s)
-installed_so h n e told v w x y disk new s session here tasks k =
+installed_so h n e told v w x y disk new s session here valid tasks k =
     line_goes h n told v w NoExcuse NoExcuse (site (Up x) disk) (site (Up y) new) s (entry.Node n (note.Installed e)) tt (λ j ne is. ne (sym is)) (record {
-      valid = λ d is. inl (open_now h s.moments n d e (has new.valid d));
+      valid = λ d is. inl (valid d is (strict (Agrees (told_validity h n d s.moments) (has disk.valid d)) (k.here.valid d is)));
       up = record {
         moved = λ some. record {
           stands = λ is. (if_so (n == n) false (moved_on n s.moments) (same_is n), if_so (n == n) e (last_installed n s.moments) (same_is n) ∙ session);
@@ -314,9 +313,10 @@ installed_so h n e told v w x y disk new s session here tasks k =
     }) k
 
 pub counts_go : (h : Header) (c : Cluster) (M : Memberships) (n : ℕ) (told : Delivered) (v w : Nodes) (disk : NodeRecord) (x : UpNode) (a : AttemptState) (q : Call) (r : NodeState)
-    (i : Install) (b : Bool) (s : Scene) → At c M n told disk x → MayChange c n told x (Counts a q r i) → (b ≡ true → NoCollect told) → Goes h n told v w NoExcuse (site (Up x) disk) s
+    (i : Install) (b : Bool) (s : Scene) → length h.devices ≤ most_devices → At c M n told disk x → disk ≡ record_of x → MayChange c n told x (Counts a q r i) → Brings h s.moments i
+    → (b ≡ true → NoCollect told) → Goes h n told v w NoExcuse (site (Up x) disk) s
     → Goes h n told v w NoExcuse (After c n x (Counts a q r i)) (passing n (mid b n ++ last_lines c n x (Counts a q r i)) s)
-counts_go h c M n told v w disk x a q r i b s at may calm k =
+counts_go h c M n told v w disk x a q r i b s many at same may brings calm k =
     let t : Scene = passing n (mid b n) s in
     let l : Goes h n told v w NoExcuse (site (Up x) disk) t = mid_goes h n told v w x disk s b calm k in
     let y : UpNode = changed c n x (Counts a q r i) in
@@ -330,12 +330,14 @@ counts_go h c M n told v w disk x a q r i b s at may calm k =
     let after : session_of y ≡ session_of x = session_after c n told x (Counts a q r i) may tt (λ p e. cc) in
     subst (λ z. Goes h n told v w NoExcuse (After c n x (Counts a q r i)) z) (sym (passing_append n (mid b n) (last_lines c n x (Counts a q r i)) s))
     (installed_so h n i.epoch told v w x y disk (record_of y) t (epoch ∙ (own ∙ sym after)) refl
+    (λ d is old. install_told h t.moments n d i.epoch r.me disk.valid (record { valid = r.saved.valid; joined = 0 }) i.readings many is
+    (ap (λ z. (state_of z).saved.valid) (sym may.1) ∙ sym (ap (λ (z : NodeRecord). z.valid) same)) (mid_brings h n i b s brings).reads old)
     (λ up. joined_tasks c (installed n i.epoch ∷ t.moments) n (session_of y) (installed_of y) i.epoch (installed_with r i).joined [] i.readings tt) l)
 
 pub joins_go : (h : Header) (c : Cluster) (n : ℕ) (told : Delivered) (v w : Nodes) (disk : NodeRecord) (x : UpNode) (r : NodeState) (i : Install) (b : Bool) (s : Scene)
-    → MayChange c n told x (Installs r i) → (b ≡ true → NoCollect told) → Goes h n told v w NoExcuse (site (Up x) disk) s
+    → length h.devices ≤ most_devices → disk ≡ record_of x → MayChange c n told x (Installs r i) → Brings h s.moments i → (b ≡ true → NoCollect told) → Goes h n told v w NoExcuse (site (Up x) disk) s
     → Goes h n told v w NoExcuse (After c n x (Installs r i)) (passing n (mid b n ++ last_lines c n x (Installs r i)) s)
-joins_go h c n told v w disk x r i b s may calm k =
+joins_go h c n told v w disk x r i b s many same may brings calm k =
     let t : Scene = passing n (mid b n) s in
     let l : Goes h n told v w NoExcuse (site (Up x) disk) t = mid_goes h n told v w x disk s b calm k in
     let y : UpNode = changed c n x (Installs r i) in
@@ -345,6 +347,8 @@ joins_go h c n told v w disk x r i b s may calm k =
     let other : session_of x ≡ installed_of x → ⊥ = λ is. may.4 (ap (λ (z : NodeState). z.saved.installed) (sym seat) ∙ (sym is ∙ sym at)) in
     subst (λ z. Goes h n told v w NoExcuse (After c n x (Installs r i)) z) (sym (passing_append n (mid b n) (last_lines c n x (Installs r i)) s))
     (installed_so h n i.epoch told v w x y disk (record_of y) t (at ∙ sym after) refl
+    (λ d is old. install_told h t.moments n d i.epoch r.me disk.valid (record { valid = r.saved.valid; joined = 0 }) i.readings many is
+    (ap (λ (z : NodeState). z.saved.valid) (sym seat) ∙ sym (ap (λ (z : NodeRecord). z.valid) same)) (mid_brings h n i b s brings).reads old)
     (λ up.
     joined_tasks c (installed n i.epoch ∷ t.moments) n (session_of y) (installed_of y) i.epoch (installed_with r i).joined x.tasks i.readings
     (none_tasks t.moments (installed n i.epoch ∷ t.moments) n (session_of x) (installed_of x) (session_of y) (installed_of y) x.tasks other up.tasks)) l)

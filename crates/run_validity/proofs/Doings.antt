@@ -1,6 +1,7 @@
 -- The small steps of a node, one after another.
-use Rattle.std.specs.Prelude.{ℕ, ◌≡◌, ◌≢◌, ◌<◌, ◌≤◌, ◌⊎◌, ◌+◌, ◌==◌, ◌++◌, All, Bool, true, false, List, [], ◌∷◌, length}
+use Rattle.std.specs.Prelude.{ℕ, ◌≡◌, ◌≢◌, ◌<◌, ◌≤◌, ◌⊎◌, ◌+◌, ◌==◌, ◌++◌, nat_le, All, Bool, true, false, List, [], ◌∷◌, length}
 use Rattle.std.proofs.Common.{refl, sym, ap, subst, ◌∙◌, inl, inr, arith}
+use Rattle.cl_base.specs.Limits.{most_devices}
 use Rattle.cl_base.specs.Sets.{has, set_with}
 use Rattle.cl_base.specs.declared.header.Header.{Header}
 use Rattle.cl_base.specs.declared.panic.Panic.TheVariants as panic
@@ -23,6 +24,7 @@ use Rattle.status_report.specs.declared.node_entry.DownCause.TheVariants as caus
 use Rattle.status_report.specs.declared.node_entry.NodeEntry.TheVariants as note
 use Rattle.status_report.specs.declared.update_entry.UpdateEntry.TheVariants as update_entry
 use Rattle.ccr_commit.specs.Entries.{texts_of}
+use Rattle.history.specs.Contact.{AttemptsDiffer}
 use Rattle.history.specs.Moment.{Moment}
 use Rattle.history.specs.Trace.{down}
 use Rattle.history.specs.Validated.{Open}
@@ -56,6 +58,9 @@ use Rattle.run_history.specs.Scenes.{Scene, passing, telling}
 use Rattle.run_records.specs.Losses.{AllApart, DoingApart, IsLoss}
 use Rattle.run_seizings.proofs.Acts.{ActMay}
 use Rattle.run_seizings.proofs.Asked.{AllMay, DoingMay, SavesSo}
+use Rattle.run_seizings.proofs.Doings.{differ_before, doing_goes, rises_so}
+use Rattle.run_seizings.proofs.Goes as seizings
+use Rattle.run_seizings.proofs.Promising.{ChangeMay}
 use Rattle.run_seizings.proofs.Changes.{IsPromise, NoCollect, fit_parts}
 use Rattle.run_seizings.proofs.Progress.{if_so, same_is}
 use Rattle.run_validity.specs.Kept.{Excuse, NoExcuse, SiteSo, readying}
@@ -64,6 +69,7 @@ use Rattle.run_validity.proofs.Acts.{act_goes, strict}
 use Rattle.run_validity.proofs.Answers.{IsFirst, NotJoined, admitted_valid, line_of, taken_up, taken_valid}
 use Rattle.run_validity.proofs.Changes.{IsPlain, counts_go, joins_go, leads_go, mid_goes, plain_goes, promises_go}
 use Rattle.run_validity.proofs.Courses.{AllTrust, DoingTrusts, TrustsAct, TrustsChange}
+use Rattle.run_validity.proofs.Installs.{counts_bring, install_brings}
 use Rattle.run_validity.proofs.Goes.{Goes, goes_at, line_goes}
 use Rattle.run_validity.proofs.Stills.{IsAside}
 
@@ -221,10 +227,16 @@ does_goes h c n told v w disk x g (Makes ch) s same may so guard trusts fit k =
 does_goes h c n told v w disk x g (Takes at q a) s same may so guard trusts fit k = absurd trusts
 does_goes h c n told v w disk x g a s same may so guard trusts fit k = act_goes h c n told v w disk x g a s same may so guard tt fit k
 
-saves_goes : (h : Header) (c : Cluster) (M : Memberships) (n : ℕ) (told : Delivered) (v w : Nodes) (disk : NodeRecord) (x : UpNode) (ch : Change) (s : Scene) → At c M n told disk x
-    → disk ≡ record_of x → installed_of x ≤ promised_of x → MayChange c n told x ch → SavesSo told ch → TrustsChange ch → AllFit n (gives c n (site (Up x) disk) (Saves ch))
-    → Goes h n told v w NoExcuse (site (Up x) disk) s → Goes h n told v w NoExcuse (effect c n (site (Up x) disk) (Saves ch)) (passing n (gives c n (site (Up x) disk) (Saves ch)) s)
-saves_goes h c M n told v w disk x ch s at same order may saves trusts fit k = by_change ch may saves trusts fit
+-- what holds of the run
+pub record Fixed (h : Header) (c : Cluster) (n : ℕ) : Type 0 where
+  pub id : c.id ≡ h.cluster
+  pub low : nat_le n 32 ≡ true
+  pub many : length h.devices ≤ most_devices
+
+saves_goes : (h : Header) (c : Cluster) (M : Memberships) (n : ℕ) (told : Delivered) (v w : Nodes) (disk : NodeRecord) (x : UpNode) (g : Hand) (ch : Change) (s : Scene) → Fixed h c n
+    → At c M n told disk x → disk ≡ record_of x → installed_of x ≤ promised_of x → MayChange c n told x ch → ChangeMay h x ch → SavesSo told ch → TrustsChange ch
+    → AllFit n (gives c n (site (Up x) disk) (Saves ch)) → seizings.Goes h n told v w (site (Up x) disk) g s → Goes h n told v w NoExcuse (site (Up x) disk) s → Goes h n told v w NoExcuse (effect c n (site (Up x) disk) (Saves ch)) (passing n (gives c n (site (Up x) disk) (Saves ch)) s)
+saves_goes h c M n told v w disk x g ch s fixed at same order may guard saves trusts fit z k = by_change ch may guard saves trusts fit
   where
     calm : (ch : Change) → (IsPromise ch → ⊥) → SavesSo told ch → true ≡ true → NoCollect told
     calm ch other (inl promise) is = absurd (other promise)
@@ -234,20 +246,20 @@ saves_goes h c M n told v w disk x ch s at same order may saves trusts fit k = b
         → Goes h n told v w NoExcuse (effect c n (site (Up x) disk) (Saves ch)) (passing n (gives c n (site (Up x) disk) (Saves ch)) s)
     plainly ch is other m q f = plain_goes h c n told v w disk (record_of (changed c n x ch)) x ch true s same refl m is (calm ch other q) f k
 
-    by_change : (ch : Change) → MayChange c n told x ch → SavesSo told ch → TrustsChange ch → AllFit n (gives c n (site (Up x) disk) (Saves ch))
+    by_change : (ch : Change) → MayChange c n told x ch → ChangeMay h x ch → SavesSo told ch → TrustsChange ch → AllFit n (gives c n (site (Up x) disk) (Saves ch))
         → Goes h n told v w NoExcuse (effect c n (site (Up x) disk) (Saves ch)) (passing n (gives c n (site (Up x) disk) (Saves ch)) s)
-    by_change (Promises p) m q t f = promises_go h c n told v w disk x p s same order m f k
-    by_change (Leads p members) m q t f = leads_go h c n told v w disk x p members true s same order m (calm (Leads p members) (λ z. z) q) f k
-    by_change (Counts a j y i) m q t f = counts_go h c M n told v w disk x a j y i true s at m (calm (Counts a j y i) (λ z. z) q) k
-    by_change (Installs y i) m q t f = joins_go h c n told v w disk x y i true s m (calm (Installs y i) (λ z. z) q) k
-    by_change (Starts a j y) m q t f = plainly (Starts a j y) tt (λ z. z) m q f
-    by_change (Sits y p) m q t f = plainly (Sits y p) tt (λ z. z) m q f
-    by_change (Proposes y p text) m q t f = plainly (Proposes y p text) tt (λ z. z) m q f
-    by_change (Acks y p j left text) m q t f = plainly (Acks y p j left text) tt (λ z. z) m q f
-    by_change (Prepares y text) m q t f = plainly (Prepares y text) tt (λ z. z) m q f
-    by_change (Commits y) m q t f = plainly (Commits y) tt (λ z. z) m q f
-    by_change (Distrusts d) m q t f = absurd t
-    by_change (Admits on command a d) m q t f = absurd t
+    by_change (Promises p) m e q t f = promises_go h c n told v w disk x p s same order m f k
+    by_change (Leads p members) m e q t f = leads_go h c n told v w disk x p members true s same order m (calm (Leads p members) (λ z. z) q) f k
+    by_change (Counts a j y i) m e q t f = counts_go h c M n told v w disk x a j y i true s fixed.many at same m (counts_bring h c M n told v w disk x g a j y i s fixed.low at m e z) (calm (Counts a j y i) (λ z. z) q) k
+    by_change (Installs y i) m e q t f = joins_go h c n told v w disk x y i true s fixed.many same m (install_brings h s.moments n told i m.1 z.hand) (calm (Installs y i) (λ z. z) q) k
+    by_change (Starts a j y) m e q t f = plainly (Starts a j y) tt (λ z. z) m q f
+    by_change (Sits y p) m e q t f = plainly (Sits y p) tt (λ z. z) m q f
+    by_change (Proposes y p text) m e q t f = plainly (Proposes y p text) tt (λ z. z) m q f
+    by_change (Acks y p j left text) m e q t f = plainly (Acks y p j left text) tt (λ z. z) m q f
+    by_change (Prepares y text) m e q t f = plainly (Prepares y text) tt (λ z. z) m q f
+    by_change (Commits y) m e q t f = plainly (Commits y) tt (λ z. z) m q f
+    by_change (Distrusts d) m e q t f = absurd t
+    by_change (Admits on command a d) m e q t f = absurd t
 
 -- what is known of the machine
 pub record Ready (c : Cluster) (M : Memberships) (n : ℕ) (told : Delivered) (x : Site) : Type 0 where
@@ -260,19 +272,20 @@ pub record Ready (c : Cluster) (M : Memberships) (n : ℕ) (told : Delivered) (x
 abbrev Done : Header → Cluster → ℕ → Delivered → Nodes → Nodes → Site → Doing → Scene → Type 0
 Done h c n told v w x d s = Goes h n told v w NoExcuse (effect c n x d) (passing n (gives c n x d) s)
 
-up_done : (h : Header) (c : Cluster) (M : Memberships) (n : ℕ) (told : Delivered) (v w : Nodes) (disk : NodeRecord) (x : UpNode) (g : Hand) (d : Doing) (s : Scene)
+up_done : (h : Header) (c : Cluster) (M : Memberships) (n : ℕ) (told : Delivered) (v w : Nodes) (disk : NodeRecord) (x : UpNode) (g : Hand) (d : Doing) (s : Scene) → Fixed h c n
     → Ready c M n told (site (Up x) disk) → May c n told (site (Up x) disk) d → DoingSo d → DoingMay h n told g (site (Up x) disk) d → DoingTrusts d → DoingLost d
-    → AllFit n (gives c n (site (Up x) disk) d) → Goes h n told v w NoExcuse (site (Up x) disk) s → Done h c n told v w (site (Up x) disk) d s
-up_done h c M n told v w disk x g Comes_up s r may so guard trusts loses fit k = absurd may
-up_done h c M n told v w disk x g (Goes_down why) s r may so guard trusts loses fit k = gone_goes h n told v w disk x why s k
-up_done h c M n told v w disk x g (Does a) s r may so guard trusts loses fit k =
+    → AllFit n (gives c n (site (Up x) disk) d) → seizings.Goes h n told v w (site (Up x) disk) g s → Goes h n told v w NoExcuse (site (Up x) disk) s
+    → Done h c n told v w (site (Up x) disk) d s
+up_done h c M n told v w disk x g Comes_up s fixed r may so guard trusts loses fit z k = absurd may
+up_done h c M n told v w disk x g (Goes_down why) s fixed r may so guard trusts loses fit z k = gone_goes h n told v w disk x why s k
+up_done h c M n told v w disk x g (Does a) s fixed r may so guard trusts loses fit z k =
     does_goes h c n told v w disk x g a s (sees c M n disk x.attempt x.seat r.tied.0).disk_so may so guard trusts fit k
-up_done h c M n told v w disk x g (Saves ch) s r may so guard trusts loses fit k =
-    saves_goes h c M n told v w disk x ch s (record { holds = r.holds; known = r.known; tied = r.tied }) (sees c M n disk x.attempt x.seat r.tied.0).disk_so
-    (facts_of c M n disk x r.holds r.tied r.joins).order may guard.1 trusts fit k
-up_done h c M n told v w disk x g (Loses ch why) s r may so guard trusts loses fit k =
+up_done h c M n told v w disk x g (Saves ch) s fixed r may so guard trusts loses fit z k =
+    saves_goes h c M n told v w disk x g ch s fixed (record { holds = r.holds; known = r.known; tied = r.tied }) (sees c M n disk x.attempt x.seat r.tied.0).disk_so
+    (facts_of c M n disk x r.holds r.tied r.joins).order may guard.0 guard.1 trusts fit z k
+up_done h c M n told v w disk x g (Loses ch why) s fixed r may so guard trusts loses fit z k =
     lost_goes h n told v w NoExcuse (site (Up x) disk) (record_of (changed c n x ch)) ch why s loses k
-up_done h c M n told v w disk x g (Forgets ch why) s r may so guard trusts loses fit k = lost_goes h n told v w NoExcuse (site (Up x) disk) disk ch why s loses k
+up_done h c M n told v w disk x g (Forgets ch why) s fixed r may so guard trusts loses fit z k = lost_goes h n told v w NoExcuse (site (Up x) disk) disk ch why s loses k
 
 down_done : (h : Header) (c : Cluster) (n : ℕ) (told : Delivered) (v w : Nodes) (disk : NodeRecord) (d : Doing) (s : Scene) → May c n told (site Down disk) d
     → Goes h n told v w NoExcuse (site Down disk) s → Done h c n told v w (site Down disk) d s
@@ -283,23 +296,25 @@ down_done h c n told v w disk (Saves ch) s may k = absurd may
 down_done h c n told v w disk (Loses ch why) s may k = absurd may
 down_done h c n told v w disk (Forgets ch why) s may k = absurd may
 
-doing_done : (h : Header) (c : Cluster) (M : Memberships) (n : ℕ) (told : Delivered) (v w : Nodes) (x : Site) (g : Hand) (d : Doing) (s : Scene)
-    → Ready c M n told x → May c n told x d → DoingSo d → DoingMay h n told g x d → DoingTrusts d → DoingLost d → AllFit n (gives c n x d)
+doing_done : (h : Header) (c : Cluster) (M : Memberships) (n : ℕ) (told : Delivered) (v w : Nodes) (x : Site) (g : Hand) (d : Doing) (s : Scene) → Fixed h c n
+    → Ready c M n told x → May c n told x d → DoingSo d → DoingMay h n told g x d → DoingTrusts d → DoingLost d → AllFit n (gives c n x d) → seizings.Goes h n told v w x g s
     → Goes h n told v w NoExcuse x s → Done h c n told v w x d s
-doing_done h c M n told v w x g d s r may so guard trusts loses fit k = by_node x.node r may guard fit k
+doing_done h c M n told v w x g d s fixed r may so guard trusts loses fit z k = by_node x.node r may guard fit z k
   where
     by_node : (node : Node) → Ready c M n told (site node x.disk) → May c n told (site node x.disk) d → DoingMay h n told g (site node x.disk) d
-        → AllFit n (gives c n (site node x.disk) d) → Goes h n told v w NoExcuse (site node x.disk) s → Done h c n told v w (site node x.disk) d s
-    by_node Down z m e f l = down_done h c n told v w x.disk d s m l
-    by_node (Up y) z m e f l = up_done h c M n told v w x.disk y g d s z m so e trusts loses f l
+        → AllFit n (gives c n (site node x.disk) d) → seizings.Goes h n told v w (site node x.disk) g s → Goes h n told v w NoExcuse (site node x.disk) s
+        → Done h c n told v w (site node x.disk) d s
+    by_node Down b m e f also l = down_done h c n told v w x.disk d s m l
+    by_node (Up y) b m e f also l = up_done h c M n told v w x.disk y g d s fixed b m so e trusts loses f also l
 
 -- ---- one after another
 
-pub record Next (c : Cluster) (n : ℕ) (told : Delivered) (y : Site) : Type 0 where
+pub record Next (c : Cluster) (n : ℕ) (told : Delivered) (p : ℕ) (y : Site) : Type 0 where
   pub machine : Memberships
   pub ready : Ready c machine n told y
+  pub rises : p ≤ y.disk.promised
 
-pub next_of : (c : Cluster) (M : Memberships) (n : ℕ) (told : Delivered) (x : Site) (d : Doing) → Ready c M n told x → May c n told x d → Next c n told (effect c n x d)
+pub next_of : (c : Cluster) (M : Memberships) (n : ℕ) (told : Delivered) (x : Site) (d : Doing) → Ready c M n told x → May c n told x d → Next c n told x.disk.promised (effect c n x d)
 next_of c M n told x d r may =
     let o : GoesOn c M n (effect c n x d) (gives c n x d) (of_doing n d) = does_one c M n told x d r.fits r.holds r.known r.tied may in
     record {
@@ -311,30 +326,50 @@ next_of c M n told x d r may =
         tied = o.tied;
         joins = joins_one c M n told x.node x.disk d r.holds r.tied r.joins may;
       };
+      rises = rises_so c M o.machine n x (effect c n x d) r.tied o.tied o.grows;
     }
 
-pub all_go : (h : Header) (c : Cluster) (M : Memberships) (n : ℕ) (told : Delivered) (v w : Nodes) (x : Site) (g : Hand) (ds : List Doing) (s : Scene) → Ready c M n told x
-    → Small h c n told g x ds → AllTrust ds → Goes h n told v w NoExcuse x s
+-- its seizings go on beside
+pub also_next : (h : Header) (c : Cluster) (M : Memberships) (n : ℕ) (told : Delivered) (v w : Nodes) (x : Site) (g : Hand) (d : Doing) (ds : List Doing) (s : Scene) → Fixed h c n
+    → Ready c M n told x → Small h c n told g x (d ∷ ds) → AttemptsDiffer (passing n (given_all c n x (d ∷ ds)) s).moments → seizings.Goes h n told v w x g s
+    → seizings.Goes h n told v w (effect c n x d) (hand_after g d) (passing n (gives c n x d) s)
+also_next h c M n told v w x g d ds s fixed r small differ z =
+    let first : List Output = gives c n x d in
+    let rest : List Output = given_all c n (effect c n x d) ds in
+    let later : AttemptsDiffer (passing n rest (passing n first s)).moments = subst (λ (t : Scene). AttemptsDiffer t.moments) (passing_append n first rest s) differ in
+    doing_goes h c M n told v w x g d s fixed.id fixed.low r.holds r.known r.tied small.may.0 small.so.0 small.guard.0 (next_of c M n told x d r small.may.0).rises
+    (fit_parts n first rest small.fit).0 (differ_before n rest (passing n first s) later) z
+
+-- .. and before its other steps attempts differ
+pub differ_next : (c : Cluster) (n : ℕ) (x : Site) (d : Doing) (ds : List Doing) (s : Scene) → AttemptsDiffer (passing n (given_all c n x (d ∷ ds)) s).moments
+    → AttemptsDiffer (passing n (given_all c n (effect c n x d) ds) (passing n (gives c n x d) s)).moments
+differ_next c n x d ds s differ = subst (λ (t : Scene). AttemptsDiffer t.moments) (passing_append n (gives c n x d) (given_all c n (effect c n x d) ds) s) differ
+
+pub all_go : (h : Header) (c : Cluster) (M : Memberships) (n : ℕ) (told : Delivered) (v w : Nodes) (x : Site) (g : Hand) (ds : List Doing) (s : Scene) → Fixed h c n → Ready c M n told x
+    → Small h c n told g x ds → AllTrust ds → AttemptsDiffer (passing n (given_all c n x ds) s).moments → seizings.Goes h n told v w x g s → Goes h n told v w NoExcuse x s
     → Goes h n told v w NoExcuse (after_all c n x ds) (passing n (given_all c n x ds) s)
-all_go h c M n told v w x g [] s r small trusts k = k
-all_go h c M n told v w x g (d ∷ ds) s r small trusts k =
+all_go h c M n told v w x g [] s fixed r small trusts differ z k = k
+all_go h c M n told v w x g (d ∷ ds) s fixed r small trusts differ z k =
     let first : List Output = gives c n x d in
     let rest : List Output = given_all c n (effect c n x d) ds in
     let parts : AllFit n first × AllFit n rest = fit_parts n first rest small.fit in
-    let z : Next c n told (effect c n x d) = next_of c M n told x d r small.may.0 in
+    let next : Next c n told x.disk.promised (effect c n x d) = next_of c M n told x d r small.may.0 in
     let one : Goes h n told v w NoExcuse (effect c n x d) (passing n first s) =
-    doing_done h c M n told v w x g d s r small.may.0 small.so.0 small.guard.0 trusts.0 small.lost.0 parts.0 k in
+    doing_done h c M n told v w x g d s fixed r small.may.0 small.so.0 small.guard.0 trusts.0 small.lost.0 parts.0 z k in
     subst (λ t. Goes h n told v w NoExcuse (after_all c n (effect c n x d) ds) t) (sym (passing_append n first rest s))
-    (all_go h c z.machine n told v w (effect c n x d) (hand_after g d) ds (passing n first s) z.ready (small_rest h c n told g x d ds small) trusts.1 one)
+    (all_go h c next.machine n told v w (effect c n x d) (hand_after g d) ds (passing n first s) fixed next.ready (small_rest h c n told g x d ds small) trusts.1
+    (differ_next c n x d ds s differ) (also_next h c M n told v w x g d ds s fixed r small differ z) one)
 
 -- the rest goes on behind the first
-pub rest_go : (h : Header) (c : Cluster) (M : Memberships) (n : ℕ) (told : Delivered) (v w : Nodes) (x : Site) (g : Hand) (d : Doing) (ds : List Doing) (s : Scene) → Ready c M n told x
-    → Small h c n told g x (d ∷ ds) → AllTrust ds → Goes h n told v w NoExcuse (effect c n x d) (passing n (gives c n x d) s)
+pub rest_go : (h : Header) (c : Cluster) (M : Memberships) (n : ℕ) (told : Delivered) (v w : Nodes) (x : Site) (g : Hand) (d : Doing) (ds : List Doing) (s : Scene) → Fixed h c n
+    → Ready c M n told x → Small h c n told g x (d ∷ ds) → AllTrust ds → AttemptsDiffer (passing n (given_all c n x (d ∷ ds)) s).moments → seizings.Goes h n told v w x g s
+    → Goes h n told v w NoExcuse (effect c n x d) (passing n (gives c n x d) s)
     → Goes h n told v w NoExcuse (after_all c n x (d ∷ ds)) (passing n (given_all c n x (d ∷ ds)) s)
-rest_go h c M n told v w x g d ds s r small trusts k =
-    let z : Next c n told (effect c n x d) = next_of c M n told x d r small.may.0 in
+rest_go h c M n told v w x g d ds s fixed r small trusts differ z k =
+    let next : Next c n told x.disk.promised (effect c n x d) = next_of c M n told x d r small.may.0 in
     subst (λ t. Goes h n told v w NoExcuse (after_all c n (effect c n x d) ds) t) (sym (passing_append n (gives c n x d) (given_all c n (effect c n x d) ds) s))
-    (all_go h c z.machine n told v w (effect c n x d) (hand_after g d) ds (passing n (gives c n x d) s) z.ready (small_rest h c n told g x d ds small) trusts k)
+    (all_go h c next.machine n told v w (effect c n x d) (hand_after g d) ds (passing n (gives c n x d) s) fixed next.ready (small_rest h c n told g x d ds small) trusts
+    (differ_next c n x d ds s differ) (also_next h c M n told v w x g d ds s fixed r small differ z) k)
 
 -- ---- the answer to a command
 

@@ -1,5 +1,5 @@
 -- What is told without installs is what the history has, where it is not open.
-use Rattle.std.specs.Prelude.{ℕ, ◌≡◌, ◌⊎◌, ◌==◌, ◌&&◌, Bool, true, false, List, [], ◌∷◌, if◌then◌else◌}
+use Rattle.std.specs.Prelude.{ℕ, ◌≡◌, ◌⊎◌, ◌==◌, ◌&&◌, Bool, true, false, List, [], ◌∷◌, Option, None, Some, is_some, if◌then◌else◌}
 use Rattle.std.proofs.Common.{refl, inl, inr}
 use Rattle.cl_base.specs.declared.header.Header.{Header}
 use Rattle.cl_base.specs.declared.panic.Panic.TheVariants as panic
@@ -17,7 +17,7 @@ use Rattle.status_report.specs.declared.node_entry.DownCause.TheVariants as caus
 use Rattle.status_report.specs.declared.node_entry.NodeEntry.{NodeEntry}
 use Rattle.status_report.specs.declared.node_entry.NodeEntry.TheVariants as note
 use Rattle.history.specs.Moment.{Moment, Part, Said, Told}
-use Rattle.history.specs.Seizing.{seizing_of}
+use Rattle.history.specs.Seizing.{Seizing, seizing_of}
 use Rattle.history.specs.Validated.{Validity, Valid, Lapsed, Open, at_install, joins, validity}
 use Rattle.run_validity.specs.Laws.{ToldAsInHistory, told_validity}
 
@@ -28,9 +28,15 @@ either_same : (b : Bool) (v told whole : Validity) → Same told whole → Same 
 either_same true v told whole k = inr refl
 either_same false v told whole k = k
 
-open_same : (b : Bool) (v told whole : Validity) → Same told whole → Same (if b then Open else told) (if b then v else whole)
-open_same true v told whole k = inl refl
-open_same false v told whole k = k
+-- where no member seized the device, an install leaves it
+seized_same : (h : Header) (n : ℕ) (o : Option Seizing) (told whole : Validity) → Same told whole → Same (if is_some o then Open else told) (at_install h n o whole)
+seized_same h n None told whole k = k
+seized_same h n (Some s) told whole k = inl refl
+
+install_same : (b : Bool) (h : Header) (n : ℕ) (o : Option Seizing) (told whole : Validity) → Same told whole
+    → Same (if b then (if is_some o then Open else told) else told) (if b then at_install h n o whole else whole)
+install_same true h n o told whole k = seized_same h n o told whole k
+install_same false h n o told whole k = k
 
 abbrev At : Header → ℕ → ℕ → List Moment → Type 0
 At h n d ms = Same (told_validity h n d ms) (validity h n d ms)
@@ -52,7 +58,7 @@ down_same h n d m _ ms k = k
 node_same : (h : Header) (n d m : ℕ) (e : NodeEntry) (ms : List Moment) → At h n d ms → At h n d (Told (entry.Node m e) ∷ ms)
 node_same h n d m (note.Down why) ms k = down_same h n d m why ms k
 node_same h n d m (note.Installed e) ms k =
-    open_same (m == n) (at_install h n (seizing_of h e d ms) (validity h n d ms)) (told_validity h n d ms) (validity h n d ms) k
+    install_same (m == n) h n (seizing_of h e d ms) (told_validity h n d ms) (validity h n d ms) k
 node_same h n d m _ ms k = k
 
 device_same : (h : Header) (n d : ℕ) (e : DeviceEntry) (ms : List Moment) → At h n d ms → At h n d (Told (entry.Device e) ∷ ms)

@@ -2,6 +2,7 @@ pub mod Stills
 pub mod Goes
 pub mod Mild
 pub mod Acts
+pub mod Installs
 pub mod Changes
 pub mod Answers
 pub mod Courses

@@ -1,6 +1,7 @@
 -- Each thing that happens keeps what is told of valid devices.
-use Rattle.std.specs.Prelude.{ℕ, ◌-◌, ◌≡◌, ◌≢◌, ◌≤◌, ◌<◌, ◌^◌, ◌⊎◌, ◌==◌, ◌&&◌, true, false, List, ◌∷◌, Option, None, Some, slice_get}
+use Rattle.std.specs.Prelude.{ℕ, ◌-◌, ◌≡◌, ◌≢◌, ◌≤◌, ◌<◌, ◌^◌, ◌⊎◌, ◌==◌, ◌&&◌, true, false, List, ◌∷◌, length, Option, None, Some, slice_get}
 use Rattle.std.proofs.Common.{refl, sym, ap, subst, ◌∙◌, inl, inr}
+use Rattle.cl_base.specs.Limits.{most_devices}
 use Rattle.cl_base.specs.declared.header.Header.{Header}
 use Rattle.cl_base.specs.declared.method.Outcome as method
 use Rattle.cl_base.specs.declared.packet.DropCause.{DropCause}
@@ -28,6 +29,7 @@ use Rattle.wire.specs.Reads.{whole_of}
 use Rattle.wire.specs.declared.message.Body.{Body}
 use Rattle.wire.specs.declared.message.Body.TheVariants as body
 use Rattle.wire.specs.declared.message.Message.{Message}
+use Rattle.history.specs.Contact.{AttemptsDiffer}
 use Rattle.history.specs.Letters.{arrived, passes}
 use Rattle.history.specs.Member.{in_collect}
 use Rattle.history.specs.Moment.{Moment, Part, Said, Told}
@@ -49,7 +51,8 @@ use Rattle.world_model.specs.Lines.{left_by}
 use Rattle.world_model.specs.Sends.{name_of}
 use Rattle.run_history.proofs.ContactWidths.{node_due}
 use Rattle.run_history.specs.Causes.{Brought}
-use Rattle.run_history.specs.Happenings.{Commanded, IsPlain, MayHappen, armed_by, commanded, commanded_at, copying, happened, removed}
+use Rattle.run_history.proofs.Heard.{low_number}
+use Rattle.run_history.specs.Happenings.{Commanded, Happening, IsPlain, MayHappen, armed_by, commanded, commanded_at, copying, happened, removed}
 use Rattle.run_history.specs.Happenings.Happening.{Arrives, Commands, Takes, Writes}
 use Rattle.run_history.specs.Scenes.{Scene, adding, dropped_so, telling, with_links}
 use Rattle.run_history.specs.Sites.{SiteAt}
@@ -57,12 +60,16 @@ use Rattle.run_history.specs.Stages.{Sized, Stage, site_of}
 use Rattle.run_history.specs.Wholes.{IsWhole}
 use Rattle.run_records.proofs.Arrivals.{arrived_hand}
 use Rattle.run_seizings.proofs.Changes.{NoCollect, NotCollect}
+use Rattle.run_seizings.specs.Sites.{IsSeizing}
+use Rattle.run_seizings.proofs.Letters as letters
+use Rattle.run_seizings.proofs.Moments as lines
 use Rattle.run_seizings.proofs.Moments.{answer_fits, due_low, due_own, plain_fits, plain_no, plain_sent}
 use Rattle.run_seizings.proofs.Promising.{and_both, same_so}
 use Rattle.run_seizings.proofs.Steps.{Ground, OwnKeysOnly, answer_may, ground_of, plain_may}
 use Rattle.run_validity.specs.Kept.{NoExcuse, SiteSo, readying}
 use Rattle.run_validity.specs.Laws.{ShowsValidity}
 use Rattle.run_validity.proofs.Courses.{IsTrusting}
+use Rattle.run_validity.proofs.Doings.{Fixed}
 use Rattle.run_validity.proofs.Dues.{first_in}
 use Rattle.run_validity.proofs.Goes.{HandSo, HasCollect, IsCollect}
 use Rattle.run_validity.proofs.Steps.{Around, FirstIn, Strict, answer_step, readying_step, trusting_step}
@@ -164,26 +171,43 @@ brought_hand ms n from m b =
 pub record Known (h : Header) (s : Scene) : Type 0 where
   pub stage : Stage (first_cluster h) s
   pub whole : IsWhole (first_cluster h) s
+  pub seizing : IsSeizing h s
+  pub many : length h.devices ≤ most_devices
 
 sized_of : (h : Header) (s : Scene) → Known h s → Sized (first_cluster h)
 sized_of h s b = record { fits = b.whole.cluster.fits; small = b.whole.cluster.small }
 
-pub takes_strict : (h : Header) (s : Scene) (n now : ℕ) (ends : method.Outcome) (i : Input) → MayHappen (first_cluster h) s (Takes n now ends i) → Known h s → IsTrusting i → Strict h s
+fixed_of : (h : Header) (s : Scene) (n : ℕ) → Known h s → n ≤ 32 → Fixed h (first_cluster h) n
+fixed_of h s n b low = record { id = refl; low = low_number n low; many = b.many }
+
+-- attempts differ once it has happened
+abbrev pub Differs : Header → Scene → Happening → Type 0
+Differs h s x = AttemptsDiffer (happened (first_cluster h) s x).moments
+
+pub takes_strict : (h : Header) (s : Scene) (n now : ℕ) (ends : method.Outcome) (i : Input) → MayHappen (first_cluster h) s (Takes n now ends i) → Known h s
+    → Differs h s (Takes n now ends i) → IsTrusting i → Strict h s
     → Strict h (happened (first_cluster h) s (Takes n now ends i))
-takes_strict h s n now ends i may b trusts k =
+takes_strict h s n now ends i may b differ trusts k =
     let c : Cluster = first_cluster h in
     trusting_step h c n now ends i s (sized_of h s b) (ground_of c s b.stage) may.0 may.2 (plain_sent s.nodes i may.1) (plain_fits i may.1)
     (plain_hand s.moments n i may.1 may.3) trusts
-    (plain_may h c n now ends (s.nodes.node n) (s.nodes.disk n).kept i (plain_no i may.1) may.2 (b.stage.fits.nodes n)) k
+    (plain_may h c n now ends (s.nodes.node n) (s.nodes.disk n).kept i (plain_no i may.1) may.2 (b.stage.fits.nodes n))
+    (record { fixed = fixed_of h s n b may.0.1; seizing = b.seizing; hand = lines.plain_hand h s.moments n i may.1 may.3; differ = differ }) k
 
 pub arrives_strict : (h : Header) (s : Scene) (number : ℕ) (x : Packet) (m : Message) (now : ℕ) (ends : method.Outcome)
-    → MayHappen (first_cluster h) s (Arrives number x m now ends) → Known h s → Strict h s → Strict h (happened (first_cluster h) s (Arrives number x m now ends))
-arrives_strict h s number x m now ends may b k =
+    → MayHappen (first_cluster h) s (Arrives number x m now ends) → Known h s → Differs h s (Arrives number x m now ends) → Strict h s → Strict h (happened (first_cluster h) s (Arrives number x m now ends))
+arrives_strict h s number x m now ends may b differ k =
     let c : Cluster = first_cluster h in
     let t : Scene = telling (entry.Packet (packet.Delivered number x.from x.to)) (removed s number) in
     trusting_step h c x.to now ends (input.Packet x.from m) t (sized_of h s b) (ground_of c s b.stage) may.3 may.5 may.4 tt
     (brought_hand t.moments x.to x.from m (arrived_hand c s number x m may.0 may.1 b.stage)) tt
     (plain_may h c x.to now ends (s.nodes.node x.to) (s.nodes.disk x.to).kept (input.Packet x.from m) tt may.5 (b.stage.fits.nodes x.to))
+    (record {
+      fixed = fixed_of h s x.to b may.3.1;
+      seizing = lines.delivered_seizes h s number x.from x.to b.seizing;
+      hand = letters.arrived_hand h s.moments s.links number x m may.0 may.1 b.seizing.carried;
+      differ = differ;
+    })
     (delivered_strict h s number x.from x.to k)
 
 -- a command at a device leaves nodes and lines
@@ -204,9 +228,10 @@ left_moments : (s : Scene) (n d : ℕ) (k : PrCommand) (o : Option Device) → (
 left_moments s n d k None = refl
 left_moments s n d k (Some x) = refl
 
-pub writes_strict : (h : Header) (s : Scene) (n d value now : ℕ) (ends : method.Outcome) → MayHappen (first_cluster h) s (Writes n d value now ends) → Known h s → Strict h s
+pub writes_strict : (h : Header) (s : Scene) (n d value now : ℕ) (ends : method.Outcome) → MayHappen (first_cluster h) s (Writes n d value now ends) → Known h s
+    → Differs h s (Writes n d value now ends) → Strict h s
     → Strict h (happened (first_cluster h) s (Writes n d value now ends))
-writes_strict h s n d value now ends may b k =
+writes_strict h s n d value now ends may b differ k =
     let c : Cluster = first_cluster h in
     let o : Commanded = commanded s n d (command.Write value) in
     let device : Option Device = slice_get s.devices (d - 1) in
@@ -215,18 +240,26 @@ writes_strict h s n d value now ends may b k =
     trusting_step h c n now ends (input.Wrote d value o.answer) o.scene (sized_of h s b) ground may.0 may.2 tt tt
     (nobody o.scene.moments n (ap arrived (left_moments s n d (command.Write value) device) ∙ may.3)) tt
     (plain_may h c n now ends (o.scene.nodes.node n) (o.scene.nodes.disk n).kept (input.Wrote d value o.answer) tt may.2 (ground.fits.nodes n))
+    (record {
+      fixed = fixed_of h s n b may.0.1;
+      seizing = (lines.left_at h c s n d (command.Write value) device (ground_of c s b.stage) b.seizing).seizing;
+      hand = ap arrived (left_moments s n d (command.Write value) device) ∙ may.3;
+      differ = differ;
+    })
     (left_strict h s n d (command.Write value) device k)
 
-pub readies_around : (h : Header) (s : Scene) (n now : ℕ) (ends : method.Outcome) → MayHappen (first_cluster h) s (Takes n now ends input.CommandDue) → Known h s → Strict h s
+pub readies_around : (h : Header) (s : Scene) (n now : ℕ) (ends : method.Outcome) → MayHappen (first_cluster h) s (Takes n now ends input.CommandDue) → Known h s
+    → Differs h s (Takes n now ends input.CommandDue) → Strict h s
     → Around h (happened (first_cluster h) s (Takes n now ends input.CommandDue)) n (readying (site_of (happened (first_cluster h) s (Takes n now ends input.CommandDue)).nodes n))
-readies_around h s n now ends may b k =
+readies_around h s n now ends may b differ k =
     let c : Cluster = first_cluster h in
     readying_step h c n now ends s (sized_of h s b) (ground_of c s b.stage) may.0 may.2 (b.whole.sites n).valid (nobody s.moments n may.3)
-    (plain_may h c n now ends (s.nodes.node n) (s.nodes.disk n).kept input.CommandDue tt may.2 (b.stage.fits.nodes n)) k
+    (plain_may h c n now ends (s.nodes.node n) (s.nodes.disk n).kept input.CommandDue tt may.2 (b.stage.fits.nodes n))
+    (record { fixed = fixed_of h s n b may.0.1; seizing = b.seizing; hand = may.3; differ = differ }) k
 
 pub commands_strict : (h : Header) (s : Scene) (n d : ℕ) (q : PrCommand) (now : ℕ) (ends : method.Outcome) → MayHappen (first_cluster h) s (Commands n d q now ends) → Known h s
-    → Around h s n (readying (site_of s.nodes n)) → Strict h (happened (first_cluster h) s (Commands n d q now ends))
-commands_strict h s n d q now ends may b k =
+    → Differs h s (Commands n d q now ends) → Around h s n (readying (site_of s.nodes n)) → Strict h (happened (first_cluster h) s (Commands n d q now ends))
+commands_strict h s n d q now ends may b differ k =
     let c : Cluster = first_cluster h in
     let o : Commanded = commanded s n d q in
     let device : Option Device = slice_get s.devices (d - 1) in
@@ -242,6 +275,12 @@ commands_strict h s n d q now ends may b k =
     (nobody o.scene.moments n (ap arrived (left_moments s n d q device) ∙ may.4))
     (answer_may h c n now ends (o.scene.nodes.node n) (o.scene.nodes.disk n).kept o.answer
     (subst (λ (v : Nodes). OwnKeysOnly h (v.node n) o.answer) (sym nodes) (due_own h s n d q (s.nodes.node n) b.whole may.2 low)))
+    (record {
+      fixed = fixed_of h s n b may.0.1;
+      seizing = (lines.left_at h c s n d q device (ground_of c s b.stage) b.seizing).seizing;
+      hand = ap arrived (left_moments s n d q device) ∙ may.4;
+      differ = differ;
+    })
     (subst (λ (v : Nodes). FirstIn d q (v.node n)) (sym nodes)
     (first_in c b.whole.machine n d q (s.nodes.disk n).kept (s.nodes.node n) (in_order (setting_of c) b.whole.machine b.whole.reached) (b.whole.sites n) (b.stage.fits.nodes n) may.1 may.2))
     (left_around h s n d q device k)

@@ -59,12 +59,14 @@ use Rattle.run_history.specs.Shapes as want
 use Rattle.run_history.specs.Stages.{Stage, site_of}
 use Rattle.run_history.specs.Wholes.{IsWhole}
 use Rattle.run_history.specs.WorldLines.{AreDisks, IsDevice}
+use Rattle.run_seizings.specs.Sites.{IsSeizing}
+use Rattle.run_seizings.proofs.Runs.{run_seizes}
 use Rattle.run_validity.specs.Kept.{Begins as Begins_at, NoExcuse, SiteSo, readying}
 use Rattle.run_validity.specs.Laws.{Agrees, InMemory, IsReadied, IsTold, PromisesShowValidity, ValidityOfEachRun, told_validity}
 use Rattle.run_validity.proofs.Acts.{strict}
 use Rattle.run_validity.proofs.Courses.{IsTrusting}
 use Rattle.run_validity.proofs.First.{first_told}
-use Rattle.run_validity.proofs.Moments.{Known, armed_strict, arrives_strict, commands_strict, delivered_strict, part_strict, readies_around, repeated_strict, said_strict, takes_strict, told_strict, writes_strict}
+use Rattle.run_validity.proofs.Moments.{Differs, Known, armed_strict, arrives_strict, commands_strict, delivered_strict, part_strict, readies_around, repeated_strict, said_strict, takes_strict, told_strict, writes_strict}
 use Rattle.run_validity.proofs.Steps.{Around, Strict, all_around, around, excused}
 use Rattle.run_validity.proofs.Stills as stills
 
@@ -247,44 +249,44 @@ alone n (input.Client address client port) wants trusts k = k
 alone n (input.Packet from m) wants trusts k = k
 alone n (input.Wrote d value a) wants trusts k = k
 
-due_so : (h : Header) (s : Scene) (w : Want) (wants : List Want) (x : Happening) → IsThis w x → MayHappen (first_cluster h) s x → Known h s → Kept h s (w ∷ wants)
-    → Kept h (happened (first_cluster h) s x) (still (happened (first_cluster h) s x) wants)
-due_so h s (want.Note e) wants (Notes f) is may b k =
+due_so : (h : Header) (s : Scene) (w : Want) (wants : List Want) (x : Happening) → IsThis w x → MayHappen (first_cluster h) s x → Known h s → Differs h s x
+    → Kept h s (w ∷ wants) → Kept h (happened (first_cluster h) s x) (still (happened (first_cluster h) s x) wants)
+due_so h s (want.Note e) wants (Notes f) is may b differ k =
     settled h (happened (first_cluster h) s (Notes f)) wants k.wants_so (told_strict h s s.links (entry.Schedule f) (λ n. stills.still h s.moments n (entry.Schedule f) tt) tt k.so)
-due_so h s (want.Take n i) wants (Takes m now ends j) is may b k = by_input (trusting_or j may.1)
+due_so h s (want.Take n i) wants (Takes m now ends j) is may b differ k = by_input (trusting_or j may.1)
   where
     t : Scene
     t = happened (first_cluster h) s (Takes m now ends j)
 
     by_input : (j ≡ input.CommandDue) ⊎ IsTrusting j → Kept h t (still t wants)
-    by_input (inr trusts) = settled h t wants (alone n i wants (subst IsTrusting is.1 trusts) k.wants_so) (takes_strict h s m now ends j may b trusts k.so)
+    by_input (inr trusts) = settled h t wants (alone n i wants (subst IsTrusting is.1 trusts) k.wants_so) (takes_strict h s m now ends j may b differ trusts k.so)
     by_input (inl due) =
         let one : wants ≡ want.Command m ∷ [] = subst (λ z. WantsSo (want.Take n z ∷ wants)) (sym is.1 ∙ due) k.wants_so ∙ ap (λ z. want.Command z ∷ []) (sym is.0) in
         subst (λ ws. Kept h t (still t ws)) (sym one)
         (subst (λ z. Kept h (happened (first_cluster h) s (Takes m now ends z)) (still (happened (first_cluster h) s (Takes m now ends z)) (want.Command m ∷ []))) (sym due)
         (readied_kept h (happened (first_cluster h) s (Takes m now ends input.CommandDue)) m
-        (readies_around h s m now ends (subst (λ z. MayHappen (first_cluster h) s (Takes m now ends z)) due may) b k.so)))
-due_so h s (want.Deliver number x) wants (Arrives j y m now ends) is may b k =
-    settled h (happened (first_cluster h) s (Arrives j y m now ends)) wants k.wants_so (arrives_strict h s j y m now ends may b k.so)
-due_so h s (want.Deliver number x) wants (Strays j y) is may b k =
+        (readies_around h s m now ends (subst (λ z. MayHappen (first_cluster h) s (Takes m now ends z)) due may) b (subst (λ z. Differs h s (Takes m now ends z)) due differ) k.so)))
+due_so h s (want.Deliver number x) wants (Arrives j y m now ends) is may b differ k =
+    settled h (happened (first_cluster h) s (Arrives j y m now ends)) wants k.wants_so (arrives_strict h s j y m now ends may b differ k.so)
+due_so h s (want.Deliver number x) wants (Strays j y) is may b differ k =
     settled h (happened (first_cluster h) s (Strays j y)) wants k.wants_so (delivered_strict h s j y.from y.to k.so)
-due_so h s (want.Miss number x) wants (Misses j y) is may b k =
+due_so h s (want.Miss number x) wants (Misses j y) is may b differ k =
     let e : Entry = entry.Packet (packet.Dropped j drop.Down) in
     settled h (happened (first_cluster h) s (Misses j y)) wants k.wants_so (told_strict h s (removing s.links j) e (λ n. stills.still h s.moments n e tt) tt k.so)
-due_so h s (want.Lose number x) wants (Loses j y) is may b k =
+due_so h s (want.Lose number x) wants (Loses j y) is may b differ k =
     let e : Entry = entry.Packet (packet.Lost j) in
     settled h (happened (first_cluster h) s (Loses j y)) wants k.wants_so (told_strict h s (removing s.links j) e (λ n. stills.still h s.moments n e tt) tt k.so)
-due_so h s (want.Repeat number x) wants (Repeats j y) is may b k =
+due_so h s (want.Repeat number x) wants (Repeats j y) is may b differ k =
     settled h (happened (first_cluster h) s (Repeats j y)) wants k.wants_so (repeated_strict h s j y k.so)
-due_so h s (want.Command n) wants (Commands m d q now ends) is may b k =
+due_so h s (want.Command n) wants (Commands m d q now ends) is may b differ k =
     settled h (happened (first_cluster h) s (Commands m d q now ends)) wants k.wants_so
-    (commands_strict h s m d q now ends may b (subst (λ z. Around h s z (readying (site_of s.nodes z))) (sym is) k.so))
-due_so h s (want.Write n d value) wants (Writes m e v now ends) is may b k =
-    settled h (happened (first_cluster h) s (Writes m e v now ends)) wants k.wants_so (writes_strict h s m e v now ends may b k.so)
-due_so h s (want.Refuse n d value why) wants (Refuses m e v w) is may b k =
+    (commands_strict h s m d q now ends may b differ (subst (λ z. Around h s z (readying (site_of s.nodes z))) (sym is) k.so))
+due_so h s (want.Write n d value) wants (Writes m e v now ends) is may b differ k =
+    settled h (happened (first_cluster h) s (Writes m e v now ends)) wants k.wants_so (writes_strict h s m e v now ends may b differ k.so)
+due_so h s (want.Refuse n d value why) wants (Refuses m e v w) is may b differ k =
     let z : Entry = entry.Device (device.Refused m e v w) in
     settled h (happened (first_cluster h) s (Refuses m e v w)) wants k.wants_so (told_strict h s s.links z (λ n. stills.still h s.moments n z tt) tt k.so)
-due_so h s _ wants _ is may b k = absurd is
+due_so h s _ wants _ is may b differ k = absurd is
 
 opens_so : (h : Header) (s : Scene) (in_round : Bool) (x : Happening) → Opens s in_round x → Kept h s []
     → Kept h (happened (first_cluster h) s x) (opened (first_cluster h) (happened (first_cluster h) s x) x).wants
@@ -301,16 +303,16 @@ opens_so h s true (Notes e) opens k =
     record { wants_so = tt; so = told_strict h s s.links (entry.Schedule e) (λ n. stills.still h s.moments n (entry.Schedule e) tt) tt k.so }
 opens_so h s _ _ opens k = absurd opens
 
-step_so : (h : Header) (s : Scene) (d : Due) (x : Happening) → IsDue s d x → MayHappen (first_cluster h) s x → Known h s → Kept h s d.wants
+step_so : (h : Header) (s : Scene) (d : Due) (x : Happening) → IsDue s d x → MayHappen (first_cluster h) s x → Known h s → Differs h s x → Kept h s d.wants
     → Kept h (happened (first_cluster h) s x) (due_after (first_cluster h) (happened (first_cluster h) s x) d x).wants
-step_so h s d x due may b k = by_wants d.wants due k
+step_so h s d x due may b differ k = by_wants d.wants due k
   where
     t : Scene
     t = happened (first_cluster h) s x
 
     by_wants : (wants : List Want) → Comes s wants d.in_round x → Kept h s wants → Kept h t (left (first_cluster h) t wants d.in_round x).wants
     by_wants [] comes l = opens_so h s d.in_round x comes l
-    by_wants (w ∷ wants) comes l = due_so h s w wants x comes may b l
+    by_wants (w ∷ wants) comes l = due_so h s w wants x comes may b differ l
 
 -- ---- runs
 
@@ -323,6 +325,8 @@ known_at h cells s few small r =
     record {
       stage = stage_at h cells s few small r;
       whole = subst (IsWhole (first_cluster h)) r.is (runs_are_whole h cells r.happenings cuts few small r.may).scene;
+      seizing = subst (IsSeizing h) r.is (run_seizes h cells r.happenings few small r.may).seizing;
+      many = few;
     }
 
 -- what is reached, with what is due
@@ -335,9 +339,10 @@ run_so : (h : Header) (cells : ℕ) → length h.devices ≤ most_devices → h.
 run_so h cells few small [] s d last may shaped k = subst (λ (z : Due). Comes_to h cells s z.wants) shaped k
 run_so h cells few small (x ∷ xs) s d last may shaped k =
     let c : Cluster = first_cluster h in
+    let next : Reached c (first_scene h cells) (happened c s x) = reached_more c (first_scene h cells) s x k.reached may.0 in
     run_so h cells few small xs (happened c s x) (due_after c (happened c s x) d x) last may.1 shaped.1 (record {
-      reached = reached_more c (first_scene h cells) s x k.reached may.0;
-      kept = step_so h s d x shaped.0 may.0 (known_at h cells s few small k.reached) k.kept;
+      reached = next;
+      kept = step_so h s d x shaped.0 may.0 (known_at h cells s few small k.reached) (stage_at h cells (happened c s x) few small next).laws.once k.kept;
     })
 
 first_strict : (h : Header) (cells : ℕ) → length h.devices ≤ most_devices → AreDisks h → Strict h (first_scene h cells)

@@ -26,6 +26,7 @@ use Rattle.status_report.specs.declared.node_entry.DownCause.TheVariants as caus
 use Rattle.status_report.specs.declared.node_entry.NodeEntry.TheVariants as note
 use Rattle.wire.specs.Spelling.{IsDevices}
 use Rattle.wire.specs.Spelling.{IsDevice as IsNumber}
+use Rattle.history.specs.Contact.{AttemptsDiffer}
 use Rattle.history.specs.Moment.{Moment}
 use Rattle.history.specs.Order.{Always}
 use Rattle.node_model.specs.Seats.{coordinator_of, record_of, state_of}
@@ -66,7 +67,9 @@ use Rattle.run_history.specs.Stages.{Sized, site_of}
 use Rattle.run_history.specs.WorldLines.{IsDevice}
 use Rattle.run_records.proofs.Apart.{doings_apart}
 use Rattle.run_records.proofs.Replies.{CutSo, steps_are_cut_so}
+use Rattle.run_seizings.specs.Sites.{InHand, IsSeizing}
 use Rattle.run_seizings.proofs.Asked.{AllMay}
+use Rattle.run_seizings.proofs.Goes as seizings
 use Rattle.run_seizings.proofs.Steps.{Ground}
 use Rattle.run_validity.specs.Kept.{Excuse, NoExcuse, SiteSo, readying}
 use Rattle.run_validity.specs.Laws.{Agrees, ShowsValidity, told_validity}
@@ -74,7 +77,7 @@ use Rattle.run_validity.proofs.Acts.{mild_at, strict, up_same}
 use Rattle.run_validity.proofs.Answers.{IsFirst, NotJoined}
 use Rattle.run_validity.proofs.Changes.{saved_still}
 use Rattle.run_validity.proofs.Courses.{IsTrusting, doings_trust, joined_trusts, seized, under_trusts}
-use Rattle.run_validity.proofs.Doings.{Ready, Small, admits_goes, all_go, all_lost, lost_goes, rest_go, small_rest, takes_goes}
+use Rattle.run_validity.proofs.Doings.{Fixed, Ready, Small, admits_goes, all_go, all_lost, also_next, differ_next, lost_goes, rest_go, small_rest, takes_goes}
 use Rattle.run_validity.proofs.Goes.{Goes, HandSo, goes_at, line_goes}
 use Rattle.run_validity.proofs.Stills.{site_stays}
 
@@ -114,18 +117,27 @@ ready_of c v n i sized b was = record {
   joins = (b.stands n).joins;
 }
 
+-- what goes beside: its seizings, and that attempts differ
+pub record Beside (h : Header) (c : Cluster) (n now : ℕ) (ends : method.Outcome) (i : Input) (s : Scene) : Type 0 where
+  pub fixed : Fixed h c n
+  pub seizing : IsSeizing h s
+  pub hand : InHand h s.moments n (delivered_by i)
+  pub differ : AttemptsDiffer (taking c n now ends i s).moments
+
 -- the walk through the small steps of it
 abbrev Walk : Header → Cluster → ℕ → ℕ → method.Outcome → Input → Nodes → Excuse → (Site → Excuse) → Type 0
 Walk h c n now ends i v e f = (replies : List Reply) (w : Nodes) (t : Scene)
-    → Small h c n (delivered_by i) None (site_of v n) (doings c n now ends replies i (v.node n)) → Goes h n (delivered_by i) v w e (site_of v n) t
+    → Small h c n (delivered_by i) None (site_of v n) (doings c n now ends replies i (v.node n))
+    → AttemptsDiffer (passing n (given_all c n (site_of v n) (doings c n now ends replies i (v.node n))) t).moments
+    → seizings.Goes h n (delivered_by i) v w (site_of v n) None t → Goes h n (delivered_by i) v w e (site_of v n) t
     → Goes h n (delivered_by i) v w (f (after_all c n (site_of v n) (doings c n now ends replies i (v.node n)))) (after_all c n (site_of v n) (doings c n now ends replies i (v.node n)))
     (passing n (given_all c n (site_of v n) (doings c n now ends replies i (v.node n))) t)
 
 pub step_around : (h : Header) (c : Cluster) (n now : ℕ) (ends : method.Outcome) (i : Input) (s : Scene) (e : Excuse) (f : Site → Excuse) → Sized c → Ground c s.nodes → IsNode n
     → now < 2 ^ 64 → WasSent s.nodes i → AnswersFit i → HandSo s.moments n (delivered_by i)
     → ((replies : List Reply) → AllMay h c n (delivered_by i) None (site_of s.nodes n) (doings c n now ends replies i (s.nodes.node n)))
-    → Walk h c n now ends i s.nodes e f → Around h s n e → Around h (taking c n now ends i s) n (f (site_of (taking c n now ends i s).nodes n))
-step_around h c n now ends i s e f sized b is time was answer hand guard walk k =
+    → Beside h c n now ends i s → Walk h c n now ends i s.nodes e f → Around h s n e → Around h (taking c n now ends i s) n (f (site_of (taking c n now ends i s).nodes n))
+step_around h c n now ends i s e f sized b is time was answer hand guard beside walk k =
     let v : Nodes = s.nodes in
     let w : Nodes = moved c v (Takes_in n now ends i) in
     let o : Outcome DiskState = stepped disk_rules c n now ends (v.node n) (v.disk n) i in
@@ -143,6 +155,17 @@ step_around h c n now ends i s e f sized b is time was answer hand guard walk k 
       guard = guard cut.replies;
       lost = all_lost told small (doings_apart c n now ends cut.replies i (v.node n) cut.losses);
       fit = subst (λ os. AllFit n os) (sym cut.comes.given) (all_spelled n o.given is widths.given);
+    })
+    (subst (λ os. AttemptsDiffer (passing n os t).moments) (sym cut.comes.given) beside.differ)
+    (record {
+      here = beside.seizing.sites n;
+      there = λ j ne. beside.seizing.sites j;
+      carried = beside.seizing.carried;
+      hand = beside.hand;
+      turn = tt;
+      nodes = refl;
+      held = beside.seizing.held;
+      known = beside.seizing.known;
     }) first in
     let after : Goes h n told v w (f (site o.after o.disk.kept)) (site o.after o.disk.kept) (passing n o.given t) =
     subst (λ os. Goes h n told v w (f (site o.after o.disk.kept)) (site o.after o.disk.kept) (passing n os t)) cut.comes.given
@@ -161,13 +184,13 @@ step_around h c n now ends i s e f sized b is time was answer hand guard walk k 
 pub trusting_step : (h : Header) (c : Cluster) (n now : ℕ) (ends : method.Outcome) (i : Input) (s : Scene) → Sized c → Ground c s.nodes → IsNode n → now < 2 ^ 64 → WasSent s.nodes i
     → AnswersFit i → HandSo s.moments n (delivered_by i) → IsTrusting i
     → ((replies : List Reply) → AllMay h c n (delivered_by i) None (site_of s.nodes n) (doings c n now ends replies i (s.nodes.node n)))
-    → Strict h s → Strict h (taking c n now ends i s)
-trusting_step h c n now ends i s sized b is time was answer hand trusts guard k =
+    → Beside h c n now ends i s → Strict h s → Strict h (taking c n now ends i s)
+trusting_step h c n now ends i s sized b is time was answer hand trusts guard beside k =
     all_around h (taking c n now ends i s) n
-    (step_around h c n now ends i s NoExcuse (λ x. NoExcuse) sized b is time was answer hand guard
-    (λ replies w t small l.
-    all_go h c b.machine n (delivered_by i) s.nodes w (site_of s.nodes n) None (doings c n now ends replies i (s.nodes.node n)) t (ready_of c s.nodes n i sized b was) small
-    (doings_trust c n now ends replies i (s.nodes.node n) trusts) l) (around h s n NoExcuse k))
+    (step_around h c n now ends i s NoExcuse (λ x. NoExcuse) sized b is time was answer hand guard beside
+    (λ replies w t small differ z l.
+    all_go h c b.machine n (delivered_by i) s.nodes w (site_of s.nodes n) None (doings c n now ends replies i (s.nodes.node n)) t beside.fixed (ready_of c s.nodes n i sized b was) small
+    (doings_trust c n now ends replies i (s.nodes.node n) trusts) differ z l) (around h s n NoExcuse k))
 
 -- ---- a node readies itself for its command
 
@@ -228,10 +251,10 @@ readies_walk h c n v w disk x g replies (Some d) s same few begins small k = by_
 pub readying_step : (h : Header) (c : Cluster) (n now : ℕ) (ends : method.Outcome) (s : Scene) → Sized c → Ground c s.nodes → IsNode n → now < 2 ^ 64
     → IsDevices (s.nodes.disk n).kept.valid → HandSo s.moments n None
     → ((replies : List Reply) → AllMay h c n None None (site_of s.nodes n) (doings c n now ends replies input.CommandDue (s.nodes.node n)))
-    → Strict h s → Around h (taking c n now ends input.CommandDue s) n (readying (site_of (taking c n now ends input.CommandDue s).nodes n))
-readying_step h c n now ends s sized b is time few hand guard k =
-    step_around h c n now ends input.CommandDue s NoExcuse readying sized b is time tt tt hand guard
-    (λ replies w t small l. by_node (s.nodes.node n) replies w t (ready_of c s.nodes n input.CommandDue sized b tt) small l) (around h s n NoExcuse k)
+    → Beside h c n now ends input.CommandDue s → Strict h s → Around h (taking c n now ends input.CommandDue s) n (readying (site_of (taking c n now ends input.CommandDue s).nodes n))
+readying_step h c n now ends s sized b is time few hand guard beside k =
+    step_around h c n now ends input.CommandDue s NoExcuse readying sized b is time tt tt hand guard beside
+    (λ replies w t small differ z l. by_node (s.nodes.node n) replies w t (ready_of c s.nodes n input.CommandDue sized b tt) small l) (around h s n NoExcuse k)
   where
     disk : NodeRecord
     disk = (s.nodes.disk n).kept
@@ -269,38 +292,39 @@ first_due x at k f = (
 )
 
 answers_walk : (h : Header) (c : Cluster) (M : Memberships) (n : ℕ) (v w : Nodes) (disk : NodeRecord) (x : UpNode) (g : Hand) (replies : List Reply) (at : ℕ) (k : PrCommand) (a : Answer)
-    (p : Progress) (s : Scene) → Ready c M n None (site (Up x) disk) → disk ≡ record_of x → IsFirst x at k → progress_after x.tasks a ≡ p
-    → Small h c n None g (site (Up x) disk) (under replies (progress_course c n x at k a p)) → Goes h n None v w (readying (site (Up x) disk)) (site (Up x) disk) s
+    (p : Progress) (s : Scene) → Fixed h c n → Ready c M n None (site (Up x) disk) → disk ≡ record_of x → IsFirst x at k → progress_after x.tasks a ≡ p
+    → Small h c n None g (site (Up x) disk) (under replies (progress_course c n x at k a p))
+    → AttemptsDiffer (passing n (given_all c n (site (Up x) disk) (under replies (progress_course c n x at k a p))) s).moments → seizings.Goes h n None v w (site (Up x) disk) g s → Goes h n None v w (readying (site (Up x) disk)) (site (Up x) disk) s
     → Goes h n None v w NoExcuse (after_all c n (site (Up x) disk) (under replies (progress_course c n x at k a p)))
     (passing n (given_all c n (site (Up x) disk) (under replies (progress_course c n x at k a p))) s)
-answers_walk h c M n v w disk x g replies at k a GoesOn s r same f is small l =
-    rest_go h c M n None v w (site (Up x) disk) g (Does (Takes at k a)) [] s r small tt
+answers_walk h c M n v w disk x g replies at k a GoesOn s fixed r same f is small differ z l =
+    rest_go h c M n None v w (site (Up x) disk) g (Does (Takes at k a)) [] s fixed r small tt differ z
     (takes_goes h c n None v w disk x at k a s same f (λ d e. goes_on_no d (sym is ∙ e)) l)
-answers_walk h c M n v w disk x g replies at k a (Seized e q) s r same f is small l =
+answers_walk h c M n v w disk x g replies at k a (Seized e q) s fixed r same f is small differ z l =
     let y : UpNode = answered_so x a in
     let rest : Course = seized_course c n y e q (coordinator_of y) in
-    rest_go h c M n None v w (site (Up x) disk) g (Does (Takes at k a)) (under replies rest) s r small (under_trusts replies rest (seized c n y e q (coordinator_of y)))
+    rest_go h c M n None v w (site (Up x) disk) g (Does (Takes at k a)) (under replies rest) s fixed r small (under_trusts replies rest (seized c n y e q (coordinator_of y))) differ z
     (takes_goes h c n None v w disk x at k a s same f (λ d i. seized_no d e q (sym is ∙ i)) l)
-answers_walk h c M n v w disk x g replies at k a (Joined e (join.Late word)) s r same f is small l =
+answers_walk h c M n v w disk x g replies at k a (Joined e (join.Late word)) s fixed r same f is small differ z l =
     let y : UpNode = answered_so x a in
     let rest : Course = joined_course c n y (coordinator_of y) in
-    rest_go h c M n None v w (site (Up x) disk) g (Does (Takes at k a)) (under replies rest) s r small (under_trusts replies rest (joined_trusts c n y (coordinator_of y)))
+    rest_go h c M n None v w (site (Up x) disk) g (Does (Takes at k a)) (under replies rest) s fixed r small (under_trusts replies rest (joined_trusts c n y (coordinator_of y))) differ z
     (takes_goes h c n None v w disk x at k a s same f (λ d i. late_no d e word (sym is ∙ i)) l)
-answers_walk h c M n v w disk x g replies at k a (Joined e join.Fault) s r same f is small l =
+answers_walk h c M n v w disk x g replies at k a (Joined e join.Fault) s fixed r same f is small differ z l =
     let y : UpNode = answered_so x a in
     let rest : Course = joined_course c n y (coordinator_of y) in
-    rest_go h c M n None v w (site (Up x) disk) g (Does (Takes at k a)) (under replies rest) s r small (under_trusts replies rest (joined_trusts c n y (coordinator_of y)))
+    rest_go h c M n None v w (site (Up x) disk) g (Does (Takes at k a)) (under replies rest) s fixed r small (under_trusts replies rest (joined_trusts c n y (coordinator_of y))) differ z
     (takes_goes h c n None v w disk x at k a s same f (λ d i. fault_no d e (sym is ∙ i)) l)
-answers_walk h c M n v w disk x g [] at k a (Joined e join.Joined) s r same f is small l =
+answers_walk h c M n v w disk x g [] at k a (Joined e join.Joined) s fixed r same f is small differ z l =
     lost_goes h n None v w (readying (site (Up x) disk)) (site (Up x) disk) disk (Admits at k a e) cause.Stopped s small.lost.0 l
-answers_walk h c M n v w disk x g (Lost_new why ∷ replies) at k a (Joined e join.Joined) s r same f is small l =
+answers_walk h c M n v w disk x g (Lost_new why ∷ replies) at k a (Joined e join.Joined) s fixed r same f is small differ z l =
     lost_goes h n None v w (readying (site (Up x) disk)) (site (Up x) disk) (record_of (changed c n x (Admits at k a e))) (Admits at k a e) why s small.lost.0 l
-answers_walk h c M n v w disk x g (Lost_old why ∷ replies) at k a (Joined e join.Joined) s r same f is small l =
+answers_walk h c M n v w disk x g (Lost_old why ∷ replies) at k a (Joined e join.Joined) s fixed r same f is small differ z l =
     lost_goes h n None v w (readying (site (Up x) disk)) (site (Up x) disk) disk (Admits at k a e) why s small.lost.0 l
-answers_walk h c M n v w disk x g (Done ∷ replies) at k a (Joined e join.Joined) s r same f is small l =
+answers_walk h c M n v w disk x g (Done ∷ replies) at k a (Joined e join.Joined) s fixed r same f is small differ z l =
     let y : UpNode = joining_so (answered_so x a) e in
     let rest : Course = joined_course c n y (coordinator_of y) in
-    rest_go h c M n None v w (site (Up x) disk) g (Saves (Admits at k a e)) (under replies rest) s r small (under_trusts replies rest (joined_trusts c n y (coordinator_of y)))
+    rest_go h c M n None v w (site (Up x) disk) g (Saves (Admits at k a e)) (under replies rest) s fixed r small (under_trusts replies rest (joined_trusts c n y (coordinator_of y))) differ z
     (admits_goes h c n None v w disk x at k a e s same tt f is l)
 
 -- what is so of the first task of a node that is up
@@ -311,11 +335,11 @@ FirstIn at k (Up x) = IsFirst x at k
 pub answer_step : (h : Header) (c : Cluster) (n now at : ℕ) (k : PrCommand) (ends : method.Outcome) (a : Answer) (s : Scene) → Sized c → Ground c s.nodes → IsNode n → now < 2 ^ 64
     → AnswersFit (input.Answered a) → HandSo s.moments n None
     → ((replies : List Reply) → AllMay h c n None None (site_of s.nodes n) (doings c n now ends replies (input.Answered a) (s.nodes.node n)))
-    → FirstIn at k (s.nodes.node n) → Around h s n (readying (site_of s.nodes n)) → Strict h (taking c n now ends (input.Answered a) s)
-answer_step h c n now at k ends a s sized b is time answer hand guard first l =
+    → Beside h c n now ends (input.Answered a) s → FirstIn at k (s.nodes.node n) → Around h s n (readying (site_of s.nodes n)) → Strict h (taking c n now ends (input.Answered a) s)
+answer_step h c n now at k ends a s sized b is time answer hand guard beside first l =
     all_around h (taking c n now ends (input.Answered a) s) n
-    (step_around h c n now ends (input.Answered a) s (readying (site_of s.nodes n)) (λ x. NoExcuse) sized b is time tt answer hand guard
-    (λ replies w t small z. by_node (s.nodes.node n) replies w t (ready_of c s.nodes n (input.Answered a) sized b tt) first small z) l)
+    (step_around h c n now ends (input.Answered a) s (readying (site_of s.nodes n)) (λ x. NoExcuse) sized b is time tt answer hand guard beside
+    (λ replies w t small differ z k. by_node (s.nodes.node n) replies w t (ready_of c s.nodes n (input.Answered a) sized b tt) first small differ z k) l)
   where
     disk : NodeRecord
     disk = (s.nodes.disk n).kept
@@ -326,25 +350,33 @@ answer_step h c n now at k ends a s sized b is time answer hand guard first l =
     Walked : Nodes → Scene → UpNode → List Doing → Type 0
     Walked w t y ds = Goes h n None s.nodes w NoExcuse (after_all c n (site (Up y) disk) ds) (passing n (given_all c n (site (Up y) disk) ds) t)
 
+    Differs : Scene → UpNode → List Doing → Type 0
+    Differs t y ds = AttemptsDiffer (passing n (given_all c n (site (Up y) disk) ds) t).moments
+
     by_due : (y : UpNode) (o : Option ℕ) (q : Option PrCommand) (replies : List Reply) (w : Nodes) (t : Scene) → due_device y.tasks ≡ o → next_of y.tasks ≡ q
         → Ready c b.machine n None (site (Up y) disk) → IsFirst y at k → Small h c n None None (site (Up y) disk) (under replies (answered_course c n y a o q))
+        → Differs t y (under replies (answered_course c n y a o q)) → seizings.Goes h n None s.nodes w (site (Up y) disk) None t
         → Goes h n None s.nodes w (readying (site (Up y) disk)) (site (Up y) disk) t → Walked w t y (under replies (answered_course c n y a o q))
-    by_due y None q replies w t due next r f small z = absurd (none_some at (sym due ∙ (first_due y at k f).0))
-    by_due y (Some d) None replies w t due next r f small z = absurd (none_some k (sym next ∙ (first_due y at k f).1))
-    by_due y (Some d) (Some j) replies w t due next r f small z =
+    by_due y None q replies w t due next r f small differ z l = absurd (none_some at (sym due ∙ (first_due y at k f).0))
+    by_due y (Some d) None replies w t due next r f small differ z l = absurd (none_some k (sym next ∙ (first_due y at k f).1))
+    by_due y (Some d) (Some j) replies w t due next r f small differ z l =
         let same_device : at ≡ d = same_some at d (sym (first_due y at k f).0 ∙ due) in
         let same_command : k ≡ j = same_some k j (sym (first_due y at k f).1 ∙ next) in
-        answers_walk h c b.machine n s.nodes w disk y None replies d j a (progress_after y.tasks a) t r (sees c b.machine n disk y.attempt y.seat r.tied.0).disk_so
-        (subst (λ e. IsFirst y d e) same_command (subst (λ e. IsFirst y e k) same_device f)) refl small z
+        answers_walk h c b.machine n s.nodes w disk y None replies d j a (progress_after y.tasks a) t beside.fixed r (sees c b.machine n disk y.attempt y.seat r.tied.0).disk_so
+        (subst (λ e. IsFirst y d e) same_command (subst (λ e. IsFirst y e k) same_device f)) refl small differ z l
 
     by_node : (node : Node) (replies : List Reply) (w : Nodes) (t : Scene) → Ready c b.machine n None (site node disk) → FirstIn at k node
-        → Small h c n None None (site node disk) (doings c n now ends replies i node) → Goes h n None s.nodes w (readying (site node disk)) (site node disk) t
+        → Small h c n None None (site node disk) (doings c n now ends replies i node)
+        → AttemptsDiffer (passing n (given_all c n (site node disk) (doings c n now ends replies i node)) t).moments → seizings.Goes h n None s.nodes w (site node disk) None t
+        → Goes h n None s.nodes w (readying (site node disk)) (site node disk) t
         → Goes h n None s.nodes w NoExcuse (after_all c n (site node disk) (doings c n now ends replies i node)) (passing n (given_all c n (site node disk) (doings c n now ends replies i node)) t)
-    by_node Down replies w t r f small z = absurd f
-    by_node (Up x) replies w t r f small z =
+    by_node Down replies w t r f small differ z l = absurd f
+    by_node (Up x) replies w t r f small differ z l =
         let y : UpNode = at_second now x in
+        let rest : List Doing = under replies (answered_course c n y a (due_device y.tasks) (next_of y.tasks)) in
         by_due y (due_device y.tasks) (next_of y.tasks) replies w t refl refl
         (record { fits = r.fits; holds = r.holds; known = r.known; tied = r.tied; joins = r.joins })
         (record { task = f.task; found = f.found; device = f.device; command = f.command; number = f.number; fits = f.fits; readied = f.readied })
-        (small_rest h c n None None (site (Up x) disk) (Does (Dates now)) (under replies (answered_course c n y a (due_device y.tasks) (next_of y.tasks))) small)
-        (mild_at h n None s.nodes w (readying (site (Up x) disk)) disk x y [] t tt tt refl refl refl z)
+        (small_rest h c n None None (site (Up x) disk) (Does (Dates now)) rest small) (differ_next c n (site (Up x) disk) (Does (Dates now)) rest t differ)
+        (also_next h c b.machine n None s.nodes w (site (Up x) disk) None (Does (Dates now)) rest t beside.fixed r small differ z)
+        (mild_at h n None s.nodes w (readying (site (Up x) disk)) disk x y [] t tt tt refl refl refl l)

@@ -1,5 +1,5 @@
 -- Which moments leave what is told of a node: which devices are valid to it, whether it moved on, and how far its joinings are.
-use Rattle.std.specs.Prelude.{ℕ, ◌≡◌, ◌≢◌, ◌⊎◌, ◌==◌, ◌&&◌, ◌||◌, Bool, true, false, List, [], ◌∷◌}
+use Rattle.std.specs.Prelude.{ℕ, ◌≡◌, ◌≢◌, ◌⊎◌, ◌==◌, ◌&&◌, ◌||◌, Bool, true, false, List, [], ◌∷◌, is_some, if◌then◌else◌}
 use Rattle.std.specs.List.{AllByRecursion, list_any}
 use Rattle.std.proofs.Common.{refl, sym, ap, subst, ◌∙◌, inl, inr}
 use Rattle.cl_base.specs.Sets.{has}
@@ -29,7 +29,7 @@ use Rattle.status_report.specs.declared.node_entry.NodeEntry.TheVariants as node
 use Rattle.history.specs.Member.{in_collect, last_installed}
 use Rattle.history.specs.Moment.{Moment, Told}
 use Rattle.history.specs.Order.{since}
-use Rattle.history.specs.Seizing.{is_install}
+use Rattle.history.specs.Seizing.{is_install, seizing_of}
 use Rattle.history.specs.Setting.{coordinator}
 use Rattle.history.specs.Validated.{Valid, Lapsed, Open, joins, moved_on, registers}
 use Rattle.node_model.specs.Seats.{installed_of, session_of}
@@ -149,7 +149,7 @@ still_node h ms n m node_entry.Saved is = record {
   entered = λ d q k. entered_more ms n d q (Told (entry.Node m node_entry.Saved)) refl k;
 }
 still_node h ms n m (node_entry.Installed e) is = record {
-  valid = λ d. if_not (m == n) Open (told_validity h n d ms) (not_same m n is);
+  valid = λ d. if_not (m == n) (if is_some (seizing_of h e d ms) then Open else told_validity h n d ms) (told_validity h n d ms) (not_same m n is);
   moved = if_not (m == n) false (moved_on n ms) (not_same m n is);
   last = if_not (m == n) e (last_installed n ms) (not_same m n is);
   entered = λ d q k. entered_more ms n d q (Told (entry.Node m (node_entry.Installed e))) (two_not (m == n) (e == q) (not_same m n is)) k;

@@ -1,5 +1,5 @@
 -- What is proved of each run of the world, as things that happen: which devices the record of a node holds valid, as the lines tell it.
-use Rattle.std.specs.Prelude.{ℕ, ◌≡◌, ◌<◌, ◌≤◌, ◌^◌, ◌⊎◌, ◌==◌, ◌&&◌, Bool, true, false, if◌then◌else◌, List, [], ◌∷◌, length, Option, None, Some}
+use Rattle.std.specs.Prelude.{ℕ, ◌≡◌, ◌<◌, ◌≤◌, ◌^◌, ◌⊎◌, ◌==◌, ◌&&◌, Bool, true, false, if◌then◌else◌, List, [], ◌∷◌, length, Option, None, Some, is_some}
 use Rattle.cl_base.specs.Limits.{most_devices}
 use Rattle.cl_base.specs.Sets.{has}
 use Rattle.cl_base.specs.declared.header.Header.{Header}
@@ -11,6 +11,7 @@ use Rattle.wire.specs.declared.message.Body.TheVariants as body
 use Rattle.history.specs.Letters.{says}
 use Rattle.history.specs.Moment.{Moment}
 use Rattle.history.specs.Order.{Always}
+use Rattle.history.specs.Seizing.{seizing_of}
 use Rattle.history.specs.Setting.{is_configured, is_quorum, paths_of}
 use Rattle.history.specs.Trace.{device, disk_failed, installed, sent, stopped}
 use Rattle.history.specs.Validated.{Validity, Valid, Lapsed, Open, at_first, joins, validity}
@@ -26,13 +27,15 @@ use Rattle.run_history.specs.WorldLines.{AreDisks, IsDevice}
 
 -- ---- what the lines tell
 
--- As `validity` of `history`, but for what an install brings: after one it is open, until an `ignore` or the word of a joining tells.
+-- As `validity` of `history`, but for what an install brings of a device that was seized for it: it is open then, until an `ignore` or the word of
+-- a joining tells.
 abbrev pub told_validity : Header → ℕ → ℕ → List Moment → Validity
 told_validity h n d [] = at_first (is_quorum h d && has (paths_of h d) n && is_configured h n)
 told_validity h n d (device m x (command.Ignore key) reply ∷ before) = if (m == n) && (x == d) then Lapsed else told_validity h n d before
 told_validity h n d (device m x command.Word (Given (answer.Word w)) ∷ before) =
     if (m == n) && (x == d) && joins n d w before then Valid else told_validity h n d before
-told_validity h n d (installed m e ∷ before) = if m == n then Open else told_validity h n d before
+told_validity h n d (installed m e ∷ before) =
+    if m == n then (if is_some (seizing_of h e d before) then Open else told_validity h n d before) else told_validity h n d before
 told_validity h n d (stopped m ∷ before) = if m == n then Open else told_validity h n d before
 told_validity h n d (disk_failed m ∷ before) = if m == n then Open else told_validity h n d before
 told_validity h n d (_ ∷ before) = told_validity h n d before
