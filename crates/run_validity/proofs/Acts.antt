@@ -1,23 +1,19 @@
 -- What a node does in memory, or sends.
-use Rattle.std.specs.Prelude.{ℕ, ◌≡◌, ◌<◌, ◌⊎◌, ◌++◌, List, [], ◌∷◌, Option, None, Some}
+use Rattle.std.specs.Prelude.{ℕ, ◌≡◌, ◌<◌, ◌⊎◌, List, [], ◌∷◌, Option, None, Some}
 use Rattle.std.specs.List.{AllByRecursion}
 use Rattle.std.proofs.Common.{refl, sym, ap, subst, ◌∙◌, inl, inr}
 use Rattle.cl_base.specs.Sets.{has}
 use Rattle.cl_base.specs.declared.header.Header.{Header}
 use Rattle.cmm_attempt.proofs.Basics.{if_either}
-use Rattle.cmm_attempt.specs.Attempts.{AttemptState}
 use Rattle.cmm_member.specs.Records.{NodeRecord}
 use Rattle.device_queue.specs.Queue.{after_seize, put_unless, seizure_of}
 use Rattle.device_queue.specs.declared.task.Task.{Task}
 use Rattle.device_queue.specs.declared.task.Work.TheVariants.{Seizing as Seizes}
 use Rattle.seize.specs.Seizing as seizing
 use Rattle.seize.specs.Seizing.{SeizeState}
-use Rattle.status_report.specs.declared.entry.Entry.{Entry}
-use Rattle.status_report.specs.declared.entry.Entry.TheVariants as entry
 use Rattle.wire.specs.declared.message.Body.{Body}
 use Rattle.wire.specs.declared.message.Body.TheVariants as body
 use Rattle.history.specs.Moment.{Moment}
-use Rattle.node_model.specs.Attempts.{seizing_here}
 use Rattle.node_model.specs.Seats.{installed_of, record_of, session_of}
 use Rattle.node_model.specs.declared.cluster.Cluster.{Cluster}
 use Rattle.node_model.specs.declared.node.Node.TheVariants.{Up}
@@ -33,7 +29,6 @@ use Rattle.run_history.proofs.Lists.{both}
 use Rattle.run_history.specs.Guards.{Hand}
 use Rattle.run_history.specs.Marks.{ActSo}
 use Rattle.run_history.specs.Scenes.{Scene, passing}
-use Rattle.run_history.specs.WorldLines.{IsDevice}
 use Rattle.run_seizings.proofs.Acts.{ActMay}
 use Rattle.run_validity.specs.Kept.{Excuse, MovedSo, NoExcuse, SiteSo, TaskSo, UpSo}
 use Rattle.run_validity.specs.Laws.{Agrees, ShowsIn, told_validity}

@@ -1,5 +1,5 @@
 -- The answer to a command: what its line tells, and how far the task is by it.
-use Rattle.std.specs.Prelude.{ℕ, ◌≡◌, ◌≢◌, ◌<◌, ◌≤◌, ◌⊎◌, ◌==◌, ◌&&◌, ◌++◌, not, Bool, true, false, List, [], ◌∷◌, Option, None, Some, Ok, Err, find, if◌then◌else◌}
+use Rattle.std.specs.Prelude.{ℕ, ◌≡◌, ◌<◌, ◌≤◌, ◌⊎◌, ◌==◌, ◌&&◌, not, Bool, true, false, List, [], ◌∷◌, Option, None, Some, Ok, Err, find, if◌then◌else◌}
 use Rattle.std.specs.List.{AllByRecursion, list_any}
 use Rattle.std.specs.Option.{option_and_then}
 use Rattle.std.proofs.Common.{refl, sym, ap, subst, ◌∙◌, inl, inr, arith}
@@ -9,14 +9,13 @@ use Rattle.cl_base.specs.Sets.{has, set_with}
 use Rattle.cl_base.specs.declared.header.Header.{Header}
 use Rattle.cluster_ties.proofs.Commands.{has_new, has_same}
 use Rattle.cmm_attempt.proofs.Basics.{and_cases, none_some, same_number, same_some}
-use Rattle.cmm_member.specs.Nodes.{NodeState, with_joined}
 use Rattle.cmm_member.specs.Records.{NodeRecord}
 use Rattle.device_queue.specs.Queue as queue
 use Rattle.device_queue.specs.Queue.{after_answer, begins_plainly, first_of, progress_after}
 use Rattle.device_queue.specs.Tasks as tasks
 use Rattle.device_queue.specs.Tasks.{answered, command_in, is_queued, progress_in, registers_first, work_answered}
 use Rattle.device_queue.specs.declared.progress.Progress.{Progress}
-use Rattle.device_queue.specs.declared.progress.Progress.TheVariants.{GoesOn, Joined, Seized}
+use Rattle.device_queue.specs.declared.progress.Progress.TheVariants.{GoesOn, Joined}
 use Rattle.device_queue.specs.declared.task.Task.{Task}
 use Rattle.device_queue.specs.declared.task.Work.{Work}
 use Rattle.device_queue.specs.declared.task.Work.TheVariants.{Seizing as Seizes, Joining as Joins}
@@ -36,7 +35,6 @@ use Rattle.seize.specs.declared.step.JoinStep.TheVariants as join
 use Rattle.seize.specs.declared.step.SeizeStep.{SeizeStep}
 use Rattle.seize.specs.declared.step.SeizeStep.TheVariants as step
 use Rattle.status_report.specs.declared.device_entry.DeviceEntry.TheVariants as device_entry
-use Rattle.status_report.specs.declared.entry.Entry.{Entry}
 use Rattle.status_report.specs.declared.entry.Entry.TheVariants as entry
 use Rattle.wire.specs.Spelling.{IsDevice as IsNumber}
 use Rattle.history.specs.Member.{last_installed}
@@ -51,7 +49,6 @@ use Rattle.node_model.specs.declared.node.Node.TheVariants.{Up}
 use Rattle.node_model.specs.declared.node.UpNode.{UpNode}
 use Rattle.refinement.specs.Doings.{site}
 use Rattle.run_history.specs.Happenings.{IsReadied}
-use Rattle.run_history.specs.WorldLines.{IsDevice}
 use Rattle.run_seizings.proofs.Progress.{if_not, if_so, or_left, same_is}
 use Rattle.run_seizings.proofs.Promising.{and_both, same_so}
 use Rattle.run_validity.specs.Kept.{HasEntered, JoinSo, MovedSo, TaskSo, UpSo, WorkSo, readying}

@@ -1,10 +1,10 @@
 -- What a node saves, with its lines.
-use Rattle.std.specs.Prelude.{ℕ, ◌≡◌, ◌≢◌, ◌<◌, ◌≤◌, ◌+◌, ◌⊎◌, ◌==◌, ◌&&◌, ◌++◌, Bool, true, false, List, [], ◌∷◌, length, Option, None, Some, if◌then◌else◌}
+use Rattle.std.specs.Prelude.{ℕ, ◌≡◌, ◌<◌, ◌≤◌, ◌⊎◌, ◌==◌, ◌&&◌, ◌++◌, Bool, true, false, List, [], ◌∷◌, length, Option, None, Some}
 use Rattle.std.specs.List.{AllByRecursion}
-use Rattle.std.proofs.Common.{refl, sym, ap, subst, ◌∙◌, inl, inr, arith}
+use Rattle.std.proofs.Common.{refl, sym, ap, subst, ◌∙◌, inl, arith}
 use Rattle.attempt_laws.proofs.Goes.{chosen_reached, goes_by_call}
 use Rattle.attempt_laws.proofs.Stays.{plan_stays}
-use Rattle.ccr_commit.specs.Entries.{all_committed, texts_of, with_next}
+use Rattle.ccr_commit.specs.Entries.{all_committed, with_next}
 use Rattle.cl_base.specs.Limits.{most_devices}
 use Rattle.cl_base.specs.Sets.{has}
 use Rattle.cl_base.specs.declared.header.Header.{Header}
@@ -12,7 +12,7 @@ use Rattle.cmm_attempt.proofs.Basics.{if_either}
 use Rattle.cmm_attempt.specs.Attempts.{AttemptState, install_in}
 use Rattle.cmm_attempt.specs.Calls.{Call, turn}
 use Rattle.cmm_attempt.specs.declared.plan.Plan.{Plan}
-use Rattle.cmm_member.specs.Nodes.{NodeState, installed_with, started, with_entries}
+use Rattle.cmm_member.specs.Nodes.{NodeState, installed_with, with_entries}
 use Rattle.cmm_member.specs.Records.{NodeRecord}
 use Rattle.device_queue.specs.Queue.{after_join, join_of, put_unless}
 use Rattle.device_queue.specs.declared.task.Task.{Task}
@@ -26,15 +26,14 @@ use Rattle.status_report.specs.declared.attempt_entry.AttemptEntry.TheVariants a
 use Rattle.status_report.specs.declared.entry.Entry.{Entry}
 use Rattle.status_report.specs.declared.entry.Entry.TheVariants as entry
 use Rattle.status_report.specs.declared.node_entry.NodeEntry.TheVariants as note
-use Rattle.status_report.specs.declared.update_entry.UpdateEntry.TheVariants as update_entry
 use Rattle.wire.specs.declared.message.Body.{Body}
 use Rattle.wire.specs.declared.message.Body.TheVariants as body
 use Rattle.wire.specs.declared.message.Install.{Install}
 use Rattle.wire.specs.declared.lists.Reading.{Reading}
 use Rattle.history.specs.Member.{in_collect, last_installed}
-use Rattle.history.specs.Moment.{Moment, Told}
+use Rattle.history.specs.Moment.{Moment}
 use Rattle.history.specs.Setting.{coordinator}
-use Rattle.history.specs.Trace.{attempt, installed, saved}
+use Rattle.history.specs.Trace.{installed, saved}
 use Rattle.history.specs.Validated.{moved_on}
 use Rattle.node_model.specs.Attempts.{base_lines, is_to_join, joining_from, joining_with, starting_as}
 use Rattle.node_model.specs.Entries.{unknown_lines}
@@ -50,7 +49,7 @@ use Rattle.refinement.specs.Doings.{Change, adopted_by, changed, first_lines, la
 use Rattle.refinement.specs.Doings.Change.{Acks, Admits, Commits, Counts, Distrusts, Installs, Leads, Prepares, Promises, Proposes, Sits, Starts}
 use Rattle.refinement.specs.Guards.{Asks, MayChange, Says}
 use Rattle.refinement.specs.Runs.{Nodes}
-use Rattle.refinement.specs.Ties.{Coordinates, Delivered}
+use Rattle.refinement.specs.Ties.{Delivered}
 use Rattle.refinement.specs.Worlds.{AllFit}
 use Rattle.run_history.proofs.Changes.{At, at_attempt, session_after}
 use Rattle.run_history.proofs.Lists.{both}
@@ -58,16 +57,16 @@ use Rattle.run_history.proofs.Ups.{same_state}
 use Rattle.run_history.proofs.Walk.{passing_append}
 use Rattle.run_history.specs.Scenes.{Scene, passing, telling}
 use Rattle.run_history.specs.WorldLines.{IsDevice}
-use Rattle.run_seizings.proofs.Changes.{IsPromise, NoCollect, fit_parts, mid}
+use Rattle.run_seizings.proofs.Changes.{NoCollect, fit_parts, mid}
 use Rattle.run_seizings.proofs.Progress.{if_so, or_left, same_is}
 use Rattle.run_seizings.proofs.Promising.{After, and_both, same_so}
 use Rattle.run_validity.specs.Kept.{JoinSo, MovedSo, NoExcuse, SiteSo, TaskSo, UpSo, WorkSo}
 use Rattle.run_validity.specs.Laws.{Agrees, told_validity}
 use Rattle.run_validity.proofs.Acts.{strict, up_same}
-use Rattle.run_validity.proofs.Goes.{AreMild, Goes, HandSo, HasCollect, IsCollect, goes_at, line_goes, mild_append, mild_goes, outputs_go}
+use Rattle.run_validity.proofs.Goes.{AreMild, Goes, HasCollect, IsCollect, goes_at, line_goes, mild_append, outputs_go}
 use Rattle.run_validity.proofs.Installs.{Brings, install_told, mid_brings}
 use Rattle.run_validity.proofs.Mild.{adopted_mild, bases_mild, superseded_mild, unknown_mild}
-use Rattle.run_validity.proofs.Stills.{Still, entered_more, or_not, site_stays, task_stays}
+use Rattle.run_validity.proofs.Stills.{Still, entered_more, or_not, site_stays}
 
 no_truth : false ≡ true → ⊥
 no_truth e = cc

@@ -1,5 +1,5 @@
 -- But for the save before an `ignore`, and the answer to a command, no step of a node tells which devices are valid to it, other than by installs.
-use Rattle.std.specs.Prelude.{ℕ, ◌≡◌, ◌==◌, nat_le, nat_lt, Bool, true, false, List, [], ◌∷◌, Option, None, Some, Ok, Err, is_some, if◌then◌else◌}
+use Rattle.std.specs.Prelude.{ℕ, ◌==◌, nat_le, nat_lt, Bool, true, false, List, [], ◌∷◌, Option, None, Some, Ok, Err, is_some, if◌then◌else◌}
 use Rattle.std.specs.List.{AllByRecursion}
 use Rattle.std.specs.Option.{unwrap_or}
 use Rattle.cl_base.specs.Seizings.{SeizeResult}
@@ -39,7 +39,7 @@ use Rattle.refinement.specs.Cuts.{first_turn}
 use Rattle.refinement.specs.Doings.{Act, Change, Doing, acted, changed, going}
 use Rattle.refinement.specs.Doings.Act.{Takes}
 use Rattle.refinement.specs.Doings.Change.{Admits, Counts, Distrusts, Leads, Starts}
-use Rattle.refinement.specs.Doings.Doing.{Comes_up, Does, Forgets, Goes_down, Loses, Saves}
+use Rattle.refinement.specs.Doings.Doing.{Does, Saves}
 use Rattle.run_history.proofs.QuietCourses.{IsOther, Quiet, QuietAct, QuietChange, client, command, deciding, governing, other, readying, report}
 
 abbrev pub TrustsChange : Change → Type 0

@@ -1,5 +1,5 @@
 -- The small steps of a node, one after another.
-use Rattle.std.specs.Prelude.{ℕ, ◌≡◌, ◌≢◌, ◌<◌, ◌≤◌, ◌⊎◌, ◌+◌, ◌==◌, ◌++◌, nat_le, All, Bool, true, false, List, [], ◌∷◌, length}
+use Rattle.std.specs.Prelude.{ℕ, ◌≡◌, ◌≢◌, ◌<◌, ◌≤◌, ◌+◌, ◌==◌, ◌++◌, nat_le, All, Bool, true, false, List, [], ◌∷◌, length}
 use Rattle.std.proofs.Common.{refl, sym, ap, subst, ◌∙◌, inl, inr, arith}
 use Rattle.cl_base.specs.Limits.{most_devices}
 use Rattle.cl_base.specs.Sets.{has, set_with}
@@ -29,7 +29,7 @@ use Rattle.history.specs.Moment.{Moment}
 use Rattle.history.specs.Trace.{down}
 use Rattle.history.specs.Validated.{Open}
 use Rattle.node_model.specs.Devices.{answer_told}
-use Rattle.node_model.specs.Seats.{installed_of, promised_of, record_of, session_of, state_of}
+use Rattle.node_model.specs.Seats.{installed_of, promised_of, record_of, state_of}
 use Rattle.node_model.specs.declared.cluster.Cluster.{Cluster}
 use Rattle.node_model.specs.declared.node.Node.{Node}
 use Rattle.node_model.specs.declared.node.Node.TheVariants.{Down, Up}
@@ -39,15 +39,15 @@ use Rattle.refinement.proofs.Acts.{does_one}
 use Rattle.refinement.proofs.Changes.{sees}
 use Rattle.refinement.proofs.Facts.{facts_of, joins_one}
 use Rattle.refinement.proofs.Ties.{known_stays}
-use Rattle.refinement.specs.Doings.{Act, Change, Doing, Site, acted, after_all, answered_so, changed, effect, first_lines, given_all, gives, gone_line, last_lines, of_node, said, site}
+use Rattle.refinement.specs.Doings.{Act, Change, Doing, Site, acted, after_all, answered_so, changed, effect, first_lines, given_all, gives, gone_line, of_node, said, site}
 use Rattle.refinement.specs.Doings.Act.{Makes, Takes}
 use Rattle.refinement.specs.Doings.Change.{Acks, Admits, Commits, Counts, Distrusts, Installs, Leads, Prepares, Promises, Proposes, Sits, Starts}
 use Rattle.refinement.specs.Doings.Doing.{Comes_up, Does, Forgets, Goes_down, Loses, Saves}
 use Rattle.refinement.specs.Events.{of_doing}
-use Rattle.refinement.specs.Facts.{JoinsFit, JoinsIn}
+use Rattle.refinement.specs.Facts.{JoinsIn}
 use Rattle.refinement.specs.Guards.{May, MayAct, MayAll, MayChange}
 use Rattle.refinement.specs.Runs.{Nodes}
-use Rattle.refinement.specs.Ties.{Delivered, GoesOn, Known, NodeTied, SiteTied, setting_of}
+use Rattle.refinement.specs.Ties.{Delivered, GoesOn, Known, SiteTied, setting_of}
 use Rattle.refinement.specs.Worlds.{AllFit}
 use Rattle.run_history.proofs.Changes.{At}
 use Rattle.run_history.proofs.Ups.{same_state}

@@ -1,5 +1,5 @@
 -- The task whose command is due, by the machine of the whole cluster.
-use Rattle.std.specs.Prelude.{ℕ, ◌≡◌, ◌<◌, ◌≤◌, not, Bool, true, false, List, [], ◌∷◌, Option, None, Some, find, is_some, if◌then◌else◌}
+use Rattle.std.specs.Prelude.{ℕ, ◌≡◌, ◌<◌, ◌≤◌, Bool, true, false, List, [], ◌∷◌, Option, None, Some, find, if◌then◌else◌}
 use Rattle.std.specs.List.{AllByRecursion}
 use Rattle.std.specs.Option.{option_and_then, option_map}
 use Rattle.std.proofs.Common.{refl, sym, ap, subst, ◌∙◌, arith}
@@ -7,22 +7,19 @@ use Rattle.cl_base.specs.Sets.{has}
 use Rattle.cluster_machine.proofs.Whole.{InOrder}
 use Rattle.cluster_machine.specs.Agreement.{SameNode}
 use Rattle.cluster_machine.specs.Cluster.{Cluster as Whole}
-use Rattle.cluster_ties.proofs.First.{in_order}
-use Rattle.cluster_ties.specs.Ties.{JoiningAt, SeizingAt, TaskAt, UpAt, WorkAt}
+use Rattle.cluster_ties.specs.Ties.{JoiningAt, SeizingAt, TaskAt, WorkAt}
 use Rattle.cmm_attempt.proofs.Basics.{none_some, same_some}
 use Rattle.cmm_member.specs.Records.{NodeRecord}
 use Rattle.device_machine.proofs.Invariant.{NodeOk}
 use Rattle.device_machine.specs.Attempt.{Attempt}
 use Rattle.device_machine.specs.Initiator.{Initiator}
-use Rattle.device_machine.specs.Phase as phase
 use Rattle.device_machine.specs.Phase.{Phase, rank}
 use Rattle.device_queue.specs.Queue.{due_device, first_of, next_of}
 use Rattle.device_queue.specs.Tasks.{command_in, is_queued}
 use Rattle.device_queue.specs.declared.task.Task.{Task}
 use Rattle.device_queue.specs.declared.task.Work.{Work}
 use Rattle.device_queue.specs.declared.task.Work.TheVariants.{Seizing as Seizes, Joining as Joins}
-use Rattle.device_ties.specs.Tasks.{JoinStepTied, JoiningTied}
-use Rattle.membership_machine.specs.State.{Memberships}
+use Rattle.device_ties.specs.Tasks.{JoinStepTied}
 use Rattle.pgr_device.specs.declared.command.PrCommand.{PrCommand}
 use Rattle.seize.specs.Joining as joining
 use Rattle.seize.specs.Joining.{JoinState}

@@ -1,7 +1,7 @@
 -- What is told of valid devices at first.
 use Rattle.std.specs.Prelude.{ℕ, zero, suc, ◌+◌, ◌-◌, ◌≡◌, ◌<◌, ◌≤◌, ◌==◌, ◌&&◌, ◌||◌, Bool, true, false, List, [], ◌∷◌, length, fold, Option, None, Some, slice_get, if◌then◌else◌}
 use Rattle.std.specs.List.{AllByRecursion}
-use Rattle.std.proofs.Common.{refl, sym, ap, subst, ◌∙◌, arith}
+use Rattle.std.proofs.Common.{refl, sym, ap, ◌∙◌, arith}
 use Rattle.cl_base.proofs.SetLemmas.{has_with, none_of_zero, or_bit_value}
 use Rattle.cl_base.specs.Limits.{most_devices}
 use Rattle.cl_base.specs.Sets.{has, set_with}
@@ -15,7 +15,7 @@ use Rattle.history.specs.Setting.{has_votes, is_configured, is_quorum, is_quorum
 use Rattle.history.specs.Validated.{at_first}
 use Rattle.node_model.specs.Clusters.{first_valid_of, is_first_valid}
 use Rattle.node_model.specs.declared.cluster.Cluster.{Cluster}
-use Rattle.world_model.specs.First.{attached_from, first_cluster, quorum_devices, quorum_from, with_quorum}
+use Rattle.world_model.specs.First.{attached_from, first_cluster, quorum_from, with_quorum}
 use Rattle.run_history.specs.WorldLines.{AreDisks, IsDevice, IsDisk}
 use Rattle.run_validity.specs.Laws.{Agrees}
 

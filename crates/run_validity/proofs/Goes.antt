@@ -41,7 +41,7 @@ use Rattle.run_history.specs.Scenes.{Scene, dropped_so, passing, posting, sent_a
 use Rattle.run_seizings.proofs.Changes.{NoCollect}
 use Rattle.run_validity.specs.Kept.{Excuse, NoExcuse, SiteSo}
 use Rattle.run_validity.specs.Laws.{ShowsIn, ShowsValidity}
-use Rattle.run_validity.proofs.Stills.{Still, StillFor, site_stays, still}
+use Rattle.run_validity.proofs.Stills.{StillFor, site_stays, still}
 
 -- ---- what is delivered
 

@@ -7,7 +7,7 @@ use Rattle.pgr_device.specs.declared.command.PrAnswer.TheVariants as answer
 use Rattle.pgr_device.specs.declared.command.PrCommand.{PrCommand}
 use Rattle.pgr_device.specs.declared.command.PrCommand.TheVariants as command
 use Rattle.status_report.specs.declared.device_entry.DeviceAnswer.{DeviceAnswer}
-use Rattle.status_report.specs.declared.device_entry.DeviceAnswer.TheVariants.{Given, Failed}
+use Rattle.status_report.specs.declared.device_entry.DeviceAnswer.TheVariants.{Given}
 use Rattle.status_report.specs.declared.device_entry.DeviceEntry.{DeviceEntry}
 use Rattle.status_report.specs.declared.device_entry.DeviceEntry.TheVariants as device_entry
 use Rattle.status_report.specs.declared.entry.Entry.{Entry}

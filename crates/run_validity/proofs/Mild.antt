@@ -1,5 +1,5 @@
 -- Which outputs of a node change nothing.
-use Rattle.std.specs.Prelude.{ℕ, ◌+◌, ◌++◌, List, [], ◌∷◌, map, Option, None, Some, Ok, Err}
+use Rattle.std.specs.Prelude.{ℕ, ◌+◌, List, [], ◌∷◌, map, Option, None, Some, Ok, Err}
 use Rattle.std.specs.List.{flat_map}
 use Rattle.cl_base.specs.Limits.{most_nodes}
 use Rattle.cl_base.specs.Numbers.{numbers_to}

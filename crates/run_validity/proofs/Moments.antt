@@ -1,16 +1,15 @@
 -- Each thing that happens keeps what is told of valid devices.
-use Rattle.std.specs.Prelude.{ℕ, ◌-◌, ◌≡◌, ◌≢◌, ◌≤◌, ◌<◌, ◌^◌, ◌⊎◌, ◌==◌, ◌&&◌, true, false, List, ◌∷◌, length, Option, None, Some, slice_get}
+use Rattle.std.specs.Prelude.{ℕ, ◌-◌, ◌≡◌, ◌≢◌, ◌≤◌, ◌⊎◌, ◌==◌, ◌&&◌, true, false, List, length, Option, None, Some, slice_get}
 use Rattle.std.proofs.Common.{refl, sym, ap, subst, ◌∙◌, inl, inr}
 use Rattle.cl_base.specs.Limits.{most_devices}
 use Rattle.cl_base.specs.declared.header.Header.{Header}
 use Rattle.cl_base.specs.declared.method.Outcome as method
 use Rattle.cl_base.specs.declared.packet.DropCause.{DropCause}
-use Rattle.cluster_machine.specs.Cluster.{Cluster as Whole}
 use Rattle.cluster_ties.proofs.First.{in_order}
 use Rattle.cmm_attempt.proofs.Basics.{same_some}
 use Rattle.cmm_member.specs.Records.{NodeRecord}
 use Rattle.interconnect.specs.Links as links
-use Rattle.interconnect.specs.Links.{Links, Packet, packet_of, sending}
+use Rattle.interconnect.specs.Links.{Links, Packet, sending}
 use Rattle.machine_base.proofs.Puts.{put_here, put_there, same_or_not}
 use Rattle.machine_base.specs.Put.{put}
 use Rattle.node_widths.specs.Widths.{NodeFits}
@@ -21,11 +20,9 @@ use Rattle.record_disk.specs.Disks.{DiskState, armed}
 use Rattle.schedule_text.specs.declared.event.Event.{Event}
 use Rattle.schedule_text.specs.declared.event.Event.TheVariants as event
 use Rattle.schedule_text.specs.declared.line.Line.TheVariants as line
-use Rattle.seize.specs.Answers.{Answer}
 use Rattle.status_report.specs.declared.entry.Entry.{Entry}
 use Rattle.status_report.specs.declared.entry.Entry.TheVariants as entry
 use Rattle.status_report.specs.declared.packet_entry.PacketEntry.TheVariants as packet
-use Rattle.wire.specs.Reads.{whole_of}
 use Rattle.wire.specs.declared.message.Body.{Body}
 use Rattle.wire.specs.declared.message.Body.TheVariants as body
 use Rattle.wire.specs.declared.message.Message.{Message}
@@ -35,16 +32,14 @@ use Rattle.history.specs.Member.{in_collect}
 use Rattle.history.specs.Moment.{Moment, Part, Said, Told}
 use Rattle.history.specs.Names as name
 use Rattle.history.specs.Names.{named, same_name}
-use Rattle.history.specs.Trace.{delivered}
 use Rattle.node_model.specs.declared.cluster.Cluster.{Cluster}
 use Rattle.node_model.specs.declared.input.Input.{Input}
 use Rattle.node_model.specs.declared.input.Input.TheVariants as input
 use Rattle.node_model.specs.declared.node.Node.{Node}
 use Rattle.refinement.proofs.DeviceWidths.{command_keeps}
 use Rattle.refinement.proofs.Handlers.{delivered_by}
-use Rattle.refinement.specs.Doings.{Site}
 use Rattle.refinement.specs.Runs.{Nodes}
-use Rattle.refinement.specs.Ties.{Delivered, setting_of}
+use Rattle.refinement.specs.Ties.{setting_of}
 use Rattle.refinement.specs.Worlds.{Keeps}
 use Rattle.world_model.specs.First.{first_cluster}
 use Rattle.world_model.specs.Lines.{left_by}
@@ -55,11 +50,10 @@ use Rattle.run_history.proofs.Heard.{low_number}
 use Rattle.run_history.specs.Happenings.{Commanded, Happening, IsPlain, MayHappen, armed_by, commanded, commanded_at, copying, happened, removed}
 use Rattle.run_history.specs.Happenings.Happening.{Arrives, Commands, Takes, Writes}
 use Rattle.run_history.specs.Scenes.{Scene, adding, dropped_so, telling, with_links}
-use Rattle.run_history.specs.Sites.{SiteAt}
 use Rattle.run_history.specs.Stages.{Sized, Stage, site_of}
 use Rattle.run_history.specs.Wholes.{IsWhole}
 use Rattle.run_records.proofs.Arrivals.{arrived_hand}
-use Rattle.run_seizings.proofs.Changes.{NoCollect, NotCollect}
+use Rattle.run_seizings.proofs.Changes.{NotCollect}
 use Rattle.run_seizings.specs.Sites.{IsSeizing}
 use Rattle.run_seizings.proofs.Letters as letters
 use Rattle.run_seizings.proofs.Moments as lines
@@ -71,7 +65,7 @@ use Rattle.run_validity.specs.Laws.{ShowsValidity}
 use Rattle.run_validity.proofs.Courses.{IsTrusting}
 use Rattle.run_validity.proofs.Doings.{Fixed}
 use Rattle.run_validity.proofs.Dues.{first_in}
-use Rattle.run_validity.proofs.Goes.{HandSo, HasCollect, IsCollect}
+use Rattle.run_validity.proofs.Goes.{HandSo, IsCollect}
 use Rattle.run_validity.proofs.Steps.{Around, FirstIn, Strict, answer_step, readying_step, trusting_step}
 use Rattle.run_validity.proofs.Stills.{Still, entered_more, site_stays, still}
 

@@ -1,5 +1,5 @@
 -- Each run: what is due comes, one thing after another.
-use Rattle.std.specs.Prelude.{ℕ, ◌^◌, ◌≡◌, ◌≢◌, ◌≤◌, ◌<◌, ◌⊎◌, nat_lt, Bool, true, false, List, [], ◌∷◌, Option, None, Some, Result, Ok, Err, length, is_some, if◌then◌else◌}
+use Rattle.std.specs.Prelude.{ℕ, ◌^◌, ◌≡◌, ◌≤◌, ◌<◌, ◌⊎◌, nat_lt, Bool, true, false, List, [], ◌∷◌, Option, None, Some, Result, Ok, Err, length, is_some, if◌then◌else◌}
 use Rattle.std.specs.Option.{option_and_then, option_map}
 use Rattle.std.proofs.Common.{refl, sym, ap, subst, ◌∙◌, inl, inr}
 use Rattle.attempt_laws.proofs.Walk.{if_with}
@@ -9,7 +9,7 @@ use Rattle.cl_base.specs.declared.header.Header.{Header}
 use Rattle.cl_base.specs.declared.packet.DropCause.TheVariants as drop
 use Rattle.cmm_attempt.proofs.Basics.{none_some}
 use Rattle.cmm_member.specs.Records.{NodeRecord}
-use Rattle.device_queue.specs.Queue.{begins_plainly, due_device, first_of, next_of}
+use Rattle.device_queue.specs.Queue.{first_of}
 use Rattle.device_queue.specs.Tasks.{command_in, registers_first}
 use Rattle.device_queue.specs.declared.task.Task.{Task}
 use Rattle.device_queue.specs.declared.task.Work.{Work}
@@ -21,7 +21,6 @@ use Rattle.schedule_text.specs.declared.event.Event.{Event}
 use Rattle.schedule_text.specs.declared.event.Event.TheVariants as event
 use Rattle.schedule_text.specs.declared.line.Line.TheVariants as line
 use Rattle.seize.specs.Seizing as seizing
-use Rattle.seize.specs.Seizing.{SeizeState}
 use Rattle.seize.specs.declared.step.SeizeStep.{SeizeStep}
 use Rattle.seize.specs.declared.step.SeizeStep.TheVariants as step
 use Rattle.status_report.specs.declared.device_entry.DeviceEntry.TheVariants as device
@@ -34,7 +33,6 @@ use Rattle.history.specs.Moment.{Said}
 use Rattle.history.specs.Validated.{Validity}
 use Rattle.node_model.specs.Addresses.{refusal_at}
 use Rattle.node_model.specs.Devices.{may_write_as}
-use Rattle.node_model.specs.Seats.{record_of}
 use Rattle.node_model.specs.declared.cluster.Cluster.{Cluster}
 use Rattle.node_model.specs.declared.input.Input.{Input}
 use Rattle.node_model.specs.declared.input.Input.TheVariants as input
@@ -50,7 +48,7 @@ use Rattle.run_history.proofs.DeedRuns.{runs_are_cut}
 use Rattle.run_history.proofs.Reached.{Reached, reached_more}
 use Rattle.run_history.proofs.Runs.{run_stage}
 use Rattle.run_history.proofs.WholeEachRun.{runs_are_whole}
-use Rattle.run_history.specs.Happenings.{Happening, IsPlain, MayAllHappen, MayHappen, all_happened, happened, removed}
+use Rattle.run_history.specs.Happenings.{Happening, IsPlain, MayAllHappen, MayHappen, all_happened, happened}
 use Rattle.run_history.specs.Happenings.Happening.{Arrives, Begins, Commands, Loses, Misses, Notes, Refuses, Repeats, Speaks, Strays, Takes, Writes}
 use Rattle.run_history.specs.Runs.{CutsOf}
 use Rattle.run_history.specs.Scenes.{Scene, adding, first_scene}
@@ -58,16 +56,16 @@ use Rattle.run_history.specs.Shapes.{Comes, Due, IsDue, IsThis, Opens, ShapedFro
 use Rattle.run_history.specs.Shapes as want
 use Rattle.run_history.specs.Stages.{Stage, site_of}
 use Rattle.run_history.specs.Wholes.{IsWhole}
-use Rattle.run_history.specs.WorldLines.{AreDisks, IsDevice}
+use Rattle.run_history.specs.WorldLines.{AreDisks}
 use Rattle.run_seizings.specs.Sites.{IsSeizing}
 use Rattle.run_seizings.proofs.Runs.{run_seizes}
 use Rattle.run_validity.specs.Kept.{Begins as Begins_at, NoExcuse, SiteSo, readying}
-use Rattle.run_validity.specs.Laws.{Agrees, InMemory, IsReadied, IsTold, PromisesShowValidity, ValidityOfEachRun, told_validity}
+use Rattle.run_validity.specs.Laws.{Agrees, InMemory, IsReadied, PromisesShowValidity, ValidityOfEachRun, told_validity}
 use Rattle.run_validity.proofs.Acts.{strict}
 use Rattle.run_validity.proofs.Courses.{IsTrusting}
 use Rattle.run_validity.proofs.First.{first_told}
 use Rattle.run_validity.proofs.Moments.{Differs, Known, armed_strict, arrives_strict, commands_strict, delivered_strict, part_strict, readies_around, repeated_strict, said_strict, takes_strict, told_strict, writes_strict}
-use Rattle.run_validity.proofs.Steps.{Around, Strict, all_around, around, excused}
+use Rattle.run_validity.proofs.Steps.{Around, Strict, all_around, around}
 use Rattle.run_validity.proofs.Stills as stills
 
 -- ---- what is due

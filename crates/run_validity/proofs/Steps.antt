@@ -1,6 +1,5 @@
 -- A step of a node, from scene to scene.
 use Rattle.std.specs.Prelude.{ℕ, ◌≡◌, ◌≢◌, ◌<◌, ◌^◌, ◌⊎◌, Bool, true, false, List, [], ◌∷◌, Option, None, Some, if◌then◌else◌}
-use Rattle.std.specs.List.{AllByRecursion}
 use Rattle.std.specs.Option.{option_and_then, option_map}
 use Rattle.std.proofs.Common.{refl, sym, ap, subst, ◌∙◌, inl, inr}
 use Rattle.cl_base.specs.Sets.{has, set_without}
@@ -64,7 +63,6 @@ use Rattle.run_history.specs.Guards.{Hand}
 use Rattle.run_history.specs.Happenings.{IsNode, taking}
 use Rattle.run_history.specs.Scenes.{Scene, passing, telling}
 use Rattle.run_history.specs.Stages.{Sized, site_of}
-use Rattle.run_history.specs.WorldLines.{IsDevice}
 use Rattle.run_records.proofs.Apart.{doings_apart}
 use Rattle.run_records.proofs.Replies.{CutSo, steps_are_cut_so}
 use Rattle.run_seizings.specs.Sites.{InHand, IsSeizing}
@@ -74,7 +72,7 @@ use Rattle.run_seizings.proofs.Steps.{Ground}
 use Rattle.run_validity.specs.Kept.{Excuse, NoExcuse, SiteSo, readying}
 use Rattle.run_validity.specs.Laws.{Agrees, ShowsValidity, told_validity}
 use Rattle.run_validity.proofs.Acts.{mild_at, strict, up_same}
-use Rattle.run_validity.proofs.Answers.{IsFirst, NotJoined}
+use Rattle.run_validity.proofs.Answers.{IsFirst}
 use Rattle.run_validity.proofs.Changes.{saved_still}
 use Rattle.run_validity.proofs.Courses.{IsTrusting, doings_trust, joined_trusts, seized, under_trusts}
 use Rattle.run_validity.proofs.Doings.{Fixed, Ready, Small, admits_goes, all_go, all_lost, also_next, differ_next, lost_goes, rest_go, small_rest, takes_goes}

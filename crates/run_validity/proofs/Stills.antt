@@ -1,10 +1,9 @@
 -- Which moments leave what is told of a node: which devices are valid to it, whether it moved on, and how far its joinings are.
 use Rattle.std.specs.Prelude.{ℕ, ◌≡◌, ◌≢◌, ◌⊎◌, ◌==◌, ◌&&◌, ◌||◌, Bool, true, false, List, [], ◌∷◌, is_some, if◌then◌else◌}
 use Rattle.std.specs.List.{AllByRecursion, list_any}
-use Rattle.std.proofs.Common.{refl, sym, ap, subst, ◌∙◌, inl, inr}
+use Rattle.std.proofs.Common.{refl, sym, ap, subst, ◌∙◌}
 use Rattle.cl_base.specs.Sets.{has}
 use Rattle.cl_base.specs.declared.header.Header.{Header}
-use Rattle.cl_base.specs.declared.panic.Panic.{Panic}
 use Rattle.cl_base.specs.declared.panic.Panic.TheVariants as panic
 use Rattle.device_queue.specs.declared.task.Task.{Task}
 use Rattle.device_queue.specs.declared.task.Work.{Work}
@@ -37,7 +36,6 @@ use Rattle.node_model.specs.declared.node.Node.{Node}
 use Rattle.node_model.specs.declared.node.Node.TheVariants.{Down, Up}
 use Rattle.node_model.specs.declared.node.UpNode.{UpNode}
 use Rattle.refinement.specs.Doings.{Site}
-use Rattle.run_history.specs.WorldLines.{IsDevice}
 use Rattle.run_seizings.proofs.Progress.{if_not, not_same, or_right}
 use Rattle.run_validity.specs.Kept.{Excuse, HasEntered, JoinSo, MovedSo, SiteSo, TaskSo, UpIn, UpSo, WorkSo}
 use Rattle.run_validity.specs.Laws.{Agrees, told_validity}
