@@ -31,6 +31,7 @@ use Rattle.run_commands.specs.Numbered.{CommandsAreNumbered}
 use Rattle.run_commands.specs.Own.{OwnAnswersFit}
 use Rattle.run_downs.specs.Laws.{BootIsSaid, CrashIsSaid, FencedByWrite, SavesInEvent, StopComes, StopsAtStop}
 use Rattle.run_history.specs.Telling.{lines_upon}
+use Rattle.run_validity.specs.Laws.{ShowsValidity}
 use Rattle.run_history.specs.Scenes.{text_of}
 use Rattle.run_lines.specs.Laws.{IsAnswered}
 use Rattle.replay.specs.Sessions.{first_so_far}
@@ -43,8 +44,8 @@ use Rattle.replay.specs.Replays.{OfCluster, OfDevice, Schedule, entries, schedul
 -- acknowledged is kept, no device takes a write of a node that a greater membership left out, a node installs, is ready, is a
 -- member and has prepared by the messages that tell of it, and a membership starts with a majority of the votes under its
 -- base and with devices that were seized for it, as its coordinator knew. The bytes of each message spell it: a Promise and
--- an Install show the record of their sender, the newest in hand is installed and is the base, and a Heartbeat says who is a
--- member, is sent in a tick and to whom it is due. An attempt begins in a tick of its coordinator, with nodes that it sees
+-- an Install show the record of their sender, a Promise the devices that are valid to it, the newest in hand is installed and is
+-- the base, and a Heartbeat says who is a member, is sent in a tick and to whom it is due. An attempt begins in a tick of its coordinator, with nodes that it sees
 -- and for a reason, and its Installs bring its members. A node comes up, crashes and saves in the event that makes it do so,
 -- panics for a fence where a write of its own was refused, and stops exactly where an armed stop falls. While there are fewer
 -- than 2^63 lines, which number the commands, all holds that a trace has to keep at each prefix (`Holds` of `history`): with
@@ -82,6 +83,7 @@ pub record IsTrace (h : Header) (events : List Event) (text : List ℕ) : Type 0
   pub beats_due : Always (BeatIsDue (setting_of h)) moments
   pub attempts_begin : Always (Begins (setting_of h)) moments
   pub installs_bring : Always BringsMembers moments
+  pub valid_shown : Always (ShowsValidity h) moments
   pub holds : length (lines_of moments) < 2 ^ 63 → Holds (setting_of h) moments
   pub answers_once : length (lines_of moments) < 2 ^ 63 → AnswersOnce moments
   pub numbered : length (lines_of moments) < 2 ^ 63 → CommandsAreNumbered moments
