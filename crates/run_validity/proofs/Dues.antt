@@ -43,8 +43,8 @@ use Rattle.world_model.specs.Devices.{due_at}
 use Rattle.run_history.proofs.AtSteps.{task_device}
 use Rattle.run_history.specs.Happenings.{IsReadied}
 use Rattle.run_history.specs.Sites.{SiteAt}
-use Rattle.run_validity.proofs.Answers.{IsFirst, WorkFits}
-use Rattle.run_validity.proofs.Steps.{FirstIn}
+use Rattle.run_validity.proofs.Tasks.{IsFirst, WorkFits}
+use Rattle.run_validity.proofs.Commands.{FirstIn}
 
 -- ---- of the machine
 

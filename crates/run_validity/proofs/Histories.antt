@@ -1,4 +1,4 @@
--- What is told without installs is what the history has, where it is not open.
+-- What is told is what the history has, where it is not open.
 use Rattle.std.specs.Prelude.{ℕ, ◌≡◌, ◌⊎◌, ◌==◌, ◌&&◌, Bool, true, false, List, [], ◌∷◌, Option, None, Some, is_some, if◌then◌else◌}
 use Rattle.std.proofs.Common.{refl, inl, inr}
 use Rattle.cl_base.specs.declared.header.Header.{Header}

@@ -66,7 +66,8 @@ use Rattle.run_validity.proofs.Courses.{IsTrusting}
 use Rattle.run_validity.proofs.Doings.{Fixed}
 use Rattle.run_validity.proofs.Dues.{first_in}
 use Rattle.run_validity.proofs.Goes.{HandSo, IsCollect}
-use Rattle.run_validity.proofs.Steps.{Around, FirstIn, Strict, answer_step, readying_step, trusting_step}
+use Rattle.run_validity.proofs.Steps.{Around, Strict, readying_step, trusting_step}
+use Rattle.run_validity.proofs.Commands.{FirstIn, answer_step}
 use Rattle.run_validity.proofs.Stills.{Still, entered_more, site_stays, still}
 
 -- ---- what is said and told

@@ -8,13 +8,14 @@
 
 ghost use Rattle.run_validity.specs.Laws.{PromisesShowValidity, ToldAsInHistory, ValidityOfEachRun};
 
-/// What is told without installs is what `history` says, wherever it is not open.
+/// What is told so is what `history` says, wherever it is not open.
 pub fn told_as_in_history()
     ensures { ToldAsInHistory }
 {}
 
 /// The record of a node has a device among its valid ones where the lines say so, and has it not where they say that it lapsed: on its disk, and in
-/// memory while it is up; but for the moment between the save before an `ignore` and that command. What an install brings is left open.
+/// memory while it is up; but for the moment between the save before an `ignore` and that command. What an install brings of a device that a member
+/// seized for it is left open.
 pub fn validity_of_each_run()
     ensures { ValidityOfEachRun }
 {}
