@@ -39,6 +39,7 @@ use Rattle.run_messages.proofs.Spelling.{spelled_of_each_run}
 use Rattle.run_records.proofs.Runs.{installed_base_of_each_run, newest_base_of_each_run, newest_of_each_run, records_of_each_run}
 use Rattle.run_requests.proofs.Laws.{updates_of_each_run}
 use Rattle.run_seizings.proofs.Runs.{held_of_each_run, known_held_of_each_run}
+use Rattle.run_validity.proofs.Runs.{promises_show_validity_in_each_run}
 use Rattle.history_setting.specs.Settings.{setting_of}
 use Rattle.history_setting.proofs.Votes.{setting_votes_of_each_run}
 use Rattle.world_model.specs.First.{first_cluster, first_world}
@@ -176,6 +177,7 @@ told_trace h events text p header disks asks is told =
       waited = endings.silent_after_eight_ticks_in_each_run h 65536 told.happenings header.devices header.cluster_high told.may;
       promised = endings.promised_in_each_run h 65536 told.happenings header.devices header.cluster_high told.may;
       names_members = endings.ends_name_members_in_each_run h 65536 told.happenings header.devices header.cluster_high told.may;
+      valid_shown = promises_show_validity_in_each_run h 65536 told.happenings header.devices header.cluster_high built told.may told.shaped;
       answers_once = once;
       numbered = commands.commands_are_numbered_in_each_run h 65536 told.happenings header.devices header.cluster_high told.may;
       own_answers = commands.own_answers_fit_in_each_run h 65536 told.happenings header.devices header.cluster_high told.may;

@@ -32,6 +32,7 @@ use Rattle.run_commands.specs.Own.{OwnAnswersFit}
 use Rattle.run_endings.specs.Laws.{EndsInTick, EndsUnderWay, HasPromises, HasWaited, IsSuperseded, NamesMember}
 use Rattle.run_downs.specs.Laws.{BootIsSaid, CrashIsSaid, FencedByWrite, SavesInEvent, StopComes, StopsAtStop}
 use Rattle.run_history.specs.Telling.{lines_upon}
+use Rattle.run_validity.specs.Laws.{ShowsValidity}
 use Rattle.run_history.specs.Scenes.{text_of}
 use Rattle.run_lines.specs.Laws.{IsAnswered}
 use Rattle.run_writes.specs.Laws.{IsWritten}
@@ -47,17 +48,18 @@ use Rattle.replay.specs.Replays.{OfCluster, OfDevice, Schedule, entries, schedul
 -- start has its base, what was acknowledged is kept, no device takes a write of a node that a greater membership left
 -- out, a node installs, is ready, is a member and has prepared by the messages that tell of it, and a membership starts
 -- with a majority of the votes under its base and with devices that were seized for it, as its coordinator knew. The
--- bytes of each message spell it: a Promise and an Install show the record of their sender, the newest in hand is
--- installed and is the base, and a Heartbeat says who is a member, is sent in a tick and to whom it is due. An attempt
--- begins in a tick of its coordinator, with nodes that it sees and for a reason, and its Installs bring its members; it
--- ends, and starts, while it is under way, is superseded by what stands against it, ends for want of an answer at its
--- eighth tick at the earliest and for want of votes once all have promised, and names a member. A node comes up, crashes
--- and saves in the event that makes it do so, panics for a fence where a write of its own was refused, and stops exactly
--- where an armed stop falls. While there are fewer than 2^63 lines, which number the commands, all holds that a trace
--- has to keep at each prefix (`Holds` of `history`): with what stands above, a Prepare has the words that were proposed,
--- a Request those of its command, a member answers what the president's Answer says, each update was asked for by a
--- request of its own, and is answered `ok` behind its acknowledgement alone. Then, too, each command is numbered and is
--- answered once at most, and what a node answers by itself fits its command.
+-- bytes of each message spell it: a Promise and an Install show the record of their sender, a Promise the devices that
+-- are valid to it as its lines tell, the newest in hand is installed and is the base, and a Heartbeat says who is a
+-- member, is sent in a tick and to whom it is due. An attempt begins in a tick of its coordinator, with nodes that it
+-- sees and for a reason, and its Installs bring its members; it ends, and starts, while it is under way, is superseded
+-- by what stands against it, ends for want of an answer at its eighth tick at the earliest and for want of votes once
+-- all have promised, and names a member. A node comes up, crashes and saves in the event that makes it do so, panics for
+-- a fence where a write of its own was refused, and stops exactly where an armed stop falls. While there are fewer than
+-- 2^63 lines, which number the commands, all holds that a trace has to keep at each prefix (`Holds` of `history`): with
+-- what stands above, a Prepare has the words that were proposed, a Request those of its command, a member answers what
+-- the president's Answer says, each update was asked for by a request of its own, and is answered `ok` behind its
+-- acknowledgement alone. Then, too, each command is numbered and is answered once at most, and what a node answers by
+-- itself fits its command.
 pub record IsTrace (h : Header) (events : List Event) (text : List ℕ) : Type 0 where
   pub moments : List Moment
   pub said : lines_of moments ≡ lines_upon [] events
@@ -96,6 +98,7 @@ pub record IsTrace (h : Header) (events : List Event) (text : List ℕ) : Type 0
   pub waited : Always HasWaited moments
   pub promised : Always HasPromises moments
   pub names_members : Always NamesMember moments
+  pub valid_shown : Always (ShowsValidity h) moments
   pub holds : length (lines_of moments) < 2 ^ 63 → Holds (setting_of h) moments
   pub answers_once : length (lines_of moments) < 2 ^ 63 → AnswersOnce moments
   pub numbered : length (lines_of moments) < 2 ^ 63 → CommandsAreNumbered moments

@@ -1,5 +1,5 @@
 -- What a node does in memory, or sends.
-use Rattle.std.specs.Prelude.{ℕ, ◌≡◌, ◌≢◌, ◌<◌, ◌≤◌, nat_le, true, List, [], ◌∷◌, Option, None, Some, Ok, Err}
+use Rattle.std.specs.Prelude.{ℕ, ◌≡◌, ◌≢◌, ◌<◌, ◌≤◌, nat_le, All, true, List, [], ◌∷◌, Option, None, Some, Ok, Err}
 use Rattle.std.proofs.Common.{refl, sym, ap, subst, ◌∙◌, arith}
 use Rattle.attempt_laws.proofs.Sends.{sends_are_own}
 use Rattle.attempt_laws.proofs.Stays.{plan_stays}
@@ -7,6 +7,7 @@ use Rattle.attempt_laws.proofs.Walk.{if_with}
 use Rattle.cl_base.specs.Sets.{has}
 use Rattle.cl_base.specs.declared.header.Header.{Header}
 use Rattle.cmm_attempt.specs.Attempts.{AttemptState}
+use Rattle.cmm_attempt.specs.Calls as calls
 use Rattle.cmm_attempt.specs.Calls.{turn}
 use Rattle.cmm_attempt.specs.declared.phase.Phase.TheVariants.{Installing}
 use Rattle.cmm_member.specs.Records.{NodeRecord}
@@ -40,6 +41,7 @@ use Rattle.refinement.specs.Ties.{Delivered}
 use Rattle.refinement.specs.Worlds.{AllFit}
 use Rattle.run_history.proofs.Changes.{At, at_attempt}
 use Rattle.run_history.proofs.Held.{installing_before}
+use Rattle.run_history.proofs.WholeChanges.{attached_of}
 use Rattle.run_history.specs.Guards.{AtAct, Hand, hand_by, request_as}
 use Rattle.run_history.specs.Marks.{ActSo}
 use Rattle.run_history.specs.Scenes.{Scene, passing}
@@ -250,7 +252,7 @@ act_goes h c M n told v w disk x g a s id low at may so guard none fits k = by_a
               (taken_up h s.moments n on x command b l k.here.up);
         }) k
     by_act (Stores d value b) m o l e f = same x (said c n x (Stores d value b)) f (tt, write_can h s.moments n x d value b) refl refl refl
-    by_act (Writes to b) m o l e f = same x (said c n x (Writes to b)) f (write_so h s.moments n told g x to b low k.here.first k.here.up k.turn m l, tt) refl refl refl
+    by_act (Writes to b) m o l e f = same x (said c n x (Writes to b)) f (write_so h s.moments n told g x to b low k.here.first k.here.up (λ a is. at_attempt c M n told disk x a (All calls.IsDevice a.plan.attached) at is (λ z shows co. attached_of a co.reached)) k.turn m l, tt) refl refl refl
     by_act (Gives os) m o l e f = same x os f (minor_can h s.moments n os o m) refl refl refl
     by_act (Spreads receivers b) m o l e f = same x (said c n x (Spreads receivers b)) f
         (spread_can h s.moments n receivers b (spread_so h s.moments n x b k.here.up m l)) refl refl refl

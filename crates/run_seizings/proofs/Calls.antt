@@ -8,6 +8,7 @@ use Rattle.cl_base.specs.Seizings.{SeizeResult}
 use Rattle.cl_base.specs.declared.header.Header.{Header}
 use Rattle.cl_base.specs.declared.seizing.SeizeEnd.TheVariants as end
 use Rattle.cmm_attempt.specs.Attempts.{AttemptState, install_in}
+use Rattle.cmm_attempt.specs.Calls as calls
 use Rattle.cmm_attempt.specs.Calls.{Call, Own_ready, Own_seized, Take, Tick, With_votes, turn}
 use Rattle.cmm_attempt.specs.Seizings.{is_held_by}
 use Rattle.cmm_attempt.specs.declared.phase.Phase.TheVariants.{Installing}
@@ -32,10 +33,11 @@ use Rattle.refinement.specs.Guards.{MayCall, MayWrite, OfAttempt}
 use Rattle.refinement.specs.Ties.{Delivered}
 use Rattle.run_history.specs.Guards as guards
 use Rattle.run_history.specs.Guards.{AtCall, AtWrite, Hand, HasEnded, IsStep, SendsSo, TellsEnd}
-use Rattle.run_seizings.specs.Seized.{AttemptIn, AttemptSo, HeldSo, IsInstalled, IsKnown, IsOf, IsSeized, SeizedOr, SentSo, StandsSo, has_installed}
+use Rattle.run_seizings.specs.Seized.{AttemptIn, AttemptSo, HeldSo, IsInstalled, IsKnown, IsOf, IsSeized, ReadSo, SeizedOr, SentSo, StandsSo, has_installed}
 use Rattle.run_seizings.specs.Sites.{Brought, HeardSo, InHand, UpSo}
 use Rattle.run_seizings.proofs.Goes.{HandSo}
 use Rattle.run_seizings.proofs.Progress.{no_truth, or_left, or_right}
+use Rattle.run_seizings.proofs.Brings.{reads_so}
 use Rattle.run_seizings.proofs.Tasks.{EndedSo, ended_seized}
 use Rattle.run_seizings.proofs.Turns.{Keeps, Source, turn_held}
 
@@ -177,43 +179,49 @@ install_so h ms n q a i so phase is =
     let at : i.epoch ≡ a.plan.epoch = ap (λ (z : Install). z.epoch) is ∙ install_epoch a in
     subst (λ e. IsInstalled ms e) (sym at) (so.some, so.of.0, subst (λ k. has_installed k a.plan.epoch ms ≡ true) (sym so.own) (so.installs phase))
 
+brings_so : (h : Header) (ms : List Moment) (a : AttemptState) (i : Install) → i ≡ install_in a → All calls.IsDevice a.plan.attached → {n q : ℕ} → AttemptSo h ms n q a
+    → ReadSo h ms i.epoch i.readings
+brings_so h ms a i is fits old = subst (λ (z : Install). ReadSo h ms z.epoch z.readings) (sym is) (subst (λ e. ReadSo h ms e (install_in a).readings) (sym (install_epoch a)) (reads_so h ms a fits old.held))
+
 pub write_so : (h : Header) (ms : List Moment) (n : ℕ) (told : Delivered) (g : Hand) (x : UpNode) (to : ℕ) (b : Body) → nat_le n 32 ≡ true
     → ((q : ℕ) → has_installed n q ms ≡ true → IsInstalled ms q) → UpSo h ms n x
-    → HandSo ms g → MayWrite x b → AtWrite told g x to b → SentSo ms n b × StandsSo h ms n b
-write_so h ms n told g x to (body.Collect p members) low first up turn may at = (
+    → ((a : AttemptState) → x.attempt ≡ Some a → All calls.IsDevice a.plan.attached) → HandSo ms g → MayWrite x b → AtWrite told g x to b → SentSo ms n b × StandsSo h ms n b
+write_so h ms n told g x to (body.Collect p members) low first up fits turn may at = (
   of_attempt x.attempt (λ a. (p ≡ a.plan.epoch) × (members ≡ a.plan.members)) (member.attempt_of n ms ≡ Some p) may
       (λ a is so. (attempt_of h ms n (session_of x) x.attempt a is up.attempt).last ∙ ap Some (sym so.0)),
   tt,
 )
-write_so h ms n told g x to (body.SeizeQuorum e members d) low first up turn may at = (
+write_so h ms n told g x to (body.SeizeQuorum e members d) low first up fits turn may at = (
   tt,
   asked_so ms to (body.SeizeQuorum e members d) g (IsOf ms e members) at turn
       (λ t of own. subst (λ z. IsOf ms z members) (sym own.0) (subst (λ z. IsOf ms t.plan.epoch z) (sym own.1) of)),
 )
-write_so h ms n told g x to (body.SeizeData e members d) low first up turn may at = (
+write_so h ms n told g x to (body.SeizeData e members d) low first up fits turn may at = (
   tt,
   asked_so ms to (body.SeizeData e members d) g (IsOf ms e members) at turn
       (λ t of own. subst (λ z. IsOf ms z members) (sym own.0) (subst (λ z. IsOf ms t.plan.epoch z) (sym own.1) of)),
 )
-write_so h ms n told g x to (body.Seized e d r) low first up turn may at = seized_so h ms n told x e d r low first up at
-write_so h ms n told g x to (body.Install i) low first up turn may at = (
+write_so h ms n told g x to (body.Seized e d r) low first up fits turn may at = seized_so h ms n told x e d r low first up at
+write_so h ms n told g x to (body.Install i) low first up fits turn may at = (
   tt,
-  of_attempt x.attempt (λ a. (a.phase ≡ Installing) × (i ≡ install_in a)) (IsInstalled ms i.epoch) may
-      (λ a is so. install_so h ms n (session_of x) a i (attempt_of h ms n (session_of x) x.attempt a is up.attempt) so.0 so.1),
+  of_attempt x.attempt (λ a. (a.phase ≡ Installing) × (i ≡ install_in a)) (IsInstalled ms i.epoch × ReadSo h ms i.epoch i.readings) may
+      (λ a is so.
+      let old : AttemptSo h ms n (session_of x) a = attempt_of h ms n (session_of x) x.attempt a is up.attempt in
+      (install_so h ms n (session_of x) a i old so.0 so.1, brings_so h ms a i so.1 (fits a is) old)),
 )
-write_so h ms n told g x to (body.Heartbeat promised session is_one) low first up turn may at = (tt, tt)
-write_so h ms n told g x to (body.Promise p newest members valid flagged committed pending) low first up turn may at = (tt, tt)
-write_so h ms n told g x to (body.Nack p promised) low first up turn may at = (tt, tt)
-write_so h ms n told g x to (body.Ready p joined report) low first up turn may at = (tt, tt)
-write_so h ms n told g x to (body.Start p) low first up turn may at = (tt, tt)
-write_so h ms n told g x to (body.Prepare p place text) low first up turn may at = (tt, tt)
-write_so h ms n told g x to (body.Prepared p place) low first up turn may at = (tt, tt)
-write_so h ms n told g x to (body.Commit p place) low first up turn may at = (tt, tt)
-write_so h ms n told g x to (body.Order o) low first up turn may at = (tt, tt)
-write_so h ms n told g x to (body.Done p number outcome) low first up turn may at = (tt, tt)
-write_so h ms n told g x to (body.Request p number text) low first up turn may at = (tt, tt)
-write_so h ms n told g x to (body.Answer p number text) low first up turn may at = (tt, tt)
-write_so h ms n told g x to (body.Excluded p newest) low first up turn may at = (tt, tt)
+write_so h ms n told g x to (body.Heartbeat promised session is_one) low first up fits turn may at = (tt, tt)
+write_so h ms n told g x to (body.Promise p newest members valid flagged committed pending) low first up fits turn may at = (tt, tt)
+write_so h ms n told g x to (body.Nack p promised) low first up fits turn may at = (tt, tt)
+write_so h ms n told g x to (body.Ready p joined report) low first up fits turn may at = (tt, tt)
+write_so h ms n told g x to (body.Start p) low first up fits turn may at = (tt, tt)
+write_so h ms n told g x to (body.Prepare p place text) low first up fits turn may at = (tt, tt)
+write_so h ms n told g x to (body.Prepared p place) low first up fits turn may at = (tt, tt)
+write_so h ms n told g x to (body.Commit p place) low first up fits turn may at = (tt, tt)
+write_so h ms n told g x to (body.Order o) low first up fits turn may at = (tt, tt)
+write_so h ms n told g x to (body.Done p number outcome) low first up fits turn may at = (tt, tt)
+write_so h ms n told g x to (body.Request p number text) low first up fits turn may at = (tt, tt)
+write_so h ms n told g x to (body.Answer p number text) low first up fits turn may at = (tt, tt)
+write_so h ms n told g x to (body.Excluded p newest) low first up fits turn may at = (tt, tt)
 
 -- a message to each of many tells nothing of devices
 pub spread_so : (h : Header) (ms : List Moment) (n : ℕ) (x : UpNode) (b : Body) → UpSo h ms n x → MayWrite x b → guards.IsPlainBody b → SentSo ms n b × StandsSo h ms n b

@@ -128,7 +128,7 @@ counts_go h c M n told v w disk x a q r i g b s step may rises guard calm k =
 install_told : (h : Header) (ms : List Moment) (n : ℕ) (told : Delivered) (i : Install) → Says (λ b. b ≡ body.Install i) told → InHand h ms n told
     → IsInstalled ms i.epoch
 install_told h ms n None i says hand = absurd says
-install_told h ms n (Some d) i says hand = subst (λ b. StandsSo h ms d.0 b) says hand.stands
+install_told h ms n (Some d) i says hand = (subst (λ b. StandsSo h ms d.0 b) says hand.stands).0
 
 other_installs : (h : Header) (ms : List Moment) (n e q z : ℕ) (o : Option AttemptState) → IsInstalled ms e → e ≡ q → z ≡ q → AttemptIn h ms n q o
     → AttemptIn h (installed n e ∷ ms) n z o

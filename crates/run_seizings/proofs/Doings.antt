@@ -87,7 +87,7 @@ promised_tied c M n x tied = by_node x.node tied
     by_node (Up y) t = let k : Sees M n x.disk (state_of y.seat) = sees c M n x.disk y.attempt y.seat t.0 in k.promised
         ∙ ap (λ (r : NodeRecord). r.promised) (sym k.disk_so)
 
-rises_so : (c : Cluster) (M N : Memberships) (n : ℕ) (x y : Site) → SiteTied c M n x → SiteTied c N n y → Grows M N → x.disk.promised ≤ y.disk.promised
+pub rises_so : (c : Cluster) (M N : Memberships) (n : ℕ) (x y : Site) → SiteTied c M n x → SiteTied c N n y → Grows M N → x.disk.promised ≤ y.disk.promised
 rises_so c M N n x y before after grows =
     subst (λ k. k ≤ y.disk.promised) (promised_tied c M n x before) (subst (λ k. (M.node n).promised ≤ k) (promised_tied c N n y after) (grows.node n).promised)
 
@@ -194,7 +194,7 @@ no_leads ch p members made is = subst MadeAt is made
 no_truth : false ≡ true → ⊥
 no_truth e = cc
 
-abbrev Done : Header → Cluster → ℕ → Delivered → Nodes → Nodes → Site → Hand → Doing → Scene → Type 0
+abbrev pub Done : Header → Cluster → ℕ → Delivered → Nodes → Nodes → Site → Hand → Doing → Scene → Type 0
 Done h c n told v w x g d s = Goes h n told v w (effect c n x d) (hand_after g d) (passing n (gives c n x d) s)
 
 no_less : (a : ℕ) → a ≤ a
@@ -254,7 +254,7 @@ down_goes h c n told v w disk g (Saves ch) s may k = absurd may
 down_goes h c n told v w disk g (Loses ch why) s may k = absurd may
 down_goes h c n told v w disk g (Forgets ch why) s may k = absurd may
 
-doing_goes : (h : Header) (c : Cluster) (M : Memberships) (n : ℕ) (told : Delivered) (v w : Nodes) (x : Site) (g : Hand) (d : Doing) (s : Scene)
+pub doing_goes : (h : Header) (c : Cluster) (M : Memberships) (n : ℕ) (told : Delivered) (v w : Nodes) (x : Site) (g : Hand) (d : Doing) (s : Scene)
     → c.id ≡ h.cluster → nat_le n 32 ≡ true → Holds (setting_of c) M → Known M told → SiteTied c M n x
     → May c n told x d → DoingSo d → DoingMay h n told g x d → x.disk.promised ≤ (effect c n x d).disk.promised → AllFit n (gives c n x d)
     → AttemptsDiffer (passing n (gives c n x d) s).moments → Goes h n told v w x g s

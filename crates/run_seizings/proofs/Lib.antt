@@ -6,6 +6,7 @@ pub mod Letters
 pub mod Tasks
 pub mod Turns
 pub mod Goes
+pub mod Brings
 pub mod Calls
 pub mod Mild
 pub mod Acts

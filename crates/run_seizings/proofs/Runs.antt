@@ -112,9 +112,9 @@ whole_at h cells s few small r =
     subst (IsWhole (first_cluster h)) r.is (runs_are_whole h cells r.happenings cuts few small r.may).scene
 
 -- a scene of a run, with what its nodes have of seizings
-record Comes (h : Header) (cells : ℕ) (s : Scene) : Type 0 where
-  reached : Reached (first_cluster h) (first_scene h cells) s
-  seizing : IsSeizing h s
+pub record Comes (h : Header) (cells : ℕ) (s : Scene) : Type 0 where
+  pub reached : Reached (first_cluster h) (first_scene h cells) s
+  pub seizing : IsSeizing h s
 
 comes_kept : (h : Header) (cells : ℕ) → length h.devices ≤ most_devices → h.cluster < 2 ^ 32 → (s : Scene) (x : Happening) → MayHappen (first_cluster h) s x
     → Comes h cells s → Comes h cells (happened (first_cluster h) s x)
@@ -135,7 +135,7 @@ unfolding first_scene
 first_seizes h cells =
     record { sites = λ n. record { low = λ e is. absurd (no_truth is); first = λ e is. absurd (no_truth is); up = tt }; carried = tt; held = tt; known = tt }
 
-run_seizes : (h : Header) (cells : ℕ) (hs : List Happening) → length h.devices ≤ most_devices → h.cluster < 2 ^ 32
+pub run_seizes : (h : Header) (cells : ℕ) (hs : List Happening) → length h.devices ≤ most_devices → h.cluster < 2 ^ 32
     → MayAllHappen (first_cluster h) (first_scene h cells) hs
     → Comes h cells (all_happened (first_cluster h) (first_scene h cells) hs)
 run_seizes h cells hs few small may =

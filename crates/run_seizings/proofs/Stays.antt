@@ -16,6 +16,7 @@ use Rattle.wire.specs.declared.message.Body.{Body}
 use Rattle.wire.specs.declared.message.Body.TheVariants as body
 use Rattle.history.specs.Contact.{IsNew}
 use Rattle.history.specs.Letters.{arrived}
+use Rattle.wire.specs.declared.lists.Reading.{Reading}
 use Rattle.history.specs.Moment.{Moment}
 use Rattle.history.specs.Seizing.{is_attempt}
 use Rattle.history.specs.Setting.{coordinator}
@@ -26,9 +27,9 @@ use Rattle.node_model.specs.declared.node.Node.TheVariants.{Down, Up}
 use Rattle.node_model.specs.declared.node.UpNode.{UpNode}
 use Rattle.refinement.specs.Doings.{Site}
 use Rattle.refinement.specs.Ties.{Delivered}
-use Rattle.run_seizings.specs.Seized.{AttemptIn, AttemptSo, Base, Either, Fresh, HeldSo, IsInstalled, IsKnown, SentSo, StandsSo, StepSo, TasksSo, WorkSo}
+use Rattle.run_seizings.specs.Seized.{AttemptIn, AttemptSo, Base, Either, Fresh, HeldSo, IsInstalled, IsKnown, ReadSo, SentSo, StandsSo, StepSo, TasksSo, WorkSo}
 use Rattle.run_seizings.specs.Sites.{HeardSo, InHand, SiteSo, UpIn, UpSo}
-use Rattle.run_seizings.proofs.Progress.{begun_stays, installed_stays, known_stays, of_stays, seized_or_stays, since_stays}
+use Rattle.run_seizings.proofs.Progress.{begun_stays, installed_stays, known_stays, of_stays, seized_or_stays, seizing_stays, since_stays}
 use Rattle.run_seizings.proofs.Stills.{Still}
 
 pub base_stays : (h : Header) (ms : List Moment) (x : Moment) (n q : ℕ) (s : SeizeState) → IsNew ms x → Base h ms n q s → Base h (x ∷ ms) n q s
@@ -119,11 +120,15 @@ seized_stands h ms x from e d end.Expelled new k = tt
 seized_stands h ms x from e d (end.Contended key) new k = tt
 seized_stands h ms x from e d end.Fault new k = tt
 
+pub reads_stay : (h : Header) (ms : List Moment) (x : Moment) (e : ℕ) (rs : List Reading) → IsNew ms x → list_any (is_attempt e) ms ≡ true → ReadSo h ms e rs → ReadSo h (x ∷ ms) e rs
+reads_stay h ms x e [] new old k = tt
+reads_stay h ms x e (r ∷ rs) new old k = ((k.0.0, seizing_stays h e r.device x ms new old k.0.1), reads_stay h ms x e rs new old k.1)
+
 pub stands_stay : (h : Header) (ms : List Moment) (x : Moment) (from : ℕ) (b : Body) → IsNew ms x → StandsSo h ms from b → StandsSo h (x ∷ ms) from b
 stands_stay h ms x from (body.SeizeQuorum e members d) new k = of_stays ms x e members new k
 stands_stay h ms x from (body.SeizeData e members d) new k = of_stays ms x e members new k
 stands_stay h ms x from (body.Seized e d r) new k = seized_stands h ms x from e d r new k
-stands_stay h ms x from (body.Install i) new k = is_installed_stays ms x i.epoch k
+stands_stay h ms x from (body.Install i) new k = (is_installed_stays ms x i.epoch k.0, reads_stay h ms x i.epoch i.readings new k.0.1 k.1)
 stands_stay h ms x from (body.Heartbeat promised session is_one) new k = tt
 stands_stay h ms x from (body.Collect p members) new k = tt
 stands_stay h ms x from (body.Promise p newest members valid flagged committed pending) new k = tt

@@ -16,6 +16,8 @@ use Rattle.device_queue.specs.declared.task.Work.TheVariants.{Seizing as Seizes,
 use Rattle.seize.specs.Seizing.{SeizeState}
 use Rattle.seize.specs.declared.step.SeizeStep.{SeizeStep}
 use Rattle.seize.specs.declared.step.SeizeStep.TheVariants as step
+use Rattle.wire.specs.Spelling.{IsDevice}
+use Rattle.wire.specs.declared.lists.Reading.{Reading}
 use Rattle.wire.specs.declared.message.Body.{Body}
 use Rattle.wire.specs.declared.message.Body.TheVariants as body
 use Rattle.history.specs.Contents.{knows_held}
@@ -130,6 +132,10 @@ AttemptIn h moments n q (Some a) = AttemptSo h moments n q a
 
 -- ---- messages
 
+-- each device that an Install brings was seized for it by some member
+abbrev pub ReadSo : Header → List Moment → ℕ → List Reading → Type 0
+ReadSo h moments e readings = AllByRecursion (λ (r : Reading). IsDevice r.device × (is_some (seizing_of h e r.device moments) ≡ true)) readings
+
 -- when it was sent
 abbrev pub SentSo : List Moment → ℕ → Body → Type 0
 SentSo before from (body.Collect e members) = attempt_of from before ≡ Some e
@@ -142,5 +148,5 @@ StandsSo h moments from (body.SeizeQuorum e members d) = IsOf moments e members
 StandsSo h moments from (body.SeizeData e members d) = IsOf moments e members
 StandsSo h moments from (body.Seized e d (Held keys)) =
     (list_any (is_attempt e) moments ≡ true) × SeizedOr h moments from e d
-StandsSo h moments from (body.Install i) = IsInstalled moments i.epoch
+StandsSo h moments from (body.Install i) = IsInstalled moments i.epoch × ReadSo h moments i.epoch i.readings
 StandsSo h moments from _ = Unit {0}
