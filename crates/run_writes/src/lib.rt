@@ -10,7 +10,8 @@
 ghost use Rattle.run_writes.specs.Laws.{WritesOfEachRun};
 
 /// Each write to a device, of a node that is up, has the entries that `history` says: the refusal that is due, or the device's command with its answer
-/// and what that comes to.
+/// and what that comes to. Of the header it is supposed that it has at most 16 devices, no server among them, and a cluster below 2^32; of the device
+/// that it is numbered from 1 on, as the schedule's grammar has it.
 pub fn writes_of_each_run()
     ensures { WritesOfEachRun }
 {}
