@@ -12,7 +12,7 @@ use Rattle.status_report.specs.declared.entry.Entry.TheVariants as entry
 use Rattle.status_report.specs.declared.node_entry.NodeEntry.TheVariants as note
 use Rattle.history.specs.Member.{in_collect}
 use Rattle.history.specs.Moment.{Moment}
-use Rattle.history.specs.Trace.{installed, saved}
+use Rattle.history.specs.Trace.{saved}
 use Rattle.history.specs.Validated.{moved_on}
 use Rattle.node_model.specs.Attempts.{base_lines, starting_as}
 use Rattle.node_model.specs.Seats.{installed_of, record_of, session_of, state_of, with_state}

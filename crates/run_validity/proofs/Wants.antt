@@ -41,6 +41,7 @@ use Rattle.world_model.specs.Lines.{monitors}
 use Rattle.run_history.specs.Happenings.{Happening, IsPlain, MayHappen, happened}
 use Rattle.run_history.specs.Happenings.Happening.{Arrives, Begins, Commands, Loses, Misses, Notes, Refuses, Repeats, Speaks, Strays, Takes, Writes}
 use Rattle.run_history.specs.Scenes.{Scene, adding}
+use Rattle.run_history.specs.Rounds.{Progress}
 use Rattle.run_history.specs.Shapes.{Comes, Due, IsDue, IsThis, Opens, Want, asking, booting, brings, coming_to, commanding, due_after, if_up, left, of_oldest, of_packet, opened, probing, still, taking_this, writing}
 use Rattle.run_history.specs.Shapes as want
 use Rattle.run_history.specs.Stages.{site_of}
@@ -269,18 +270,18 @@ due_so h s (want.Refuse n d value why) wants (Refuses m e v w) is may b differ k
     settled h (happened (first_cluster h) s (Refuses m e v w)) wants k.wants_so (told_strict h s s.links z (λ n. stills.still h s.moments n z tt) tt k.so)
 due_so h s _ wants _ is may b differ k = absurd is
 
-opens_so : (h : Header) (s : Scene) (in_round : Bool) (x : Happening) → Opens s in_round x → Kept h s []
-    → Kept h (happened (first_cluster h) s x) (opened (first_cluster h) (happened (first_cluster h) s x) x).wants
-opens_so h s false (Speaks e) opens k =
+opens_so : (h : Header) (s : Scene) (rounds : Option Progress) (x : Happening) → Opens s rounds x → Kept h s []
+    → Kept h (happened (first_cluster h) s x) (opened (first_cluster h) (happened (first_cluster h) s x) rounds x).wants
+opens_so h s None (Speaks e) opens k =
     let t : Scene = happened (first_cluster h) s (Speaks e) in
     record {
       wants_so = brings_so (first_cluster h) t e;
       so = strictly h t (brings (first_cluster h) t e) (armed_strict h (first_cluster h) e (adding (Said (line.Event e)) s) (said_strict h s e k.so));
     }
-opens_so h s true (Begins e) opens k =
+opens_so h s (Some p) (Begins e) opens k =
     let t : Scene = happened (first_cluster h) s (Begins e) in
     record { wants_so = brings_so (first_cluster h) t e; so = strictly h t (brings (first_cluster h) t e) (part_strict h s e k.so) }
-opens_so h s true (Notes e) opens k =
+opens_so h s (Some p) (Notes e) opens k =
     record { wants_so = tt; so = told_strict h s s.links (entry.Schedule e) (λ n. stills.still h s.moments n (entry.Schedule e) tt) tt k.so }
 opens_so h s _ _ opens k = absurd opens
 
@@ -291,6 +292,6 @@ step_so h s d x due may b differ k = by_wants d.wants due k
     t : Scene
     t = happened (first_cluster h) s x
 
-    by_wants : (wants : List Want) → Comes s wants d.in_round x → Kept h s wants → Kept h t (left (first_cluster h) t wants d.in_round x).wants
-    by_wants [] comes l = opens_so h s d.in_round x comes l
+    by_wants : (wants : List Want) → Comes s wants d.rounds x → Kept h s wants → Kept h t (left (first_cluster h) t wants d.rounds x).wants
+    by_wants [] comes l = opens_so h s d.rounds x comes l
     by_wants (w ∷ wants) comes l = due_so h s w wants x comes may b differ l
