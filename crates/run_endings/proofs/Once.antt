@@ -330,7 +330,6 @@ called_free c me x a k f = then_free c me x _ _ (turned_all_free c me x a k f) (
 pub begun_free : (c : Cluster) (me : ℕ) (x : UpNode) (t : Turn) → IsFree (cuts.begun_course c me x t)
 begun_free c me x t = either_free (is_choosing t.after.phase) _ _ (called_free c me x t.after (With_votes (votes_in c t.after)) tt) (steps_free c me x t.steps)
 
-
 -- ---- a tick
 
 either_once : (left : Bool) (b : Bool) (k l : Course) → GoesOnce left k → GoesOnce left l → GoesOnce left (if b then k else l)

@@ -58,9 +58,11 @@ work_told : (W : ℕ → Bool) (v : Nodes) (nodes : ℕ) (coming behind : Option
     → ((k n : ℕ) (ns : List ℕ) → Fits k (n ∷ ns) → coming ≡ part_or (next_work v nodes k (n ∷ ns)) behind → has_turn v k n ≡ W n)
     → (k : ℕ) (ns : List ℕ) → Fits k ns → coming ≡ part_or (next_work v nodes k ns) behind → TellsWork W v k ns
 work_told W v nodes coming behind Fits others one k [] fits is = tt
-work_told W v nodes coming behind Fits others one k (n ∷ ns) fits is =
-    (one k n ns fits is, λ none. work_told W v nodes coming behind Fits others one most_commands ns (others k n ns fits)
-    (is ∙ ap (λ b. part_or (if b then Some (event.Disk n, world.Working (k - 1) (n ∷ ns)) else next_work v nodes most_commands ns) behind) none))
+work_told W v nodes coming behind Fits others one k (n ∷ ns) fits is = (
+  one k n ns fits is,
+  λ none. work_told W v nodes coming behind Fits others one most_commands ns (others k n ns fits)
+      (is ∙ ap (λ b. part_or (if b then Some (event.Disk n, world.Working (k - 1) (n ∷ ns)) else next_work v nodes most_commands ns) behind) none),
+)
 
 -- what the nodes that are to work keep to
 abbrev pub StageFits : (ℕ → List ℕ → Type 0) → world.Stage → Type 0

@@ -127,7 +127,7 @@ part_kept S works s p e facts tells comes k =
     let next : SameNext l ms (next_of v l p) (parts.next_part S works (Some e) ms q) =
     next_same S works (Some e) v ms p q facts.ups same (subst (λ o. TellsPart (λ n. works o n ms) v l p) here (tells p q same (only_due S s p facts.linked))) in
     let so : (option_map (λ (n : Next). n.event) (parts.next_part S works (Some e) ms q) ≡ Some e)
-        × SameRounds l (Part e ∷ ms) (option_map (λ (z : Event × world.Progress). z.1) (next_of v l p)) (option_map (λ (n : Next). n.after) (parts.next_part S works (Some e) ms q)) =
+    × SameRounds l (Part e ∷ ms) (option_map (λ (z : Event × world.Progress). z.1) (next_of v l p)) (option_map (λ (n : Next). n.after) (parts.next_part S works (Some e) ms q)) =
     comes_so l ms (next_of v l p) (parts.next_part S works (Some e) ms q) e next here in
     record {
       parts = (ap (λ o. option_and_then (λ x. option_map (λ (n : Next). n.event) (parts.next_part S works (Some e) ms x)) o) is ∙ so.0, k.parts);
@@ -161,9 +161,14 @@ done_kept S works s p facts tells none k =
     let next : SameNext l ms (next_of v l p) (parts.next_part S works None ms q) =
     next_same S works None v ms p q facts.ups same (subst (λ o. TellsPart (λ n. works o n ms) v l p) (ap (λ o. event_in o) here) (tells p q same (only_due S s p facts.linked))) in
     record {
-      parts = ((ap (λ o. is_some o) is,
-      ap (λ o. option_and_then (λ x. option_map (λ (n : Next). n.event) (parts.next_part S works None ms x)) o) is
-      ∙ ap (λ o. option_map (λ (n : Next). n.event) o) (none_next l ms (next_of v l p) (parts.next_part S works None ms q) next here)), k.parts);
+      parts = (
+        (
+          ap (λ o. is_some o) is,
+          ap (λ o. option_and_then (λ x. option_map (λ (n : Next). n.event) (parts.next_part S works None ms x)) o) is
+              ∙ ap (λ o. option_map (λ (n : Next). n.event) o) (none_next l ms (next_of v l p) (parts.next_part S works None ms q) next here),
+        ),
+        k.parts,
+      );
       rounds = tt;
     })
   where

@@ -1,5 +1,5 @@
 -- Each run: lines and parts of rounds, each write with its entries.
-use Rattle.std.specs.Prelude.{ℕ, ◌^◌, ◌≡◌, ◌≤◌, ◌<◌, ◌++◌, Bool, true, false, List, [], ◌∷◌, None, Some, length, is_some}
+use Rattle.std.specs.Prelude.{ℕ, ◌^◌, ◌≡◌, ◌≤◌, ◌<◌, ◌++◌, Bool, true, false, List, [], ◌∷◌, Option, None, Some, length, is_some}
 use Rattle.std.proofs.Common.{refl, sym, ap, subst, ◌∙◌, append-nil}
 use Rattle.cl_base.specs.Limits.{most_devices}
 use Rattle.cl_base.specs.declared.header.Header.{Header}
@@ -23,11 +23,14 @@ use Rattle.run_history.proofs.Reached.{Reached, reached_more}
 use Rattle.run_history.specs.Happenings.{Happening, MayAllHappen, MayHappen, all_happened, armed_by, happened}
 use Rattle.run_history.specs.Happenings.Happening.{Begins, Notes, Refuses, Speaks, Writes}
 use Rattle.run_history.specs.Scenes.{Scene, adding, first_scene}
-use Rattle.run_history.specs.Shapes.{Due, IsDue, IsShaped, IsThis, MayBegin, Opens, ShapedFrom, Want, brings, due_after, nothing, opened, still}
+use Rattle.run_history.specs.Rounds.{Progress}
+use Rattle.run_history.specs.Shapes.{Due, IsDue, IsShaped, IsThis, Opens, ShapedFrom, Want, brings, due_after, nothing, opened, still}
 use Rattle.run_history.specs.Shapes as want
 use Rattle.run_history.specs.WorldLines.{AreDisks}
 use Rattle.run_messages.proofs.Runs.{memberships_of_each_run}
 use Rattle.run_lines.proofs.Adds.{Adds, added_of_event}
+use Rattle.run_lines.proofs.Begins.{next_may}
+use Rattle.run_lines.specs.Entries.{MayBegin}
 use Rattle.run_writes.specs.Laws.{IsWritten, WriteSo, WritesOfEachRun}
 use Rattle.run_writes.specs.Written.{Awaits, IsAlone, Leaves, Ties}
 use Rattle.run_writes.proofs.Happens.{brings_alone, due_in_event, happening_adds}
@@ -118,18 +121,18 @@ part_opens S s e may k =
 rounds_end : (S : Setting) (s : Scene) → Awaits S s [] → Awaits S (happened (first_cluster S.header) s (Notes schedule.RoundsDone)) []
 rounds_end S s k = record { alone = tt; events = λ later none. (none, k.events [] refl) }
 
-opens_so : (S : Setting) (s : Scene) (in_round : Bool) (h : Happening) → AreDisks S.header → Ties S s → Opens s in_round h → Awaits S s []
-    → (let c : Cluster = first_cluster S.header in Awaits S (happened c s h) (opened c (happened c s h) h).wants)
-opens_so S s false (Speaks e) disks ties opens k = line_opens S s e disks ties k
-opens_so S s true (Begins e) disks ties opens k = part_opens S s e opens k
-opens_so S s true (Notes e) disks ties opens k = subst (λ z. Awaits S (happened (first_cluster S.header) s (Notes z)) []) (sym opens) (rounds_end S s k)
+opens_so : (S : Setting) (s : Scene) (progress : Option Progress) (h : Happening) → AreDisks S.header → Ties S s → Opens s progress h → Awaits S s []
+    → (let c : Cluster = first_cluster S.header in Awaits S (happened c s h) (opened c (happened c s h) progress h).wants)
+opens_so S s None (Speaks e) disks ties opens k = line_opens S s e disks ties k
+opens_so S s (Some p) (Begins e) disks ties opens k = part_opens S s e (next_may s p e opens) k
+opens_so S s (Some p) (Notes e) disks ties opens k = subst (λ z. Awaits S (happened (first_cluster S.header) s (Notes z)) []) (sym opens.0) (rounds_end S s k)
 opens_so S s _ _ disks ties opens k = absurd opens
 
-step_so : (S : Setting) (s : Scene) (wants : List Want) (in_round : Bool) (h : Happening) → length S.header.devices ≤ 16 → AreDisks S.header → Ties S s → MayHappen (first_cluster S.header) s h
-    → IsDue s (record { wants = wants; in_round = in_round }) h → Awaits S s wants
-    → (let c : Cluster = first_cluster S.header in Awaits S (happened c s h) (due_after c (happened c s h) (record { wants = wants; in_round = in_round }) h).wants)
-step_so S s [] in_round h few disks ties may comes k = opens_so S s in_round h disks ties comes k
-step_so S s (w ∷ wants) in_round h few disks ties may comes k = due_comes S s w wants h few ties may comes k
+step_so : (S : Setting) (s : Scene) (wants : List Want) (progress : Option Progress) (h : Happening) → length S.header.devices ≤ 16 → AreDisks S.header → Ties S s → MayHappen (first_cluster S.header) s h
+    → IsDue s (record { wants = wants; rounds = progress }) h → Awaits S s wants
+    → (let c : Cluster = first_cluster S.header in Awaits S (happened c s h) (due_after c (happened c s h) (record { wants = wants; rounds = progress }) h).wants)
+step_so S s [] progress h few disks ties may comes k = opens_so S s progress h disks ties comes k
+step_so S s (w ∷ wants) progress h few disks ties may comes k = due_comes S s w wants h few ties may comes k
 
 -- ---- the run
 
@@ -152,7 +155,7 @@ run_so S cells few disks tied [] s d last r may shaped k = subst (λ (z : Due). 
 run_so S cells few disks tied (g ∷ hs) s d last r may shaped k =
     let c : Cluster = first_cluster S.header in
     run_so S cells few disks tied hs (happened c s g) (due_after c (happened c s g) d g) last (reached_more c (first_scene S.header cells) s g r may.0) may.1 shaped.1
-    (step_so S s d.wants d.in_round g few disks (tied s r) may.0 shaped.0 k)
+    (step_so S s d.wants d.rounds g few disks (tied s r) may.0 shaped.0 k)
 
 first_awaits : (S : Setting) (cells : ℕ) → Awaits S (first_scene S.header cells) []
 unfolding first_scene
