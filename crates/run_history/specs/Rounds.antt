@@ -1,6 +1,6 @@
 -- The parts of rounds. `rounds K G` is K times this: every packet that is in flight between nodes of G as the round begins is delivered, in the order of
--- numbers; then each node of G, ascending, does its device commands until none is due; then each node of G that is up ticks, ascending. What has nothing
--- to do is passed over.
+-- numbers; then each node of G, ascending, does its device commands until none is due, or it has done the most that the world lets it do; then each node
+-- of G that is up ticks, ascending. What has nothing to do is passed over.
 use Rattle.std.specs.Prelude.{ℕ, zero, suc, ◌-◌, ◌&&◌, nat_lt, Bool, List, [], ◌∷◌, ◌++◌, Option, None, Some, is_some, if◌then◌else◌}
 use Rattle.std.specs.Option.{option_map, option_or}
 use Rattle.cl_base.specs.Limits.{most_nodes}

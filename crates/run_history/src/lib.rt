@@ -1,9 +1,9 @@
 //! What each run of the simulated world keeps, and what its lines tell.
 //!
 //! A run is things that happen, one after another: `specs/Scenes` has the world with what was said and told of it, `specs/Happenings` what can
-//! happen and when, `specs/Shapes` what each line brings, and `specs/Telling` says that each run of the world is that. What holds at first and is
-//! kept by each thing that happens holds of each run: `kept_holds` of `proofs/Reached`, which is no law function, since it speaks of every
-//! property. Over such runs stand the laws: what the lines tell of links and devices (`specs/WorldLines`, `NodeLines`), of members (`Members`), of
+//! happen and when, `specs/Shapes` what each line brings, `specs/Rounds` which part of a round comes next, and `specs/Telling` says that each run of
+//! the world is that. What holds at first and is kept by each thing that happens holds of each run: `kept_holds` of `proofs/Reached`, which is no law
+//! function, since it speaks of every property. Over such runs stand the laws: what the lines tell of links and devices (`specs/WorldLines`, `NodeLines`), of members (`Members`), of
 //! starts and updates (`Runs`, `Starts`), that each run is one of the abstract machine of the whole cluster (`Wholes`), the disk rule
 //! (`DiskRules`), the messages behind the lines (`ContactRuns`), and the votes of a start (`VoteRuns`).
 //!

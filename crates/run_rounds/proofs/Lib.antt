@@ -6,6 +6,7 @@ pub mod Next
 pub mod Tells
 pub mod Adds
 pub mod Owns
+pub mod Tasks
 pub mod Downs
 pub mod Walk
 pub mod Runs
