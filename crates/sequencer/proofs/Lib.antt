@@ -1,1 +1,5 @@
 pub mod Sums
+pub mod Staying
+pub mod Marked
+pub mod Turned
+pub mod Brought
