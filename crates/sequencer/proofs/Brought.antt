@@ -134,10 +134,10 @@ module _ (d : Direction) (t : GroupTable) (v : GroupView) (orders : List (Option
         both m = ap (λ g. is_marked g x m) p_same ∙ stage.fresh_before x m own ∙ sym (stage.fresh_now x m own) ∙ ap (λ g. is_marked g x m) (sym q_same)
 
     module _ (r : Resource) (found : named t.resources x ≡ Some r) (apart : rests_on t (x ∷ rest) r ≡ false) where
-      gave : ℕ → Bool
+      abbrev gave : ℕ → Bool
       gave m = must_go d t v members p x r m
 
-      gives : ℕ → Bool
+      abbrev gives : ℕ → Bool
       gives m = must_go d t w members q x r m
 
       p_is : with_resource d t v members p x ≡ with_places d t v members p x (Some r)

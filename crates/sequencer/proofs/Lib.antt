@@ -3,3 +3,6 @@ pub mod Staying
 pub mod Marked
 pub mod Turned
 pub mod Brought
+pub mod Awaited
+pub mod Follows
+pub mod Weak

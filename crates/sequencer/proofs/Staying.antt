@@ -66,7 +66,7 @@ module _ (d : Direction) (t : GroupTable) (v : GroupView) (orders : List (Option
   draws_same n None out = refl
   draws_same n (Some g) out = any_kept (leads_there t names) (is_drawn t a n) (is_drawn t b n) g.affinities (drawn_same n) out
 
-  reason_same : (name : List ℕ) (r : Resource) (n : ℕ) → rests_on t names r ≡ false → has_reason d t v members a name r n ≡ has_reason d t w members b name r n
+  pub reason_same : (name : List ℕ) (r : Resource) (n : ℕ) → rests_on t names r ≡ false → has_reason d t v members a name r n ≡ has_reason d t w members b name r n
   unfolding has_reason has_lost has_shaken follows rests_on
   reason_same name r n out =
       let last : _ = or_parts (targets_one names r.strong || targets_one names r.offline_restart) (follows_one t names (named t.groups r.group)) out in

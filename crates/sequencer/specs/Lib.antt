@@ -11,3 +11,4 @@ pub mod Next
 pub mod Resting
 pub mod Renewals
 pub mod Shown
+pub mod Kept
