@@ -20,7 +20,15 @@ fn follow(
     if !is_in_order(c.groups(), order) {
         return Err(Fail::new("not in order"));
     }
-    o.add_order(alloc, c.groups(), c.types(), c.limits(), v, order, &name(r)?)?;
+    o.add_order(
+        alloc,
+        c.groups(),
+        c.types(),
+        c.limits(),
+        v,
+        order,
+        &name(r)?,
+    )?;
     Ok(())
 }
 
@@ -48,7 +56,10 @@ fn after(
     put_order(&mut v.outstanding, words)?;
     follow(alloc, c, v, &order, r, &mut kept)?;
     let found = outlook(alloc, c, v, &order)?;
-    Ok((calls(alloc, c, v, &kept, &order)?, calls(alloc, c, v, &found, &order)?))
+    Ok((
+        calls(alloc, c, v, &kept, &order)?,
+        calls(alloc, c, v, &found, &order)?,
+    ))
 }
 
 /// The order of these words is given: `give NODE METHOD RESOURCE`. The calls that are allowed then,

@@ -200,7 +200,9 @@ impl President {
         let Some((resource, method)) = call else {
             return Ok(Some(outlook));
         };
-        self.give_call(alloc, c, resources, n, resource, method, in_order, outlook, orders)
+        self.give_call(
+            alloc, c, resources, n, resource, method, in_order, outlook, orders,
+        )
     }
 
     /// What the calls rest on now, found where it is not known.
@@ -295,15 +297,7 @@ fn with_order(
     ensures { IfOk result (λ o. FollowsOrder c.now.groups c.now.types c.now.limits resources.now r.now view.entry.now outlook o) }
 {
     let mut left = outlook;
-    left.add_order(
-        alloc,
-        c.groups(),
-        c.types(),
-        c.limits(),
-        view,
-        resources,
-        r,
-    )?;
+    left.add_order(alloc, c.groups(), c.types(), c.limits(), view, resources, r)?;
     Ok(left)
 }
 

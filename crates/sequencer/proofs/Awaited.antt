@@ -12,7 +12,6 @@ use Rattle.cl_base.specs.declared.method.Method.TheVariants.{PrenetStart, Start,
 use Rattle.cl_base.specs.Sets.{has}
 use Rattle.load_limits.specs.declared.limits.Limit.{Limit}
 use Rattle.placement.specs.Resources.{is_stop_failed}
-use Rattle.rg_props.specs.declared.affinity.Affine.{Affine}
 use Rattle.rg_props.specs.declared.group.Group.{Group}
 use Rattle.rg_props.specs.declared.group.Resource.{Resource}
 use Rattle.rg_props.specs.Affinities.{is_close}
@@ -30,7 +29,7 @@ use Rattle.sequencer.specs.Allowed.{has_up_call, is_allowed, is_callable, is_cal
 use Rattle.sequencer.specs.Fields.{OutlookFields}
 use Rattle.sequencer.specs.Leaving.{has_reason}
 use Rattle.sequencer.specs.Next.{call_of, down_call, next_call_of, up_call}
-use Rattle.sequencer.specs.Resting.{follows_one, has_one, is_one_in, leads_there, rests_on, targets_one}
+use Rattle.sequencer.specs.Resting.{follows_one, has_one, is_one_in, leads_there, rests_on}
 use Rattle.sequencer.specs.Scopes.{any_in_scope}
 use Rattle.sequencer.specs.Shown.{Shows, awaited}
 use Rattle.sequencer.specs.Standing.{is_ordered}

@@ -59,8 +59,8 @@ module _ (marks : List NameAt) (x : List ℕ) (n : ℕ) where
   without_here m =
       any-filter_same (same_place (place x m)) (λ k. not (same_place (place x n) k)) (not (m == n))
       (λ k same.
-        ap (λ (p : NameAt). not (same_place (place x n) p)) (sym (one_place (place x m) k same))
-        ∙ ap (λ (b : Bool). not (b && (n == m))) (texts_pass x x refl) ∙ ap not (nodes_flip n m)) marks
+      ap (λ (p : NameAt). not (same_place (place x n) p)) (sym (one_place (place x m) k same))
+      ∙ ap (λ (b : Bool). not (b && (n == m))) (texts_pass x x refl) ∙ ap not (nodes_flip n m)) marks
 
 -- A place that is put as it is to be.
 module _ (s : Turning) (x : List ℕ) (n : ℕ) where

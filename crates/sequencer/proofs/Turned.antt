@@ -1,20 +1,19 @@
 -- The places of one resource: as the rule gives them, and as they are brought up to date.
-use Rattle.std.proofs.Common.{◌≡◌, ℕ, ◌==◌, Bool, true, false, cond, not, ◌&&◌, ◌||◌, List, [], ◌∷◌, ◌++◌, Option, None, Some, fold, refl, sym, ap, ◌∙◌}
+use Rattle.std.proofs.Common.{◌≡◌, ℕ, ◌==◌, Bool, true, false, cond, ◌&&◌, ◌||◌, List, [], ◌∷◌, fold, refl, sym, ap, ◌∙◌}
 use Rattle.std.proofs.Math.Bool.{and-false, and-true, or-false}
-use Rattle.std.proofs.lemmas.Bool.{eqb-true, or_parts}
+use Rattle.std.proofs.lemmas.Bool.{eqb-true}
 use Rattle.std.specs.List.{list_any}
 use Rattle.std.specs.Cmp.Lexicographic.{same_text}
 use Rattle.std.specs.Str.{bytes_eq}
 use Rattle.rg_props.specs.declared.group.Resource.{Resource}
-use Rattle.rg_props.specs.Lookups.{named}
 use Rattle.rg_props.specs.Settings.{has_name}
 use Rattle.rg_props.specs.Table.{GroupTable}
 use Rattle.rg_view.specs.declared.name_at.NameAt.{NameAt}
 use Rattle.rg_view.specs.declared.view.GroupView.{GroupView}
 use Rattle.rg_view.specs.Marks.{is_marked, marks_with}
 use Rattle.sequencer.specs.declared.direction.Direction.{Direction}
-use Rattle.sequencer.specs.Leaving.{must_go, with_place, with_places, with_resource}
-use Rattle.sequencer.specs.Renewals.{Turning, put, turning, with_place_anew}
+use Rattle.sequencer.specs.Leaving.{must_go, with_place}
+use Rattle.sequencer.specs.Renewals.{Turning, with_place_anew}
 use Rattle.sequencer.specs.Resting.{rests_on}
 use Rattle.sequencer.proofs.Marked.{put_here, put_other, put_unturned, with_here, with_other}
 use Rattle.sequencer.proofs.Staying.{places_stay}

@@ -148,8 +148,26 @@ fn renew_going(
     ensures { OnOk result (outlook.new ≡ with_going_renewed g.now view.entry.now order.now r.now outlook.old) }
 {
     let members = outlook.members.as_slice();
-    renew(alloc, Direction::Down, g, view, members, order, r, &mut outlook.for_down)?;
-    renew(alloc, Direction::Up, g, view, members, order, r, &mut outlook.for_up)?;
+    renew(
+        alloc,
+        Direction::Down,
+        g,
+        view,
+        members,
+        order,
+        r,
+        &mut outlook.for_down,
+    )?;
+    renew(
+        alloc,
+        Direction::Up,
+        g,
+        view,
+        members,
+        order,
+        r,
+        &mut outlook.for_up,
+    )?;
     outlook.rising = Marks::new(alloc);
     Ok(())
 }

@@ -9,4 +9,4 @@ pub returns : goal.returns
 returns c =
     c.any_rises.ensures
     ∙ (λ i. list_any (λ r. up_call_shown c.args.c.now.groups c.args.c.now.types c.args.c.now.limits c.args.view.now c.args.outlook.now
-      (outlook_over c.args.c.now (sequence c.args.c.now.groups) c.args.view.now) c.requires c.args.n r i) c.args.resources.now)
+    (outlook_over c.args.c.now (sequence c.args.c.now.groups) c.args.view.now) c.requires c.args.n r i) c.args.resources.now)
