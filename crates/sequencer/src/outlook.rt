@@ -1,11 +1,9 @@
-ghost use Rattle.std.specs.Prelude.{◌≡◌, ◌++◌, [], fold, slice_get, true, IfOk, OnOk};
-ghost use Rattle.std.specs.List.{flat_map};
+ghost use Rattle.std.specs.Prelude.{◌≡◌, [], fold, slice_get, true, IfOk, OnOk};
 ghost use Rattle.std.specs.Option.{option_copied, option_map_or};
 ghost use Rattle.rg_view.specs.Marks.{is_marked, marks_with};
 ghost use Rattle.sequencer.specs.Leaving.{going_of, with_place, with_places, with_resource};
 ghost use Rattle.sequencer.specs.Kept.{kept_outlook, outlook_renewed, risen, with_going_renewed, with_risings_of};
 ghost use Rattle.sequencer.specs.Outlooks.{members_of, outlook_of, with_rising, with_risings, without_risings};
-ghost use Rattle.sequencer.specs.Renewals.{renewed};
 ghost use Rattle.sequencer.specs.Resting.{is_in_order};
 ghost use Rattle.sequencer.specs.Shown.{FollowsOrder, Shows, awaited};
 

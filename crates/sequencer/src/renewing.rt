@@ -1,6 +1,6 @@
 // How the places that must go down are brought up to date.
-ghost use Rattle.std.specs.Prelude.{◌≡◌, ◌∷◌, ◌++◌, [], fold, IfOk, OnOk};
-ghost use Rattle.sequencer.specs.Renewals.{anew_of, renewed, turning, with_anew, with_place_anew, with_resource_anew};
+ghost use Rattle.std.specs.Prelude.{◌≡◌, ◌∷◌, ◌++◌, [], IfOk, OnOk};
+ghost use Rattle.sequencer.specs.Renewals.{renewed, turning, with_anew, with_place_anew, with_resource_anew};
 
 use crate::direction::Direction;
 use crate::leaving::must_go;
