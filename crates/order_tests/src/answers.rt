@@ -117,7 +117,7 @@ fn resources_of(
 }
 
 /// The resources, group by group in the order of groups.
-fn resources(alloc: Global, c: &Config) -> Result<Vec<Name>, Fail> {
+pub fn resources(alloc: Global, c: &Config) -> Result<Vec<Name>, Fail> {
     let mut names = Vec::new(alloc);
     resources_of(
         alloc,
@@ -128,7 +128,7 @@ fn resources(alloc: Global, c: &Config) -> Result<Vec<Name>, Fail> {
     Ok(names)
 }
 
-fn outlook(alloc: Global, c: &Config, v: &GroupView, order: &[Name]) -> Result<Outlook, Fail> {
+pub fn outlook(alloc: Global, c: &Config, v: &GroupView, order: &[Name]) -> Result<Outlook, Fail> {
     Ok(Outlook::find(alloc, c.groups(), c.types(), c.limits(), v, order)?)
 }
 
@@ -166,7 +166,7 @@ fn push_calls_on(
 }
 
 /// Those on node 1, on node 2 and on node 3.
-fn push_all_calls(
+pub fn push_all_calls(
     text: &mut Vec<u8>,
     c: &Config,
     v: &GroupView,

@@ -6,6 +6,10 @@ mod answers;
 #[cfg(test)]
 mod calls;
 #[cfg(test)]
+mod following;
+#[cfg(test)]
+mod given;
+#[cfg(test)]
 mod orders;
 #[cfg(test)]
 mod places;

@@ -4,6 +4,7 @@ ghost use Rattle.std.specs.Prelude.{◌≤◌, length};
 ghost use Rattle.cl_base.specs.Limits.{most_devices};
 
 use crate::answers::answer;
+use crate::following::give;
 use crate::view::alter;
 use crate::words::parts;
 use admin_words::parse;
@@ -72,7 +73,38 @@ fn expect(
     Ok(())
 }
 
-/// The words of a change; or those of a question, `=` and its answer.
+/// The calls after an order, by both outlooks.
+fn expect_given(
+    rt: &impl Abort,
+    alloc: Global,
+    c: &Config,
+    v: &mut GroupView,
+    words: &[u8],
+    wanted: &[u8],
+) -> Result<(), Fail> {
+    let (kept, found) = give(alloc, c, v, &parts(alloc, words, b' ')?)?;
+    assert_eq!(rt; found.as_slice(), wanted);
+    assert_eq!(rt; kept.as_slice(), wanted);
+    Ok(())
+}
+
+/// The words of an order or of a question, and the answer.
+fn compare(
+    rt: &impl Abort,
+    alloc: Global,
+    c: &Config,
+    v: &mut GroupView,
+    words: &[u8],
+    wanted: &[u8],
+) -> Result<(), Fail> {
+    if words.starts_with(b"give ") {
+        expect_given(rt, alloc, c, v, words, wanted)
+    } else {
+        expect(rt, alloc, c, v, words, wanted)
+    }
+}
+
+/// The words of a change; or those of an order or a question, `=` and the answer.
 fn take(
     rt: &impl Abort,
     alloc: Global,
@@ -82,7 +114,7 @@ fn take(
 ) -> Result<(), Fail> {
     match sides {
         [words] => make(alloc, c, v, words),
-        [question, wanted] => expect(rt, alloc, c, v, question.trim_ascii(), wanted.trim_ascii()),
+        [words, wanted] => compare(rt, alloc, c, v, words.trim_ascii(), wanted.trim_ascii()),
         _ => Err(Fail::new("a step has one answer")),
     }
 }

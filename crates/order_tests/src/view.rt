@@ -148,7 +148,8 @@ fn add_mark(marks: &mut Marks, words: &[&[u8]]) -> Result<(), Fail> {
     }
 }
 
-fn put_order(orders: &mut Orders, words: &[&[u8]]) -> Result<(), Fail> {
+/// The order of these words is outstanding: `NODE METHOD RESOURCE`.
+pub fn put_order(orders: &mut Orders, words: &[&[u8]]) -> Result<(), Fail> {
     match words {
         [n, m, r] => put(orders, node(n)?, method(m), name(r)?),
         _ => Err(Fail::new("order")),

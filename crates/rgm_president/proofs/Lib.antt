@@ -6,3 +6,4 @@ pub mod Orders
 pub mod Kept
 pub mod Rests
 pub mod Lists
+pub mod Following

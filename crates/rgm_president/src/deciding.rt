@@ -1,9 +1,11 @@
-ghost use Rattle.std.specs.Prelude.{◌≡◌, ◌<◌, ◌^◌, ◌≤◌, ◌+◌, ◌-◌, [], None, false, true, IfOk, IfSome, OnOk, length};
+ghost use Rattle.std.specs.Prelude.{◌≡◌, ◌<◌, ◌^◌, ◌≤◌, ◌+◌, ◌-◌, [], None, Some, false, true, IfOk, IfSome, OnOk, length};
 ghost use Rattle.rg_view.specs.Orders.{order_of};
 ghost use Rattle.rgm_president.specs.Decisions.{call_on, decision, goals_set, members_of, ordered, outlook_over, turns_of, turns_unless, with_turn, with_turns};
 ghost use Rattle.rgm_president.specs.Goals.{with_goals};
 ghost use Rattle.rgm_president.specs.Sequence.{groups_in_order, sequence};
 ghost use Rattle.rgm_president.specs.Steady.{IsSteady};
+ghost use Rattle.sequencer.specs.Resting.{is_in_order};
+ghost use Rattle.sequencer.specs.Shown.{FollowsOrder, Shows};
 
 use crate::goals::set_goals;
 use crate::ordering::{groups_in_order, resources_in_order};
@@ -13,7 +15,7 @@ use ccr_tables::Config;
 use cl_base::{Method, Name, NodeId, NodeSet};
 use rg_view::GroupView;
 use rgm_state::NoMemory;
-use sequencer::{Outlook, next_call};
+use sequencer::{Outlook, is_in_order, next_call};
 use std::alloc::Global;
 use wire::Order;
 
@@ -161,81 +163,142 @@ impl President {
         ensures orders { IfOk result (λ orders. orders.items ≡ (turns_of c.now resources.now self.old nodes.now).orders) }
         ensures after { OnOk result (self.new ≡ (turns_of c.now resources.now self.old nodes.now).president) }
     {
+        let in_order = is_in_order(c.groups(), resources);
         let mut orders = Vec::new(alloc);
         let mut outlook = None;
         for n in nodes {
-            outlook = self.give_next(alloc, c, resources, *n, outlook, &mut orders)?;
+            outlook = self.give_next(alloc, c, resources, *n, in_order, outlook, &mut orders)?;
         }
         Ok(orders)
     }
 
     #[tactic(auto, unfolding(crate::specs::Decisions::with_turn))]
     /// Gives the member its first allowed call, unless it has an order. What the calls rest on is
-    /// found where it is not known, and handed back while it holds: until an order is given.
+    /// found where it is not known, and handed back as it stands then.
     fn give_next(
         &mut self,
         alloc: Global,
         c: &Config,
         resources: &[Name],
         n: NodeId,
+        in_order: bool,
         known: Option<Outlook>,
         orders: &mut Vec<(NodeId, Order)>,
     ) -> Result<Option<Outlook>, NoMemory>
         requires number { self.old.given < 2 ^ 64 - 1 }
-        requires known { IfSome known (λ o. o ≡ outlook_over c.now resources.now self.old.view) }
+        requires in_order { in_order ≡ true → is_in_order c.now.groups resources.now ≡ true }
+        requires known { IfSome known (λ o. Shows c.now.groups o (outlook_over c.now resources.now self.old.view)) }
         ensures turn { OnOk result (record { president = self.new; orders = orders.new.items } ≡ with_turn c.now resources.now (record { president = self.old; orders = orders.old.items }) n) }
         ensures number { OnOk result (self.new.given ≤ self.old.given + 1) }
-        ensures holds { IfOk result (λ left. IfSome left (λ o. o ≡ outlook_over c.now resources.now self.new.view)) }
+        ensures holds { IfOk result (λ left. IfSome left (λ o. Shows c.now.groups o (outlook_over c.now resources.now self.new.view))) }
     {
         if self.view.outstanding.at(n).is_some() {
             return Ok(known);
         }
-        let outlook = known_or_found(alloc, c, &self.view, resources, known)?;
-        let call = call_on(c, &self.view, resources, &outlook, n);
-        if self.give_order(alloc, n, call, orders)? {
-            return Ok(None);
-        }
-        Ok(Some(outlook))
+        let outlook = self.outlook_now(alloc, c, resources, known)?;
+        let call = self.call_now(c, resources, &outlook, n);
+        let Some((resource, method)) = call else {
+            return Ok(Some(outlook));
+        };
+        self.give_call(
+            alloc, c, resources, n, resource, method, in_order, outlook, orders,
+        )
     }
 
-    /// Gives the node, which has none, an order for the call, where there is one. Whether there is.
-    fn give_order(
+    /// What the calls rest on now, found where it is not known.
+    fn outlook_now(
+        &self,
+        alloc: Global,
+        c: &Config,
+        resources: &[Name],
+        known: Option<Outlook>,
+    ) -> Result<Outlook, NoMemory>
+        requires { IfSome known (λ o. Shows c.now.groups o (outlook_over c.now resources.now self.now.view)) }
+        ensures { IfOk result (λ o. Shows c.now.groups o (outlook_over c.now resources.now self.now.view)) }
+    {
+        match known {
+            Some(outlook) => Ok(outlook),
+            None => find_outlook(alloc, c, self.view(), resources),
+        }
+    }
+
+    /// The first allowed call on the node.
+    fn call_now(
+        &self,
+        c: &Config,
+        resources: &[Name],
+        outlook: &Outlook,
+        n: NodeId,
+    ) -> Option<(Name, Method)>
+        requires { Shows c.now.groups outlook.now (outlook_over c.now resources.now self.now.view) }
+        ensures { result ≡ call_on c.now resources.now self.now.view n }
+    {
+        call_on(c, self.view(), resources, outlook, n)
+    }
+
+    /// Gives the member, which has none, an order for the call. What the calls rest on then is handed
+    /// back, where it can be brought up to date.
+    fn give_call(
         &mut self,
         alloc: Global,
+        c: &Config,
+        resources: &[Name],
         n: NodeId,
-        call: Option<(Name, Method)>,
+        r: Name,
+        method: Method,
+        in_order: bool,
+        outlook: Outlook,
         orders: &mut Vec<(NodeId, Order)>,
-    ) -> Result<bool, NoMemory>
+    ) -> Result<Option<Outlook>, NoMemory>
         requires room { order_of self.old.view.outstanding n ≡ None }
         requires number { self.old.given < 2 ^ 64 - 1 }
-        ensures turn { OnOk result (record { president = self.new; orders = orders.new.items } ≡ ordered n (record { president = self.old; orders = orders.old.items }) call) }
+        requires in_order { in_order ≡ true → is_in_order c.now.groups resources.now ≡ true }
+        requires known { Shows c.now.groups outlook (outlook_over c.now resources.now self.old.view) }
+        ensures turn { OnOk result (record { president = self.new; orders = orders.new.items } ≡ ordered n (record { president = self.old; orders = orders.old.items }) (Some (r, method))) }
         ensures number { OnOk result (self.new.given ≤ self.old.given + 1) }
-        ensures same { IfOk result (λ given. given ≡ false → self.new ≡ self.old) }
+        ensures holds { IfOk result (λ left. IfSome left (λ o. Shows c.now.groups o (outlook_over c.now resources.now self.new.view))) }
     {
-        let Some((resource, method)) = call else {
-            return Ok(false);
-        };
-        let order = self.order(alloc, n, resource, Some(method))?;
+        let order = self.order(alloc, n, r, Some(method))?;
         orders.push((n, order))?;
-        Ok(true)
+        self.outlook_after(alloc, c, resources, &r, in_order, outlook)
+    }
+
+    /// What the calls rest on after an order for the resource was given, where it can be brought up to
+    /// date: where each resource comes after what it rests on.
+    fn outlook_after(
+        &self,
+        alloc: Global,
+        c: &Config,
+        resources: &[Name],
+        r: &Name,
+        in_order: bool,
+        outlook: Outlook,
+    ) -> Result<Option<Outlook>, NoMemory>
+        requires { in_order ≡ true → is_in_order c.now.groups resources.now ≡ true }
+        ensures { IfOk result (λ left. IfSome left (λ o. FollowsOrder c.now.groups c.now.types c.now.limits resources.now r.now self.now.view outlook o)) }
+    {
+        if !in_order {
+            return Ok(None);
+        }
+        let left = with_order(alloc, c, self.view(), resources, r, outlook)?;
+        Ok(Some(left))
     }
 }
 
-/// What the calls rest on, found where it is not known.
-fn known_or_found(
+fn with_order(
     alloc: Global,
     c: &Config,
     view: &GroupView,
     resources: &[Name],
-    known: Option<Outlook>,
+    r: &Name,
+    outlook: Outlook,
 ) -> Result<Outlook, NoMemory>
-    requires { IfSome known (λ o. o ≡ outlook_over c.now resources.now view.now) }
-    ensures { IfOk result (λ o. o ≡ outlook_over c.now resources.now view.entry.now) }
+    requires { is_in_order c.now.groups resources.now ≡ true }
+    ensures { IfOk result (λ o. FollowsOrder c.now.groups c.now.types c.now.limits resources.now r.now view.entry.now outlook o) }
 {
-    match known {
-        Some(outlook) => Ok(outlook),
-        None => find_outlook(alloc, c, view, resources),
-    }
+    let mut left = outlook;
+    left.add_order(alloc, c.groups(), c.types(), c.limits(), view, resources, r)?;
+    Ok(left)
 }
 
 /// The members, in ascending order.
@@ -255,7 +318,7 @@ fn call_on(
     outlook: &Outlook,
     n: NodeId,
 ) -> Option<(Name, Method)>
-    requires { outlook.now ≡ outlook_over c.now resources.now view.now }
+    requires { Shows c.now.groups outlook.now (outlook_over c.now resources.now view.now) }
     ensures { result ≡ call_on c.now resources.now view.entry.now n }
 {
     next_call(
@@ -276,7 +339,7 @@ pub fn find_outlook(
     view: &GroupView,
     resources: &[Name],
 ) -> Result<Outlook, NoMemory>
-    ensures { IfOk result (λ o. o ≡ outlook_over c.now resources.now view.entry.now) }
+    ensures { IfOk result (λ o. Shows c.now.groups o (outlook_over c.now resources.now view.entry.now)) }
 {
     let outlook = Outlook::find(alloc, c.groups(), c.types(), c.limits(), view, resources)?;
     Ok(outlook)

@@ -4,7 +4,9 @@ ghost use Rattle.std.specs.List.{list_any};
 ghost use Rattle.std.specs.Option.{option_copied};
 ghost use Rattle.rg_props.specs.Lookups.{named};
 ghost use Rattle.rgm_president.specs.Sequence.{sequence};
+ghost use Rattle.rgm_president.specs.Decisions.{outlook_over};
 ghost use Rattle.sequencer.specs.Allowed.{has_up_call, is_allowed};
+ghost use Rattle.sequencer.specs.Shown.{Shows};
 ghost use Rattle.rgm_president.specs.Status.{can_rise, first_blocked, first_faulted, group_state, has_stop_failed, hindrance, is_blocked, is_enabled, is_faulted, is_hindered, is_order_of, reason_for, reason_inside, reason_outside, state_in, state_inside, state_of_managed, state_outside};
 
 use crate::deciding::find_outlook;
@@ -149,10 +151,31 @@ fn can_rise(
 ) -> Result<bool, NoMemory>
     ensures { IfOk result (λ rises. rises ≡ can_rise c.now view.entry.now resources.now n) }
 {
+    let outlook = outlook_in_order(alloc, c, view)?;
+    Ok(can_rise_by(c, view, &outlook, resources, n))
+}
+
+/// What the calls rest on, as it stands.
+fn outlook_in_order(alloc: Global, c: &Config, view: &GroupView) -> Result<Outlook, NoMemory>
+    ensures { IfOk result (λ o. Shows c.now.groups o (outlook_over c.now (sequence c.now.groups) view.entry.now)) }
+{
     let groups = groups_in_order(alloc, c.groups())?;
     let order = resources_in_order(alloc, c.groups(), &groups)?;
     let outlook = find_outlook(alloc, c, view, &order)?;
-    Ok(any_rises(c, view, &outlook, resources, n))
+    Ok(outlook)
+}
+
+fn can_rise_by(
+    c: &Config,
+    view: &GroupView,
+    outlook: &Outlook,
+    resources: &[Name],
+    n: NodeId,
+) -> bool
+    requires { Shows c.now.groups outlook.now (outlook_over c.now (sequence c.now.groups) view.now) }
+    ensures { result ≡ can_rise c.now view.entry.now resources.now n }
+{
+    any_rises(c, view, outlook, resources, n)
 }
 
 fn any_rises(c: &Config, view: &GroupView, outlook: &Outlook, resources: &[Name], n: NodeId) -> bool

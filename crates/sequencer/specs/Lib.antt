@@ -8,3 +8,8 @@ pub mod Starting
 pub mod Allowed
 pub mod Outlooks
 pub mod Next
+pub mod Resting
+pub mod Renewals
+pub mod Shown
+pub mod Kept
+pub mod Counted

@@ -2,6 +2,7 @@
 //! found once for the calls of a decision; with it the calls take no memory.
 #![tactic(auto)]
 
+mod counted;
 mod direction;
 mod groups;
 mod leaving;
@@ -9,6 +10,8 @@ mod loads;
 mod methods;
 mod next;
 mod outlook;
+mod renewing;
+mod resting;
 mod scopes;
 mod standing;
 mod starting;
@@ -17,3 +20,4 @@ mod stopping;
 pub use methods::allowed;
 pub use next::next_call;
 pub use outlook::Outlook;
+pub use resting::is_in_order;

@@ -1,12 +1,17 @@
-ghost use Rattle.std.specs.Prelude.{◌≡◌, [], fold, IfOk, OnOk};
-ghost use Rattle.std.specs.Option.{option_copied};
+ghost use Rattle.std.specs.Prelude.{◌≡◌, [], fold, slice_get, true, IfOk, OnOk};
+ghost use Rattle.std.specs.Option.{option_copied, option_map_or};
 ghost use Rattle.rg_view.specs.Marks.{is_marked, marks_with};
 ghost use Rattle.sequencer.specs.Leaving.{going_of, with_place, with_places, with_resource};
+ghost use Rattle.sequencer.specs.Kept.{kept_outlook, outlook_renewed, risen, with_going_renewed, with_risings_of};
 ghost use Rattle.sequencer.specs.Outlooks.{members_of, outlook_of, with_rising, with_risings, without_risings};
+ghost use Rattle.sequencer.specs.Resting.{is_in_order};
+ghost use Rattle.sequencer.specs.Shown.{FollowsOrder, Shows, awaited};
 
 use crate::direction::Direction;
 use crate::leaving::must_go;
 use crate::methods::has_up_call;
+use crate::renewing::renew;
+use crate::resting::has_name;
 use cl_base::{Name, NodeId};
 use load_limits::Limits;
 use rg_props::{Groups, Resource};
@@ -15,8 +20,8 @@ use rt_types::Types;
 use std::alloc::Global;
 use std::marker::Model;
 
-/// What the calls of one decision rest on: the places that must go down, and those where an up call
-/// is allowed. A place is a resource and a member. It holds until the view changes.
+/// What the calls of one decision rest on: the places that must go down, and those of weak targets
+/// where an up call is allowed. A place is a resource and a member. It holds until the view changes.
 #[derive(Drop)]
 pub struct Outlook {
     members: Vec<NodeId>,
@@ -34,9 +39,8 @@ impl Model for Outlook {
 }
 
 impl Outlook {
-    #[tactic(auto, unfolding(crate::specs::Outlooks::outlook_of))]
-    /// The outlook of these groups under this view. `order` has the resources, targets before those
-    /// that rest on them: group by group in the order of groups.
+    /// The outlook of these groups under this view: it shows what the rule gives. `order` has the
+    /// resources, targets before those that rest on them: group by group in the order of groups.
     pub fn find(
         alloc: Global,
         g: &Groups,
@@ -45,11 +49,29 @@ impl Outlook {
         view: &GroupView,
         order: &[Name],
     ) -> Result<Outlook, NoMemory>
-        ensures value { IfOk result (λ o. o ≡ outlook_of g.now types.now limits.now view.entry.now order.now) }
+        ensures value { IfOk result (λ o. Shows g.now o (outlook_of g.now types.now limits.now view.entry.now order.now)) }
     {
-        let mut outlook = without_risings(alloc, g, view, order)?;
-        add_risings(g, types, limits, view, order, &mut outlook)?;
+        let outlook = found(alloc, g, types, limits, view, order)?;
         Ok(outlook)
+    }
+
+    /// Brings the outlook up to date with an order that was just given for the resource, and that the
+    /// view has now. What rests on nothing that changed with it is not looked at.
+    pub fn add_order(
+        &mut self,
+        alloc: Global,
+        g: &Groups,
+        types: &Types,
+        limits: &Limits,
+        view: &GroupView,
+        order: &[Name],
+        r: &Name,
+    ) -> Result<(), NoMemory>
+        requires in_order { is_in_order g.now order.now ≡ true }
+        ensures value { OnOk result (FollowsOrder g.now types.now limits.now order.now r.now view.entry.now self.old self.new) }
+    {
+        renew_all(alloc, g, types, limits, view, order, r, self)?;
+        Ok(())
     }
 
     /// The members in ascending order.
@@ -78,6 +100,113 @@ impl Outlook {
         ensures value { result.now ≡ self.now.rising }
     {
         &self.rising
+    }
+}
+
+fn found(
+    alloc: Global,
+    g: &Groups,
+    types: &Types,
+    limits: &Limits,
+    view: &GroupView,
+    order: &[Name],
+) -> Result<Outlook, NoMemory>
+    ensures { IfOk result (λ o. o ≡ kept_outlook g.now types.now limits.now view.entry.now order.now) }
+{
+    let mut outlook = without_risings(alloc, g, view, order)?;
+    raise(alloc, g, types, limits, view, order, &mut outlook)?;
+    Ok(outlook)
+}
+
+fn renew_all(
+    alloc: Global,
+    g: &Groups,
+    types: &Types,
+    limits: &Limits,
+    view: &GroupView,
+    order: &[Name],
+    r: &Name,
+    outlook: &mut Outlook,
+) -> Result<(), NoMemory>
+    ensures { OnOk result (outlook.new ≡ outlook_renewed g.now types.now limits.now view.entry.now order.now r.now outlook.old) }
+{
+    renew_going(alloc, g, view, order, r, outlook)?;
+    raise(alloc, g, types, limits, view, order, outlook)
+}
+
+/// Brings the places that must go down up to date, and forgets those that may come up.
+fn renew_going(
+    alloc: Global,
+    g: &Groups,
+    view: &GroupView,
+    order: &[Name],
+    r: &Name,
+    outlook: &mut Outlook,
+) -> Result<(), NoMemory>
+    ensures { OnOk result (outlook.new ≡ with_going_renewed g.now view.entry.now order.now r.now outlook.old) }
+{
+    let members = outlook.members.as_slice();
+    renew(
+        alloc,
+        Direction::Down,
+        g,
+        view,
+        members,
+        order,
+        r,
+        &mut outlook.for_down,
+    )?;
+    renew(
+        alloc,
+        Direction::Up,
+        g,
+        view,
+        members,
+        order,
+        r,
+        &mut outlook.for_up,
+    )?;
+    outlook.rising = Marks::new(alloc);
+    Ok(())
+}
+
+/// Adds the places of weak targets where an up call is allowed.
+fn raise(
+    alloc: Global,
+    g: &Groups,
+    types: &Types,
+    limits: &Limits,
+    view: &GroupView,
+    order: &[Name],
+    outlook: &mut Outlook,
+) -> Result<(), NoMemory>
+    ensures { OnOk result (outlook.new ≡ risen g.now types.now limits.now view.entry.now order.now outlook.old) }
+{
+    let names = awaited(alloc, g)?;
+    add_risings(g, types, limits, view, &names, order, outlook)
+}
+
+/// The weak targets of all resources.
+fn awaited(alloc: Global, g: &Groups) -> Result<Vec<Name>, NoMemory>
+    ensures { IfOk result (λ names. names.items ≡ awaited g.now) }
+{
+    let mut names = Vec::new(alloc);
+    for place in 0..g.resource_count() {
+        let weak = weak_at(g, place);
+        let Ok(()) = names.extend_from_slice(weak) else {
+            return Err(NoMemory);
+        };
+    }
+    Ok(names)
+}
+
+/// The weak targets of the resource at this place.
+fn weak_at(g: &Groups, place: usize) -> &[Name]
+    ensures { result.now ≡ option_map_or (λ e. e.1.weak) (slice_get g.now.resources place) [] }
+{
+    match g.resource_at(place) {
+        Some((_, r)) => r.weak.items(),
+        None => &[],
     }
 }
 
@@ -177,12 +306,30 @@ fn add_risings(
     types: &Types,
     limits: &Limits,
     view: &GroupView,
+    names: &[Name],
     order: &[Name],
     outlook: &mut Outlook,
 ) -> Result<(), NoMemory>
-    ensures { OnOk result (outlook.new ≡ fold (with_risings g.now types.now limits.now view.entry.now) outlook.old order.now) }
+    ensures { OnOk result (outlook.new ≡ fold (with_risings_of g.now types.now limits.now view.entry.now names.now) outlook.old order.now) }
 {
     for name in order {
+        add_rising_of(g, types, limits, view, names, name, outlook)?;
+    }
+    Ok(())
+}
+
+fn add_rising_of(
+    g: &Groups,
+    types: &Types,
+    limits: &Limits,
+    view: &GroupView,
+    names: &[Name],
+    name: &Name,
+    outlook: &mut Outlook,
+) -> Result<(), NoMemory>
+    ensures { OnOk result (outlook.new ≡ with_risings_of g.now types.now limits.now view.entry.now names.now outlook.old name.now) }
+{
+    if has_name(name, names) {
         add_rising(g, types, limits, view, name, outlook)?;
     }
     Ok(())

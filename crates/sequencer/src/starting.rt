@@ -4,8 +4,9 @@ ghost use Rattle.std.specs.List.{list_all};
 ghost use Rattle.std.specs.Option.{option_map_or};
 ghost use Rattle.sequencer.specs.Leaving.{has_reason};
 ghost use Rattle.sequencer.specs.declared.direction.Direction.TheVariants.{Up};
-ghost use Rattle.sequencer.specs.Starting.{are_suited, avoids_up, has_groups, has_room, is_avoided, is_coming, is_group_there, is_listed, is_on_its_way, is_suited, is_supported, is_there, is_up_elsewhere, is_wanted, may_begin, may_begin_in, may_start, may_start_monitor, may_start_net, others_up, suits, waits};
+ghost use Rattle.sequencer.specs.Starting.{are_suited, avoids_up, has_groups, has_room, is_avoided, is_coming, is_group_there, is_listed, is_on_its_way, is_suited, is_supported, is_there, is_wanted, may_begin, may_begin_in, may_start, may_start_monitor, may_start_net, others_up, suits, waits};
 
+use crate::counted::{count_others, nodes_up};
 use crate::direction::Direction;
 use crate::groups::{is_group_online, is_group_up};
 use crate::leaving::has_reason;
@@ -170,16 +171,8 @@ fn is_listed(nodelist: &[NodeId], n: NodeId) -> bool
 fn others_up(g: &Groups, view: &GroupView, members: &[NodeId], group: &Name, n: NodeId) -> u64
     ensures { result ≡ others_up g.now view.entry.now members.now group.now n }
 {
-    members
-        .iter()
-        .filter(|m| is_up_elsewhere(g, view, group, n, **m))
-        .count() as u64
-}
-
-fn is_up_elsewhere(g: &Groups, view: &GroupView, group: &Name, n: NodeId, m: NodeId) -> bool
-    ensures { result ≡ is_up_elsewhere g.now view.entry.now group.now n m }
-{
-    m != n && is_group_up(g, view, group, m)
+    let up = nodes_up(g, view, members, group);
+    count_others(up, members, n)
 }
 
 #[tactic(auto, unfolding(crate::specs::Starting::is_supported))]

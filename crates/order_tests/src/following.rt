@@ -1,0 +1,77 @@
+// An outlook that is brought up to date with an order, beside one that is found after it.
+use crate::answers::{outlook, push_all_calls, resources};
+use crate::view::put_order;
+use crate::words::name;
+use ccr_tables::Config;
+use cl_base::Name;
+use rg_view::GroupView;
+use sequencer::{Outlook, is_in_order};
+use std::alloc::Global;
+use std::test::Fail;
+
+fn follow(
+    alloc: Global,
+    c: &Config,
+    v: &GroupView,
+    order: &[Name],
+    r: &[u8],
+    o: &mut Outlook,
+) -> Result<(), Fail> {
+    if !is_in_order(c.groups(), order) {
+        return Err(Fail::new("not in order"));
+    }
+    o.add_order(
+        alloc,
+        c.groups(),
+        c.types(),
+        c.limits(),
+        v,
+        order,
+        &name(r)?,
+    )?;
+    Ok(())
+}
+
+fn calls(
+    alloc: Global,
+    c: &Config,
+    v: &GroupView,
+    o: &Outlook,
+    order: &[Name],
+) -> Result<Vec<u8>, Fail> {
+    let mut text = Vec::new(alloc);
+    push_all_calls(&mut text, c, v, o, order)?;
+    Ok(text)
+}
+
+fn after(
+    alloc: Global,
+    c: &Config,
+    v: &mut GroupView,
+    words: &[&[u8]],
+    r: &[u8],
+) -> Result<(Vec<u8>, Vec<u8>), Fail> {
+    let order = resources(alloc, c)?;
+    let mut kept = outlook(alloc, c, v, &order)?;
+    put_order(&mut v.outstanding, words)?;
+    follow(alloc, c, v, &order, r, &mut kept)?;
+    let found = outlook(alloc, c, v, &order)?;
+    Ok((
+        calls(alloc, c, v, &kept, &order)?,
+        calls(alloc, c, v, &found, &order)?,
+    ))
+}
+
+/// The order of these words is given: `give NODE METHOD RESOURCE`. The calls that are allowed then,
+/// by the one outlook and by the other.
+pub fn give(
+    alloc: Global,
+    c: &Config,
+    v: &mut GroupView,
+    words: &[&[u8]],
+) -> Result<(Vec<u8>, Vec<u8>), Fail> {
+    match words {
+        [_, n, m, r] => after(alloc, c, v, &[*n, *m, *r], r),
+        _ => Err(Fail::new("give")),
+    }
+}
