@@ -44,6 +44,52 @@ fn calls(
     Ok(text)
 }
 
+fn follow_and_tell(
+    alloc: Global,
+    c: &Config,
+    v: &mut GroupView,
+    order: &[Name],
+    words: &[&[u8]],
+    r: &[u8],
+    kept: &mut Outlook,
+) -> Result<Vec<u8>, Fail> {
+    put_order(&mut v.outstanding, words)?;
+    follow(alloc, c, v, order, r, kept)?;
+    calls(alloc, c, v, kept, order)
+}
+
+/// By the outlook that was found before the order.
+fn kept_calls(
+    alloc: Global,
+    c: &Config,
+    v: &mut GroupView,
+    order: &[Name],
+    words: &[&[u8]],
+    r: &[u8],
+) -> Result<Vec<u8>, Fail> {
+    let mut kept = outlook(alloc, c, v, order)?;
+    follow_and_tell(alloc, c, v, order, words, r, &mut kept)
+}
+
+/// By one that is found as things stand.
+fn found_calls(alloc: Global, c: &Config, v: &GroupView, order: &[Name]) -> Result<Vec<u8>, Fail> {
+    let found = outlook(alloc, c, v, order)?;
+    calls(alloc, c, v, &found, order)
+}
+
+fn by_both(
+    alloc: Global,
+    c: &Config,
+    v: &mut GroupView,
+    order: &[Name],
+    words: &[&[u8]],
+    r: &[u8],
+) -> Result<(Vec<u8>, Vec<u8>), Fail> {
+    let kept = kept_calls(alloc, c, v, order, words, r)?;
+    let found = found_calls(alloc, c, v, order)?;
+    Ok((kept, found))
+}
+
 fn after(
     alloc: Global,
     c: &Config,
@@ -52,14 +98,7 @@ fn after(
     r: &[u8],
 ) -> Result<(Vec<u8>, Vec<u8>), Fail> {
     let order = resources(alloc, c)?;
-    let mut kept = outlook(alloc, c, v, &order)?;
-    put_order(&mut v.outstanding, words)?;
-    follow(alloc, c, v, &order, r, &mut kept)?;
-    let found = outlook(alloc, c, v, &order)?;
-    Ok((
-        calls(alloc, c, v, &kept, &order)?,
-        calls(alloc, c, v, &found, &order)?,
-    ))
+    by_both(alloc, c, v, &order, words, r)
 }
 
 /// The order of these words is given: `give NODE METHOD RESOURCE`. The calls that are allowed then,
