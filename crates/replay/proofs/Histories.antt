@@ -30,7 +30,13 @@ use Rattle.run_commands.proofs.Laws as commands
 use Rattle.run_answers.proofs.Answered.{answered_of_each_run}
 use Rattle.run_downs.proofs.Runs as downs
 use Rattle.run_endings.proofs.Runs as endings
+use Rattle.run_counts.proofs.Runs as counts
 use Rattle.run_lines.proofs.Runs.{lines_of_each_run}
+use Rattle.run_owed.proofs.Runs as owed
+use Rattle.run_queues.proofs.Disks.{disk_lines_of_each_run}
+use Rattle.run_readings.proofs.Runs as readings
+use Rattle.run_taken.proofs.Laws as taken
+use Rattle.run_views.proofs.Runs as views
 use Rattle.run_writes.proofs.Runs.{writes_of_each_run}
 use Rattle.run_rounds.specs.Laws.{AsksSome}
 use Rattle.run_rounds.proofs.Runs.{parts_of_each_run}
@@ -118,6 +124,10 @@ told_trace h events text p header disks asks is told =
       parts =
           parts_of_each_run h 65536 told.happenings (setting_of h) header.devices refl told.may told.shaped
           (subst (λ (ls : List Line). AllByRecursion AsksSome ls) (sym told.said) asks);
+      disk_lines = disk_lines_of_each_run h 65536 told.happenings (setting_of h) header.devices header.cluster_high refl built told.may told.shaped;
+      clients = taken.clients_are_answered_in_each_run h 65536 told.happenings header.devices header.cluster_high told.may told.shaped;
+      one_node = owed.one_node_of_each_run h 65536 told.happenings header.devices header.cluster_high told.may told.shaped;
+      prepares = owed.prepares_of_each_run h 65536 told.happenings (setting_of h) header.devices header.cluster_high refl told.may told.shaped;
       links = links.run;
       no_drop_due = links.due;
       devices = devices.run;
@@ -170,6 +180,7 @@ told_trace h events text p header disks asks is told =
       beats_in_ticks = attempts.beats_in_ticks_of_each_run h 65536 told.happenings header.devices header.cluster_high told.may;
       beats_due = attempts.beats_are_due_in_each_run h 65536 told.happenings header.devices header.cluster_high told.may;
       attempts_begin = attempts.attempts_begin_in_each_run h 65536 told.happenings header.devices header.cluster_high told.may;
+      not_alone = views.none_begins_alone_in_each_run h 65536 told.happenings header.devices header.cluster_high told.may;
       installs_bring = attempts.installs_bring_members_in_each_run h 65536 told.happenings header.devices header.cluster_high told.may;
       ends_under_way = endings.attempts_are_under_way_in_each_run h 65536 told.happenings header.devices header.cluster_high told.may;
       superseded = endings.superseded_in_each_run h 65536 told.happenings header.devices header.cluster_high told.may;
@@ -177,9 +188,14 @@ told_trace h events text p header disks asks is told =
       waited = endings.silent_after_eight_ticks_in_each_run h 65536 told.happenings header.devices header.cluster_high told.may;
       promised = endings.promised_in_each_run h 65536 told.happenings header.devices header.cluster_high told.may;
       names_members = endings.ends_name_members_in_each_run h 65536 told.happenings header.devices header.cluster_high told.may;
+      foreign = counts.foreign_of_each_run h 65536 told.happenings header.devices header.cluster_high told.may;
+      needed = counts.needed_of_each_run h 65536 told.happenings header.devices header.cluster_high told.may;
+      seizeds = readings.seizeds_say_what_was_read h 65536 told.happenings header.devices header.cluster_high told.may;
+      readings = readings.readings_are_of_seizers h 65536 told.happenings header.devices header.cluster_high told.may;
       valid_shown = promises_show_validity_in_each_run h 65536 told.happenings header.devices header.cluster_high built told.may told.shaped;
       answers_once = once;
       numbered = commands.commands_are_numbered_in_each_run h 65536 told.happenings header.devices header.cluster_high told.may;
+      commands = taken.commands_are_taken_in_each_run h 65536 told.happenings header.devices header.cluster_high told.may told.shaped;
       own_answers = commands.own_answers_fit_in_each_run h 65536 told.happenings header.devices header.cluster_high told.may;
       boots = downs.boots_of_each_run h 65536 told.happenings header.devices header.cluster_high told.may;
       crashes = downs.crashes_of_each_run h 65536 told.happenings header.devices header.cluster_high told.may;

@@ -13,7 +13,7 @@ use Rattle.schedule_text.specs.Allowed.{IsAllowedEvent, IsHeader}
 use Rattle.schedule_text.specs.Lines.{so_far_after_event}
 use Rattle.status_report.specs.Lines.{printed}
 use Rattle.grammar_laws.specs.Reads.{HasSeconds, LacksServers}
-use Rattle.history.specs.Commands.{AnswersOnce}
+use Rattle.history.specs.Commands.{AnswersOnce, CommandsAreTaken}
 use Rattle.history.specs.Contact.{AttemptsDiffer, HasVotes, Held, Installed, Prepared, Ready, ToldMembers}
 use Rattle.history.specs.Contents.{Heartbeats, InstallsTheBase, KnownHeld, NewestBase, NewestInstalled, Records, Spelled}
 use Rattle.history.specs.DeviceRun.{DeviceRun}
@@ -37,6 +37,12 @@ use Rattle.run_history.specs.Scenes.{text_of}
 use Rattle.run_lines.specs.Laws.{IsAnswered}
 use Rattle.run_writes.specs.Laws.{IsWritten}
 use Rattle.run_rounds.specs.Parts.{PartsInOrder, shown}
+use Rattle.run_counts.specs.Laws.{EndsForeign, EndsShort}
+use Rattle.run_owed.specs.Laws.{HasPrepares, IsOfOne}
+use Rattle.run_queues.specs.Laws.{IsDone}
+use Rattle.run_readings.specs.Laws.{BringsWhatWasRead, SaysWhatWasRead}
+use Rattle.run_taken.specs.Laws.{ClientIsAnswered}
+use Rattle.run_views.specs.Laws.{BeginsNotAlone}
 use Rattle.replay.specs.Sessions.{first_so_far}
 use Rattle.replay.specs.Outcomes.{pieces}
 use Rattle.replay.specs.Replays.{OfCluster, OfDevice, Schedule, entries, schedule_of, texts_of}
@@ -67,6 +73,10 @@ pub record IsTrace (h : Header) (events : List Event) (text : List ℕ) : Type 0
   pub lines : EachEvent (IsAnswered (setting_of h)) moments
   pub writes : EachEvent (IsWritten (setting_of h)) moments
   pub parts : PartsInOrder (setting_of h) shown moments
+  pub disk_lines : EachEvent (IsDone (setting_of h)) moments
+  pub clients : EachEvent (ClientIsAnswered (setting_of h)) moments
+  pub one_node : EachEvent IsOfOne moments
+  pub prepares : EachEvent (HasPrepares (setting_of h)) moments
   pub links : Links 65536 moments
   pub no_drop_due : drop_due 65536 moments ≡ None
   pub devices : DeviceRun h moments
@@ -91,6 +101,7 @@ pub record IsTrace (h : Header) (events : List Event) (text : List ℕ) : Type 0
   pub beats_in_ticks : Always BeatsInTick moments
   pub beats_due : Always (BeatIsDue (setting_of h)) moments
   pub attempts_begin : Always (Begins (setting_of h)) moments
+  pub not_alone : Always (BeginsNotAlone (setting_of h)) moments
   pub installs_bring : Always BringsMembers moments
   pub ends_under_way : Always EndsUnderWay moments
   pub superseded : Always IsSuperseded moments
@@ -98,10 +109,15 @@ pub record IsTrace (h : Header) (events : List Event) (text : List ℕ) : Type 0
   pub waited : Always HasWaited moments
   pub promised : Always HasPromises moments
   pub names_members : Always NamesMember moments
+  pub foreign : Always (EndsForeign (setting_of h)) moments
+  pub needed : Always (EndsShort (setting_of h)) moments
+  pub seizeds : Always (SaysWhatWasRead h) moments
+  pub readings : Always (BringsWhatWasRead h) moments
   pub valid_shown : Always (ShowsValidity h) moments
   pub holds : length (lines_of moments) < 2 ^ 63 → Holds (setting_of h) moments
   pub answers_once : length (lines_of moments) < 2 ^ 63 → AnswersOnce moments
   pub numbered : length (lines_of moments) < 2 ^ 63 → CommandsAreNumbered moments
+  pub commands : length (lines_of moments) < 2 ^ 63 → CommandsAreTaken (setting_of h) moments
   pub own_answers : length (lines_of moments) < 2 ^ 63 → OwnAnswersFit (setting_of h) moments
   pub boots : Always BootIsSaid moments
   pub crashes : Always CrashIsSaid moments

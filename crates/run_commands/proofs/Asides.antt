@@ -104,7 +104,7 @@ own_turns me q told k = by_list q.waiting refl
           asked_so = refl;
           may = (tt, refl);
         }
-        by_told false is = record { after = Free; gives = inl (tt, refl); move = Drops; waiting_so = refl; asked_so = refl; may = (refl, refl) }
+        by_told false is = record { after = Free; gives = inl (tt, refl); move = Drops; waiting_so = refl; asked_so = refl; may = (refl, is, refl) }
 
         by_test : (b : Bool) → Turns me (r ∷ rs) (own_line me told (if b then Some r else None)) q.asked (if b then record q { waiting = rs; age = 0 } else q)
         by_test true = by_told r.told refl
@@ -150,7 +150,7 @@ own_frees me q told k = by_list q.waiting refl
           may = (refl, refl, is, refl);
           gives = λ left. inr (record { number = r.number; reply = told; is = refl; may = (refl, refl) });
         }
-        by_told false is = record { after = Free; move = Drops; waiting_so = refl; asked_so = refl; may = (refl, refl); gives = λ left. inl (tt, refl) }
+        by_told false is = record { after = Free; move = Drops; waiting_so = refl; asked_so = refl; may = (refl, is, refl); gives = λ left. inl (tt, refl) }
 
         by_test : (b : Bool) → Frees me (r ∷ rs) q.asked (if b then record q { waiting = rs; age = 0 } else q) (own_line me told (if b then Some r else None))
         by_test true = by_told r.told refl

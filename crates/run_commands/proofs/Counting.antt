@@ -3,7 +3,7 @@ use Rattle.std.specs.Prelude.{ℕ, ◌+◌, ◌≡◌, ◌≢◌, ◌≤◌, ◌
 use Rattle.std.specs.List.{AllByRecursion, count_by, list_any}
 use Rattle.std.proofs.Common.{refl, sym, ap, subst, arith}
 use Rattle.std.proofs.lemmas.List.Recursion.{is_count_by}
-use Rattle.cmm_attempt.proofs.Basics.{and_cases, false_true, same_number}
+use Rattle.cmm_attempt.proofs.Basics.{and_cases, false_true}
 use Rattle.request_queue.specs.declared.request.Request.{Request}
 use Rattle.status_report.specs.declared.command_entry.Answer.TheVariants as answer
 use Rattle.status_report.specs.declared.command_entry.CommandEntry.TheVariants as command
@@ -17,14 +17,10 @@ use Rattle.history.specs.Seizing.{is_boot}
 use Rattle.history.specs.Setting.{Setting}
 use Rattle.run_commands.specs.Guards.Hand.{Free}
 use Rattle.run_commands.specs.Own.{FitsCase}
-use Rattle.run_commands.proofs.Owed.{AreDue, AreOnce, Others, Owed, is_untold}
-use Rattle.run_commands.proofs.Waiting.{le_then, tally}
+use Rattle.run_commands.proofs.Owed.{AreDue, AreOnce, Others, Owed, is_told, is_untold}
+use Rattle.run_commands.proofs.Tallies.{le_same, le_then, tally, waits_here}
 
 -- ---- the line of a command
-
-and_here : (a b : Bool) → a ≡ true → b ≡ true → (a && b) ≡ true
-and_here true b g h = h
-and_here false b g h = cc
 
 and_second : (a b : Bool) → b ≡ false → (a && b) ≡ false
 and_second true b h = h
@@ -32,17 +28,6 @@ and_second false b h = refl
 
 not_it : (q k j : ℕ) → (q == k) ≡ true → j ≢ k → (q == j) ≡ false
 not_it q k j is ne = grind arith
-
--- it is of one that waits, if it is not answered
-waits_here : (n k : ℕ) (later : List Moment) (x : Moment) → is_asking n k x ≡ true → list_any (is_answered_to n k) later ≡ false → is_waiting_one n later x ≡ true
-waits_here n k later (Told (entry.Command (command.Asked m q))) is none =
-    let two : ((m == n) ≡ true) × ((q == k) ≡ true) = and_cases (m == n) (q == k) is in
-    and_here (m == n) (not (list_any (is_answered_to n q) later)) two.0
-    (ap not (subst (λ j. list_any (is_answered_to n j) later ≡ false) (sym (same_number q k two.1)) none))
-waits_here n k later (Told (entry.Command (command.Answered m q reply))) is none = absurd (false_true is)
-waits_here n k later (Told _) is none = absurd (false_true is)
-waits_here n k later (Said l) is none = absurd (false_true is)
-waits_here n k later (Part e) is none = absurd (false_true is)
 
 -- and of no other
 one_here : (n k j : ℕ) (x : Moment) → is_asking n k x ≡ true → j ≢ k → is_asking n j x ≡ false
@@ -102,9 +87,6 @@ all_left n k x (j ∷ ks) is h = by_test (is_asking n j x) (one_here n k j x is 
     by_test : (b : Bool) → b ≡ false → without n x ks ≡ ks → (if b then without n x ks else j ∷ without n x ks) ≡ j ∷ ks
     by_test true e rest = cc
     by_test false e rest = ap (λ (z : List ℕ). j ∷ z) rest
-
-le_same : (k : ℕ) → k ≤ k
-le_same k = omega arith
 
 least : (k : ℕ) → 0 ≤ k
 least k = omega arith
@@ -220,6 +202,29 @@ is_enough n ms top rs full d =
     enough (length rs) (length (told_in rs)) (tally is_untold rs) (count_waiting n ms) (count_monitors n ms) full (all_told rs)
     (subst (λ k. length (told_in rs) ≤ k) (counted (is_waiting_one n later) later) (few_open n later later (told_in rs) (told_once rs d.once) (told_open n ms rs d.due)))
     (subst (λ k. tally is_untold rs ≤ k) (counted (is_monitors n) later) d.monitors)
+
+few_told : (rs : List Request) → tally is_told rs ≤ length rs
+few_told [] = le_same 0
+few_told (r ∷ rs) = by_told r.told (few_told rs)
+  where
+    up : (a : ℕ) → a ≤ length rs → 1 + a ≤ length (r ∷ rs)
+    up a h = omega (arith, h)
+
+    less : (a : ℕ) → a ≤ length rs → a ≤ length (r ∷ rs)
+    less a h = omega (arith, h)
+
+    by_told : (b : Bool) → tally is_told rs ≤ length rs → (if b then 1 + tally is_told rs else tally is_told rs) ≤ length (r ∷ rs)
+    by_told true h = up (tally is_told rs) h
+    by_told false h = less (tally is_told rs) h
+
+filled : (a b c l : ℕ) → nat_le 64 c ≡ true → b ≡ c → b ≤ a → a ≤ l → nat_le 64 l ≡ true
+filled a b c l h is k m = grind arith
+
+-- where so many commands wait the queue is full
+pub is_filled : (n : ℕ) (ms : List Moment) (top : ℕ) (rs : List Request) → nat_le 64 (count_waiting n ms) ≡ true → Owed n ms Free top rs → nat_le 64 (length rs) ≡ true
+is_filled n ms top rs many d =
+    let later : List Moment = since (is_boot n) ms in
+    filled (tally is_told rs) (tally (is_waiting_one n later) later) (count_waiting n ms) (length rs) many (counted (is_waiting_one n later) later) d.most (few_told rs)
 
 -- so the answer is that of a full queue
 pub full_fits : (S : Setting) (words : List ℕ) (commands monitors : ℕ) → nat_le 64 (commands + monitors) ≡ true → FitsCase S words (full commands monitors) answer.QueueFull

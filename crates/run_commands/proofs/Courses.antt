@@ -61,7 +61,7 @@ use Rattle.refinement.specs.Cuts.{acks_of, first_turn, left_answered}
 use Rattle.node_model.specs.Seats.{coordinator_of, is_in, is_member, record_of}
 use Rattle.refinement.specs.Doings.{answered_so}
 use Rattle.refinement.specs.Doings.Act.{Gives}
-use Rattle.std.specs.Prelude.{ℕ, ◌≡◌, ◌==◌, ◌&&◌, false, List, length, Option, None, Some, Ok, Err}
+use Rattle.std.specs.Prelude.{ℕ, ◌≡◌, ◌==◌, ◌&&◌, List, length, Option, None, Some, Ok, Err}
 use Rattle.std.proofs.Common.{refl, subst}
 use Rattle.node_model.specs.Presidents.{own_line}
 use Rattle.refinement.specs.Cuts.{queue_by}
@@ -80,7 +80,7 @@ IsNoCommand _ = Unit {0}
 module _ (c : Cluster) (me : ℕ) where
   -- no command waits but those whose requests are in the queue, before the course and after it
   abbrev G : UpNode → Course → Type 0
-  G x k = GoesSo false c me Free x k
+  G x k = GoesSo c me Free x k
 
   -- The president's answer.
 

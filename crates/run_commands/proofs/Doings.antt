@@ -1,5 +1,5 @@
 -- What each small step of a node leaves of the commands that wait.
-use Rattle.std.specs.Prelude.{ℕ, ◌<◌, ◌≡◌, ◌≢◌, ◌⊎◌, ◌++◌, List, [], ◌∷◌, Option, None, Some, if◌then◌else◌, Bool, true, false}
+use Rattle.std.specs.Prelude.{ℕ, ◌<◌, ◌≤◌, ◌≡◌, ◌≢◌, ◌⊎◌, ◌++◌, List, [], ◌∷◌, Option, None, Some, if◌then◌else◌, Bool, true, false}
 use Rattle.std.proofs.Common.{refl, sym, subst, ◌∙◌, inl, inr}
 use Rattle.cl_base.specs.Sets.{has}
 use Rattle.cmm_attempt.proofs.Basics.{if_either}
@@ -30,8 +30,9 @@ use Rattle.run_commands.specs.Guards.{ActSo, AnswersOne, AreQuiet, ChangeSo, Han
 use Rattle.run_commands.specs.Guards.Hand.{Free}
 use Rattle.run_commands.specs.Answers.{AnswersWait}
 use Rattle.run_commands.proofs.Numbers.{AreSteady, IsSteadyOutput, quiets_steady}
-use Rattle.run_commands.proofs.Owed.{Answered, AreDue, AreLow, AreOnce, Owed, due_others, due_stays, fresh_still, owed_answered, owed_moved, owed_none, owed_stays}
+use Rattle.run_commands.proofs.Owed.{Answered, AreDue, AreLow, AreOnce, Owed, due_others, due_stays, fresh_still, is_told, one_less, owed_answered, owed_moved, owed_none, owed_stays, rest_told, told_first}
 use Rattle.run_commands.proofs.Quiet.{GoesOn, ended_quiet, first_quiet, last_quiet, spread_quiet, superseded_quiet, ticked_quiet, write_quiet}
+use Rattle.run_commands.proofs.Tallies.{le_then, tally, waiting_of}
 use Rattle.run_commands.proofs.Waiting.{AreApart, IsApartOutput, Leaves, answered_since, passing_quiet, quiets_apart}
 
 -- after these outputs of node n, which is so then
@@ -74,27 +75,40 @@ same_left n h g before after os s quiet waiting asked is w =
 abbrev Fresh : ℕ → ℕ → List Moment → Type 0
 Fresh n top ms = (k : ℕ) → top < k → answered_since n k ms ≡ false
 
--- the answers, and what is apart from them
+-- the answers, what is apart from them, and that none waits behind them
 record Ended (n top : ℕ) (os : List Output) (s : Scene) : Type 0 where
   said : AnswersWait (passing n os s).moments
   apart : (k : ℕ) → k ≢ n → AreApart k os
   steady : AreSteady os
   fresh : Fresh n top (passing n os s).moments
+  none : waiting_of n (passing n os s).moments ≤ 0
 
-ended_more : (n top : ℕ) (r : Request) (rs : List Request) (s : Scene) → AreOnce (r ∷ rs) → AreLow top (r ∷ rs) → AreDue n s.moments (r ∷ rs) → Fresh n top s.moments → AnswersWait s.moments
-    → ((t : Scene) → AreDue n t.moments rs → Fresh n top t.moments → AnswersWait t.moments → Ended n top (unknown_lines n rs) t) → (b : Bool) → r.told ≡ b
+-- before them: what waits is in the queue
+record Ending (n top : ℕ) (rs : List Request) (s : Scene) : Type 0 where
+  due : AreDue n s.moments rs
+  fresh : Fresh n top s.moments
+  said : AnswersWait s.moments
+  most : waiting_of n s.moments ≤ tally is_told rs
+
+ended_more : (n top : ℕ) (r : Request) (rs : List Request) (s : Scene) → AreOnce (r ∷ rs) → AreLow top (r ∷ rs) → Ending n top (r ∷ rs) s
+    → ((t : Scene) → Ending n top rs t → Ended n top (unknown_lines n rs) t) → (b : Bool) → r.told ≡ b
     → Ended n top ((if b then Tells (answered_line n r.number Unknown) ∷ [] else []) ++ unknown_lines n rs) s
-ended_more n top r rs s once low due fresh said next true is =
+ended_more n top r rs s once low w next true is =
     let t : Scene = telling (answered_line n r.number Unknown) s in
     let e : Ended n top (unknown_lines n rs) t =
-    next t (due_others n r.number Unknown s.moments rs once.0 due.1) (fresh_still n r.number Unknown s.moments top low.0 fresh) ((due.0 is).0, said) in
-    record { said = e.said; apart = λ k ne. ((λ same. ne (sym same)), e.apart k ne); steady = (tt, e.steady); fresh = e.fresh }
-ended_more n top r rs s once low due fresh said next false is = next s due.1 fresh said
+    next t (record {
+      due = due_others n r.number Unknown s.moments rs once.0 w.due.1;
+      fresh = fresh_still n r.number Unknown s.moments top low.0 w.fresh;
+      said = ((w.due.0 is).0, w.said);
+      most = one_less n r.number Unknown s.moments (tally is_told rs) (w.due.0 is) (told_first r rs (waiting_of n s.moments) is w.most);
+    }) in
+    record { said = e.said; apart = λ k ne. ((λ same. ne (sym same)), e.apart k ne); steady = (tt, e.steady); fresh = e.fresh; none = e.none }
+ended_more n top r rs s once low w next false is =
+    next s (record { due = w.due.1; fresh = w.fresh; said = w.said; most = rest_told (r ∷ rs) (waiting_of n s.moments) is w.most })
 
-unknown_said : (n top : ℕ) (rs : List Request) (s : Scene) → AreOnce rs → AreLow top rs → AreDue n s.moments rs → Fresh n top s.moments → AnswersWait s.moments
-    → Ended n top (unknown_lines n rs) s
-unknown_said n top [] s once low due fresh said = record { said = said; apart = λ k ne. tt; steady = tt; fresh = fresh }
-unknown_said n top (r ∷ rs) s once low due fresh said = ended_more n top r rs s once low due fresh said (λ t d f a. unknown_said n top rs t once.1 low.1 d f a) r.told refl
+unknown_said : (n top : ℕ) (rs : List Request) (s : Scene) → AreOnce rs → AreLow top rs → Ending n top rs s → Ended n top (unknown_lines n rs) s
+unknown_said n top [] s once low w = record { said = w.said; apart = λ k ne. tt; steady = tt; fresh = w.fresh; none = w.most }
+unknown_said n top (r ∷ rs) s once low w = ended_more n top r rs s once low w (λ t v. unknown_said n top rs t once.1 low.1 v) r.told refl
 
 -- behind quiet lines
 ended_left : (n : ℕ) (before after : Queue) (os : List Output) (s : Scene) → AreQuiet os → after.waiting ≡ [] → after.asked ≡ before.asked → Was n Free before s
@@ -102,14 +116,19 @@ ended_left : (n : ℕ) (before after : Queue) (os : List Output) (s : Scene) →
 ended_left n before after os s quiet none asked w =
     let l : Leaves s.moments (passing n os s).moments = passing_quiet n os s quiet in
     let e : Ended n before.asked (unknown_lines n before.waiting) (passing n os s) =
-    unknown_said n before.asked before.waiting (passing n os s) w.owed.once w.owed.low (due_stays n s.moments (passing n os s).moments before.waiting (l.wait n) w.owed.due)
-    (λ k above. (l.wait n).unanswered k (w.owed.fresh k above)) (l.said w.said) in
-    let fresh : Fresh n before.asked (passing n (os ++ unknown_lines n before.waiting) s).moments =
-    subst (λ (z : Scene). Fresh n before.asked z.moments) (sym (passing_append n os (unknown_lines n before.waiting) s)) e.fresh in
+    unknown_said n before.asked before.waiting (passing n os s) w.owed.once w.owed.low (record {
+      due = due_stays n s.moments (passing n os s).moments before.waiting (l.wait n) w.owed.due;
+      fresh = λ k above. (l.wait n).unanswered k (w.owed.fresh k above);
+      said = l.said w.said;
+      most = le_then (waiting_of n (passing n os s).moments) (waiting_of n s.moments) (tally is_told before.waiting) (l.wait n).fewer w.owed.most;
+    }) in
+    let more : List Moment = (passing n (os ++ unknown_lines n before.waiting) s).moments in
+    let same : passing n (os ++ unknown_lines n before.waiting) s ≡ passing n (unknown_lines n before.waiting) (passing n os s) = passing_append n os (unknown_lines n before.waiting) s in
+    let fresh : Fresh n before.asked more = subst (λ (z : Scene). Fresh n before.asked z.moments) (sym same) e.fresh in
     record {
-      owed = owed_none n (passing n (os ++ unknown_lines n before.waiting) s).moments after.asked after.waiting none (subst (λ k. Fresh n k (passing n (os ++ unknown_lines n before.waiting) s).moments) (sym asked) fresh);
+      owed = owed_none n more after.asked after.waiting none (subst (λ k. Fresh n k more) (sym asked) fresh) (subst (λ (z : Scene). waiting_of n z.moments ≤ 0) (sym same) e.none);
       last_so = asked;
-      said = subst (λ (z : Scene). AnswersWait z.moments) (sym (passing_append n os (unknown_lines n before.waiting) s)) e.said;
+      said = subst (λ (z : Scene). AnswersWait z.moments) (sym same) e.said;
       apart = λ k ne. both (IsApartOutput k) os (unknown_lines n before.waiting) (quiets_apart k os quiet) (e.apart k ne);
       steady = both IsSteadyOutput os (unknown_lines n before.waiting) (quiets_steady os quiet) e.steady;
     }

@@ -75,7 +75,7 @@ stranger_fits : (h : Header) (n : ℕ) (words : List ℕ) (ms : List Moment) (se
 stranger_fits h n words ms seat reply at c = read_fits h n words ms reply c.command None c.read (at ∙ no_member seat c.seated) c.is
 
 -- by its canonical words it is a query
-query_is : (h : Header) (words : List ℕ) (command : AdminCommand) → command_of h.version words ≡ Ok command → (setting_of h).is_query (canonical_words command) ≡ is_asked command
+pub query_is : (h : Header) (words : List ℕ) (command : AdminCommand) → command_of h.version words ≡ Ok command → (setting_of h).is_query (canonical_words command) ≡ is_asked command
 query_is h words command read = ap is_query_in (canonical_words_are_read h.version words command read)
 
 -- in this membership
@@ -111,7 +111,7 @@ and_false true b h = h
 and_false false b h = refl
 
 -- the node of this number
-numbered_is : (k president : ℕ) → node_numbered k ≡ Some president → president ≡ k
+pub numbered_is : (k president : ℕ) → node_numbered k ≡ Some president → president ≡ k
 numbered_is k president is = by_test (nat_le 1 k && nat_le k most_nodes) is
   where
     by_test : (b : Bool) → (if b then Some k else None) ≡ Some president → president ≡ k
@@ -119,7 +119,7 @@ numbered_is k president is = by_test (nat_le 1 k && nat_le k most_nodes) is
     by_test false e = absurd (none_some president e)
 
 -- a member that is not the president is not the coordinator
-none_own : (n : ℕ) (s : NodeState) (office : Option Presidency) → office ≡ None → Presides n (Member s) office → coordinator s.session ≡ n → ⊥
+pub none_own : (n : ℕ) (s : NodeState) (office : Option Presidency) → office ≡ None → Presides n (Member s) office → coordinator s.session ≡ n → ⊥
 unfolding machine_coordinator
 none_own n s office none h own = false_true (subst (λ o. is_some o ≡ true) none (h own))
 
@@ -132,7 +132,7 @@ elsewhere_fits h n words ms (Member s) office reply at pr c =
     (c.is ∙ ap (λ k. answer.Ask k) (numbered_is (s.session % 64) c.president c.at))
 
 -- a president is the coordinator
-own_epoch : (n : ℕ) (x : UpNode) (s : NodeState) → membership_in x.seat ≡ Some s.session → PresidentAt x n → coordinator s.session ≡ n
+pub own_epoch : (n : ℕ) (x : UpNode) (s : NodeState) → membership_in x.seat ≡ Some s.session → PresidentAt x n → coordinator s.session ≡ n
 own_epoch n x s at p = ap coordinator (same_some s.session p.epoch (sym at ∙ p.member)) ∙ p.own
 
 full_queue_fits : (h : Header) (n top : ℕ) (words : List ℕ) (ms : List Moment) (x : UpNode) (s : NodeState) (reply : Answer) → membership_in x.seat ≡ Some s.session

@@ -48,14 +48,14 @@ unmoved x = record { move = Stays; waiting = refl; asked = refl; may = (tt, refl
 module _ (c : Cluster) (me : ℕ) where
   -- no command waits but those whose requests are in the queue, before the course and after it
   abbrev G : UpNode → Course → Type 0
-  G x k = GoesSo false c me Free x k
+  G x k = GoesSo c me Free x k
 
   pub either_so : (x : UpNode) (b : Bool) (k l : Course) → G x k → G x l → G x (if b then k else l)
   either_so x true k l p q = p
   either_so x false k l p q = q
 
-  then_at : (h : Hand) (x : UpNode) (k : Course) (next : UpNode → Course) → GoesSo false c me h x k → ((y : UpNode) → G y (next y)) → GoesSo false c me h x (joined c me x k next)
-  then_at h x Stops next p q = subst (λ g. GoesSo false c me g x (next x)) (sym (free_is h p)) (q x)
+  then_at : (h : Hand) (x : UpNode) (k : Course) (next : UpNode → Course) → GoesSo c me h x k → ((y : UpNode) → G y (next y)) → GoesSo c me h x (joined c me x k next)
+  then_at h x Stops next p q = subst (λ g. GoesSo c me g x (next x)) (sym (free_is h p)) (q x)
   then_at h x (Acts a rest) next p q = (p.0, p.1, then_at p.0 (acted c me x a) rest next p.2 q)
   then_at h x (Keeps change rest) next p q = (p.0, p.1, then_at p.0 (changed c me x change) rest next p.2 q)
   then_at h x (Falls why) next p q = tt

@@ -36,7 +36,7 @@ once S (Told e ∷ before) h k = (line_so before e h.0 k.0.0, once S before h.1 
 
 pub answers_once_in_each_run : AnswersOnceInEachRun
 answers_once_in_each_run h cells hs few small may lines =
-    once (setting_of h) _ (waits_in_each h cells hs may lines).said (reasons_in_each h cells hs (record { few = few; small = small }) may lines)
+    once (setting_of h) _ (waits_in_each h cells hs (record { few = few; small = small }) may lines).said (reasons_in_each h cells hs (record { few = few; small = small }) may lines)
 
 fit : (S : Setting) (moments : List Moment) → AreReasoned S moments → OwnAnswersFit S moments
 fit S [] k = tt
@@ -57,4 +57,4 @@ numbered (Part e ∷ before) h = (tt, numbered before h.1)
 numbered (Told e ∷ before) h = (line_numbered before e h.0, numbered before h.1)
 
 pub commands_are_numbered_in_each_run : CommandsAreNumberedInEachRun
-commands_are_numbered_in_each_run h cells hs few small may lines = numbered _ (waits_in_each h cells hs may lines).said
+commands_are_numbered_in_each_run h cells hs few small may lines = numbered _ (waits_in_each h cells hs (record { few = few; small = small }) may lines).said

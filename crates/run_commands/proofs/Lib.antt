@@ -1,6 +1,8 @@
+pub mod Tallies
 pub mod Waiting
 pub mod Numbers
 pub mod Owed
+pub mod Askings
 pub mod Asides
 pub mod Forming
 pub mod Requesting
@@ -9,6 +11,7 @@ pub mod Quiet
 pub mod Doings
 pub mod Walk
 pub mod Steps
+pub mod Coordinators
 pub mod Runs
 pub mod Texts
 pub mod Offices

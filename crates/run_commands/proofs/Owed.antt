@@ -1,19 +1,23 @@
 -- The commands of a node that wait: those whose requests are in its queue, each once, and the one that it deals with.
 use Rattle.std.specs.Prelude.{ℕ, ◌≡◌, ◌≢◌, ◌≤◌, ◌<◌, ◌+◌, ◌++◌, not, Bool, true, false, List, [], ◌∷◌, Some, if◌then◌else◌}
-use Rattle.std.specs.List.{AllByRecursion}
+use Rattle.std.specs.List.{AllByRecursion, list_any}
 use Rattle.std.proofs.Common.{refl, sym, ap, subst, ◌∙◌, arith}
-use Rattle.cmm_attempt.proofs.Basics.{none_some, same_some}
+use Rattle.cmm_attempt.proofs.Basics.{and_cases, none_some, same_some}
 use Rattle.request_queue.specs.Queue.{Queue, oldest_in}
 use Rattle.request_queue.specs.declared.request.Request.{Request}
 use Rattle.status_report.specs.declared.command_entry.Answer.{Answer}
-use Rattle.history.specs.Commands.{waits}
+use Rattle.history.specs.Commands.{is_answered_to, waits}
 use Rattle.history.specs.Moment.{Moment}
-use Rattle.history.specs.Trace.{answered, asked}
+use Rattle.history.specs.Order.{since}
+use Rattle.history.specs.Requests.{is_asking}
+use Rattle.history.specs.Seizing.{is_boot}
+use Rattle.history.specs.Trace.{answered}
 use Rattle.run_history.proofs.Lists.{all_and}
-use Rattle.run_commands.specs.Guards.{FirstTold, Hand, IsUnspent, MayAnswer, MayMove, Move, QueueGoes, rest_of, waiting_by}
+use Rattle.run_commands.specs.Guards.{FirstTold, FirstUntold, Hand, IsFree, MayAnswer, MayMove, Move, QueueGoes, rest_of, waiting_by}
 use Rattle.run_commands.specs.Guards.Hand.{Free, Held, Spent}
 use Rattle.run_commands.specs.Guards.Move.{Drops, Joins, Pops, Stays, Takes}
-use Rattle.run_commands.proofs.Waiting.{Open, WaitOn, answered_monitors, answered_since, asked_here, asked_waits, le_then, monitors_of, other_unanswered, other_waits, tally, tally_more}
+use Rattle.run_commands.proofs.Tallies.{answered_less, le_then, tally, tally_more, waiting_of}
+use Rattle.run_commands.proofs.Waiting.{Open, WaitOn, answered_monitors, answered_since, monitors_of, other_unanswered, other_waits}
 
 -- the command of a request waits; a monitor's has none
 abbrev pub IsDue : ℕ → List Moment → Request → Type 0
@@ -48,19 +52,32 @@ HandDue n ms Free top waiting = Unit {0}
 HandDue n ms (Held k) top waiting = Open n k ms × (k ≤ top) × Others k waiting
 HandDue n ms (Spent k) top waiting = Unit {0}
 
+abbrev pub is_told : Request → Bool
+is_told r = r.told
+
+-- how many commands may wait
+abbrev pub room : Hand → List Request → ℕ
+room Free waiting = tally is_told waiting
+room (Held k) waiting = 1 + tally is_told waiting
+room (Spent k) waiting = tally is_told (rest_of waiting)
+
 pub record Owed (n : ℕ) (ms : List Moment) (h : Hand) (top : ℕ) (waiting : List Request) : Type 0 where
   pub due : AreDue n ms (due_in h waiting)
   pub once : AreOnce waiting
   pub low : AreLow top waiting
   pub fresh : (k : ℕ) → top < k → answered_since n k ms ≡ false
   pub monitors : tally is_untold waiting ≤ monitors_of n ms
+  pub most : waiting_of n ms ≤ room h waiting
   pub hand : HandDue n ms h top waiting
 
 -- ---- it stays so
 
+pub due_by : (n : ℕ) (before after : List Moment) (rs : List Request) → ((q : ℕ) → Open n q before → Open n q after) → AreDue n before rs → AreDue n after rs
+due_by n before after [] f h = tt
+due_by n before after (r ∷ rs) f h = (λ told. f r.number (h.0 told), due_by n before after rs f h.1)
+
 pub due_stays : (n : ℕ) (before after : List Moment) (rs : List Request) → WaitOn n before after → AreDue n before rs → AreDue n after rs
-due_stays n before after [] f h = tt
-due_stays n before after (r ∷ rs) f h = (λ told. f.open_still r.number (h.0 told), due_stays n before after rs f h.1)
+due_stays n before after rs f h = due_by n before after rs f.open_still h
 
 hand_stays : (n : ℕ) (before after : List Moment) (h : Hand) (top : ℕ) (waiting : List Request) → WaitOn n before after → HandDue n before h top waiting → HandDue n after h top waiting
 hand_stays n before after Free top waiting f d = tt
@@ -74,6 +91,7 @@ owed_stays n before after h top waiting f d = record {
   low = d.low;
   fresh = λ k above. f.unanswered k (d.fresh k above);
   monitors = le_then (tally is_untold waiting) (monitors_of n before) (monitors_of n after) d.monitors f.monitors;
+  most = le_then (waiting_of n after) (waiting_of n before) (room h waiting) f.fewer d.most;
   hand = hand_stays n before after h top waiting f d.hand;
 }
 
@@ -81,15 +99,16 @@ none_least : (k : ℕ) → 0 ≤ k
 none_least k = omega arith
 
 -- at the end of a step
-pub owed_free : (n : ℕ) (ms : List Moment) (h : Hand) (top : ℕ) (waiting : List Request) → IsUnspent h → Owed n ms h top waiting → Owed n ms Free top waiting
+pub owed_free : (n : ℕ) (ms : List Moment) (h : Hand) (top : ℕ) (waiting : List Request) → IsFree h → Owed n ms h top waiting → Owed n ms Free top waiting
 owed_free n ms Free top waiting is d = d
-owed_free n ms (Held k) top waiting is d = record { due = d.due; once = d.once; low = d.low; fresh = d.fresh; monitors = d.monitors; hand = tt }
+owed_free n ms (Held k) top waiting is d = absurd is
 owed_free n ms (Spent k) top waiting is d = absurd is
 
 -- nothing waits
-pub owed_none : (n : ℕ) (ms : List Moment) (top : ℕ) (waiting : List Request) → waiting ≡ [] → ((k : ℕ) → top < k → answered_since n k ms ≡ false) → Owed n ms Free top waiting
-owed_none n ms top waiting is fresh =
-    subst (λ rs. Owed n ms Free top rs) (sym is) (record { due = tt; once = tt; low = tt; fresh = fresh; monitors = none_least (monitors_of n ms); hand = tt })
+pub owed_none : (n : ℕ) (ms : List Moment) (top : ℕ) (waiting : List Request) → waiting ≡ [] → ((k : ℕ) → top < k → answered_since n k ms ≡ false) → waiting_of n ms ≤ 0
+    → Owed n ms Free top waiting
+owed_none n ms top waiting is fresh none =
+    subst (λ rs. Owed n ms Free top rs) (sym is) (record { due = tt; once = tt; low = tt; fresh = fresh; monitors = none_least (monitors_of n ms); most = none; hand = tt })
 
 -- ---- a command is answered
 
@@ -112,20 +131,34 @@ fresh_still n q reply ms top low fresh k above = other_unanswered n q k reply ms
 monitors_still : (n q : ℕ) (reply : Answer) (ms : List Moment) (waiting : List Request) → tally is_untold waiting ≤ monitors_of n ms → tally is_untold waiting ≤ monitors_of n (answered n q reply ∷ ms)
 monitors_still n q reply ms waiting h = le_then (tally is_untold waiting) (monitors_of n ms) (monitors_of n (answered n q reply ∷ ms)) h (answered_monitors n q reply ms)
 
+-- one that waited waits no more
+pub one_less : (n q : ℕ) (reply : Answer) (ms : List Moment) (k : ℕ) → Open n q ms → waiting_of n ms ≤ 1 + k → waiting_of n (answered n q reply ∷ ms) ≤ k
+one_less n q reply ms k stands most =
+    less (waiting_of n (answered n q reply ∷ ms)) (waiting_of n ms) k
+    (answered_less n q reply ms (and_cases (list_any (is_asking n q) (since (is_boot n) ms)) (not (list_any (is_answered_to n q) (since (is_asking n q) ms))) stands.0).0 stands.1) most
+  where
+    less : (a b c : ℕ) → 1 + a ≤ b → b ≤ 1 + c → a ≤ c
+    less a b c h l = omega (arith, h, l)
+
+pub told_first : (r : Request) (rs : List Request) (k : ℕ) → r.told ≡ true → k ≤ tally is_told (r ∷ rs) → k ≤ 1 + tally is_told rs
+told_first r rs k is h = subst (λ b. k ≤ (if b then 1 + tally is_told rs else tally is_told rs)) is h
+
 first_answered : (n : ℕ) (ms : List Moment) (q : ℕ) (reply : Answer) (top : ℕ) (waiting : List Request) → FirstTold waiting q → Owed n ms Free top waiting
     → Answered n ms q reply (Spent q) top waiting
 first_answered n ms q reply top [] f d = absurd (none_some f.request f.is)
 first_answered n ms q reply top (r ∷ rs) f d =
     let same : r ≡ f.request = same_some r f.request f.is in
     let number : r.number ≡ q = ap (λ (z : Request). z.number) same ∙ f.number in
+    let told : r.told ≡ true = ap (λ (z : Request). z.told) same ∙ f.told in
     record {
-      waits_so = subst (λ k. waits n k ms ≡ true) number (d.due.0 (ap (λ (z : Request). z.told) same ∙ f.told)).0;
+      waits_so = subst (λ k. waits n k ms ≡ true) number (d.due.0 told).0;
       owed = record {
         due = due_others n q reply ms rs (subst (λ k. Others k rs) number d.once.0) d.due.1;
         once = d.once;
         low = d.low;
         fresh = fresh_still n q reply ms top (subst (λ k. k ≤ top) number d.low.0) d.fresh;
         monitors = monitors_still n q reply ms (r ∷ rs) d.monitors;
+        most = one_less n q reply ms (tally is_told rs) (subst (λ k. Open n k ms) number (d.due.0 told)) (told_first r rs (waiting_of n ms) told d.most);
         hand = tt;
       };
     }
@@ -142,6 +175,7 @@ owed_answered n ms (Held k) q reply g top waiting may d =
         low = d.low;
         fresh = fresh_still n q reply ms top (subst (λ j. j ≤ top) (sym may.0) d.hand.1) d.fresh;
         monitors = monitors_still n q reply ms waiting d.monitors;
+        most = one_less n q reply ms (tally is_told waiting) (subst (λ j. Open n j ms) (sym may.0) d.hand.0) d.most;
         hand = tt;
       };
     })
@@ -157,7 +191,7 @@ once_rest : (rs : List Request) → AreOnce rs → AreOnce (rest_of rs)
 once_rest [] h = tt
 once_rest (r ∷ rs) h = h.1
 
-once_and : (rs : List Request) (r : Request) → AreOnce rs → Others r.number rs → AreOnce (rs ++ r ∷ [])
+pub once_and : (rs : List Request) (r : Request) → AreOnce rs → Others r.number rs → AreOnce (rs ++ r ∷ [])
 once_and [] r h apart = (tt, tt)
 once_and (x ∷ rs) r h apart = (all_and (λ (y : Request). y.number ≢ x.number) rs r h.0 (λ same. apart.0 (sym same)), once_and rs r h.1 apart.1)
 
@@ -166,18 +200,18 @@ fewer [] k h = h
 fewer (r ∷ rs) k h = le_then (tally is_untold rs) (tally is_untold (r ∷ rs)) k (tally_more is_untold r rs) h
 
 -- one more behind the others
-tally_and : (rs : List Request) (r : Request) (b : Bool) → is_untold r ≡ b → tally is_untold (rs ++ r ∷ []) ≡ (if b then 1 + tally is_untold rs else tally is_untold rs)
-tally_and [] r b is = ap (λ t. if t then 1 + 0 else 0) is
-tally_and (x ∷ rs) r b is = by_test (is_untold x) b (tally_and rs r b is)
+pub tally_and : (p : Request → Bool) (rs : List Request) (r : Request) (b : Bool) → p r ≡ b → tally p (rs ++ r ∷ []) ≡ (if b then 1 + tally p rs else tally p rs)
+tally_and p [] r b is = ap (λ t. if t then 1 + 0 else 0) is
+tally_and p (x ∷ rs) r b is = by_test (p x) b (tally_and p rs r b is)
   where
-    by_test : (t b : Bool) → tally is_untold (rs ++ r ∷ []) ≡ (if b then 1 + tally is_untold rs else tally is_untold rs)
-        → (if t then 1 + tally is_untold (rs ++ r ∷ []) else tally is_untold (rs ++ r ∷ [])) ≡ (if b then 1 + (if t then 1 + tally is_untold rs else tally is_untold rs) else (if t then 1 + tally is_untold rs else tally is_untold rs))
+    by_test : (t b : Bool) → tally p (rs ++ r ∷ []) ≡ (if b then 1 + tally p rs else tally p rs)
+        → (if t then 1 + tally p (rs ++ r ∷ []) else tally p (rs ++ r ∷ [])) ≡ (if b then 1 + (if t then 1 + tally p rs else tally p rs) else (if t then 1 + tally p rs else tally p rs))
     by_test true true h = ap (λ k. 1 + k) h
     by_test true false h = ap (λ k. 1 + k) h
     by_test false true h = h
     by_test false false h = h
 
-not_told : (r : Request) (b : Bool) → r.told ≡ b → is_untold r ≡ not b
+pub not_told : (r : Request) (b : Bool) → r.told ≡ b → is_untold r ≡ not b
 not_told r b is = ap not is
 
 taken_owed : (n : ℕ) (ms : List Moment) (top : ℕ) (waiting : List Request) (r : Request) → oldest_in waiting ≡ Some r → r.told ≡ true → Owed n ms Free top waiting
@@ -192,6 +226,7 @@ taken_owed n ms top (x ∷ rs) r is told d =
       low = d.low.1;
       fresh = d.fresh;
       monitors = fewer (x ∷ rs) (monitors_of n ms) d.monitors;
+      most = told_first x rs (waiting_of n ms) (ap (λ (z : Request). z.told) same ∙ told) d.most;
       hand = (d.due.0 (ap (λ (z : Request). z.told) same ∙ told), d.low.0, d.once.0);
     })
 
@@ -201,17 +236,23 @@ joined_owed n ms top waiting r told d = record {
   once = once_and waiting r d.once d.hand.2;
   low = all_and (λ (y : Request). y.number ≤ top) waiting r d.low d.hand.1;
   fresh = d.fresh;
-  monitors = subst (λ k. k ≤ monitors_of n ms) (sym (tally_and waiting r false (not_told r true told))) d.monitors;
+  monitors = subst (λ k. k ≤ monitors_of n ms) (sym (tally_and is_untold waiting r false (not_told r true told))) d.monitors;
+  most = subst (λ k. waiting_of n ms ≤ k) (sym (tally_and is_told waiting r true told)) d.most;
   hand = tt;
 }
 
-dropped_owed : (n : ℕ) (ms : List Moment) (top : ℕ) (waiting : List Request) → Owed n ms Free top waiting → Owed n ms Free top (rest_of waiting)
-dropped_owed n ms top waiting d = record {
+pub rest_told : (rs : List Request) (k : ℕ) → FirstUntold rs → k ≤ tally is_told rs → k ≤ tally is_told (rest_of rs)
+rest_told [] k is h = h
+rest_told (r ∷ rs) k is h = subst (λ b. k ≤ (if b then 1 + tally is_told rs else tally is_told rs)) is h
+
+dropped_owed : (n : ℕ) (ms : List Moment) (top : ℕ) (waiting : List Request) → FirstUntold waiting → Owed n ms Free top waiting → Owed n ms Free top (rest_of waiting)
+dropped_owed n ms top waiting untold d = record {
   due = all_rest (IsDue n ms) waiting d.due;
   once = once_rest waiting d.once;
   low = all_rest (λ (y : Request). y.number ≤ top) waiting d.low;
   fresh = d.fresh;
   monitors = fewer waiting (monitors_of n ms) d.monitors;
+  most = rest_told waiting (waiting_of n ms) untold d.most;
   hand = tt;
 }
 
@@ -225,6 +266,7 @@ popped_owed n ms (Spent k) top waiting may d =
       low = all_rest (λ (y : Request). y.number ≤ top) waiting d.low;
       fresh = d.fresh;
       monitors = fewer waiting (monitors_of n ms) d.monitors;
+      most = d.most;
       hand = tt;
     }
 
@@ -232,7 +274,7 @@ moved_owed : (n : ℕ) (ms : List Moment) (h g : Hand) (top : ℕ) (waiting : Li
 moved_owed n ms h g top waiting Stays may d = subst (λ z. Owed n ms z top waiting) (sym may.1) d
 moved_owed n ms h g top waiting Pops may d = subst (λ z. Owed n ms z top (rest_of waiting)) (sym may.1) (popped_owed n ms h top waiting (may.0, refl) d)
 moved_owed n ms h g top waiting Drops may d =
-    subst (λ z. Owed n ms z top (rest_of waiting)) (sym may.1) (dropped_owed n ms top waiting (subst (λ z. Owed n ms z top waiting) may.0 d))
+    subst (λ z. Owed n ms z top (rest_of waiting)) (sym may.2) (dropped_owed n ms top waiting may.1 (subst (λ z. Owed n ms z top waiting) may.0 d))
 moved_owed n ms h g top waiting (Takes r) may d =
     subst (λ z. Owed n ms z top (rest_of waiting)) (sym may.3) (taken_owed n ms top waiting r may.1 may.2 (subst (λ z. Owed n ms z top waiting) may.0 d))
 moved_owed n ms h g top waiting (Joins r) may d =
@@ -242,55 +284,3 @@ pub owed_moved : (n : ℕ) (ms : List Moment) (h g : Hand) (before after : Queue
 owed_moved n ms h g before after goes d =
     subst (λ k. Owed n ms g k after.waiting) (sym goes.asked)
     (subst (λ rs. Owed n ms g before.asked rs) (sym goes.waiting) (moved_owed n ms h g before.asked before.waiting goes.move goes.may d))
-
--- ---- a number is taken
-
-above : (k a q : ℕ) → q ≡ a + 1 → k ≤ a → k ≢ q
-above k a q is low = grind arith
-
-less_up : (k a q : ℕ) → q ≡ a + 1 → k ≤ a → k ≤ q
-less_up k a q is low = grind arith
-
-no_more : (k : ℕ) → k ≤ k
-no_more k = omega arith
-
-others_above : (top q : ℕ) (rs : List Request) → q ≡ top + 1 → AreLow top rs → Others q rs
-others_above top q [] is low = tt
-others_above top q (r ∷ rs) is low = (above r.number top q is low.0, others_above top q rs is low.1)
-
-low_up : (top q : ℕ) (rs : List Request) → q ≡ top + 1 → AreLow top rs → AreLow q rs
-low_up top q [] is low = tt
-low_up top q (r ∷ rs) is low = (less_up r.number top q is low.0, low_up top q rs is low.1)
-
--- by a command
-next_above : (a q k : ℕ) → q ≡ a + 1 → q < k → a < k
-next_above a q k is above = grind arith
-
-next_is_above : (a q : ℕ) → q ≡ a + 1 → a < q
-next_is_above a q is = grind arith
-
-pub owed_asked : (n : ℕ) (ms : List Moment) (before q : ℕ) (waiting : List Request) → q ≡ before + 1 → Owed n ms Free before waiting → Owed n (asked n q ∷ ms) (Held q) q waiting
-owed_asked n ms before q waiting is d = record {
-  due = due_stays n ms (asked n q ∷ ms) waiting (asked_waits n n q ms) d.due;
-  once = d.once;
-  low = low_up before q waiting is d.low;
-  fresh = λ k above. d.fresh k (next_above before q k is above);
-  monitors = le_then (tally is_untold waiting) (monitors_of n ms) (monitors_of n (asked n q ∷ ms)) d.monitors (asked_waits n n q ms).monitors;
-  hand = (asked_here n q ms (d.fresh q (next_is_above before q is)), no_more q, others_above before q waiting is d.low);
-}
-
--- by a monitor, whose request waits
-pub owed_added : (n : ℕ) (ms : List Moment) (before : ℕ) (waiting : List Request) (r : Request) → r.number ≡ before + 1 → r.told ≡ false → 1 + tally is_untold waiting ≤ monitors_of n ms
-    → Owed n ms Free before waiting
-    → Owed n ms Free r.number (waiting ++ r ∷ [])
-owed_added n ms before waiting r is told room d = record {
-  due = all_and (IsDue n ms) waiting r d.due (λ so. absurd (true_not_false (sym so ∙ told)));
-  once = once_and waiting r d.once (others_above before r.number waiting is d.low);
-  low = all_and (λ (y : Request). y.number ≤ r.number) waiting r (low_up before r.number waiting is d.low) (no_more r.number);
-  fresh = λ k above. d.fresh k (next_above before r.number k is above);
-  monitors = subst (λ k. k ≤ monitors_of n ms) (sym (tally_and waiting r true (not_told r false told))) room;
-  hand = tt;
-}
-  where
-    true_not_false : true ≡ false → ⊥
-    true_not_false e = cc

@@ -210,7 +210,7 @@ known_at : (h : Header) (cells : ℕ) (s : Scene) → IsSmall h → FewLines s.m
 known_at h cells s size few r =
     let end : Scene = all_happened (first_cluster h) (first_scene h cells) r.happenings in
     subst (λ z. Known_at h z) r.is (record {
-      waits = waits_in_each h cells r.happenings r.may (subst (λ (z : Scene). FewLines z.moments) (sym r.is) few);
+      waits = waits_in_each h cells r.happenings size r.may (subst (λ (z : Scene). FewLines z.moments) (sym r.is) few);
       seated = memberships_of_each_run h cells r.happenings size.few size.small r.may;
       preside = presiding_in_each h cells r.happenings size r.may;
     })
@@ -249,7 +249,15 @@ reasons_kept h cells size s x may at keeps few =
     let b : Stage (first_cluster h) s = stage_of h cells s size at in
     happening_told (setting_of h) (first_cluster h) s x may b (happening_fits h s x may b (known_at h cells s size before at)) (keeps before)
 
+told_in_each : (h : Header) (cells : ℕ) (hs : List Happening) → IsSmall h → MayAllHappen (first_cluster h) (first_scene h cells) hs → KeepsReasons h (all_happened (first_cluster h) (first_scene h cells) hs)
+told_in_each h cells hs size may =
+    holds_of_each h cells (KeepsReasons h) (λ s x now at more keeps. reasons_kept h cells size s x now at keeps) (λ first. first_told (setting_of h) (version_of (first_cluster h)) h cells) hs may
+
+-- what each node keeps is read
+pub reads_in_each : (h : Header) (cells : ℕ) (hs : List Happening) → IsSmall h → MayAllHappen (first_cluster h) (first_scene h cells) hs
+    → FewLines (all_happened (first_cluster h) (first_scene h cells) hs).moments → (k : ℕ) → NodeReads (version_of (first_cluster h)) ((all_happened (first_cluster h) (first_scene h cells) hs).nodes.node k)
+reads_in_each h cells hs size may few = (told_in_each h cells hs size may few).nodes
+
 pub reasons_in_each : (h : Header) (cells : ℕ) (hs : List Happening) → IsSmall h → MayAllHappen (first_cluster h) (first_scene h cells) hs
     → FewLines (all_happened (first_cluster h) (first_scene h cells) hs).moments → AreReasoned (setting_of h) (all_happened (first_cluster h) (first_scene h cells) hs).moments
-reasons_in_each h cells hs size may few =
-    (holds_of_each h cells (KeepsReasons h) (λ s x now at more keeps. reasons_kept h cells size s x now at keeps) (λ first. first_told (setting_of h) (version_of (first_cluster h)) h cells) hs may few).explained
+reasons_in_each h cells hs size may few = (told_in_each h cells hs size may few).explained

@@ -3,7 +3,12 @@ use Rattle.admin_commands.specs.declared.accepted.Accepted.{Accepted}
 use Rattle.admin_commands.specs.declared.accepted.Accepted.TheVariants as accepted
 use Rattle.admin_commands.specs.declared.error.CheckError.{CheckError}
 use Rattle.admin_commands.specs.declared.error.CheckError.TheVariants as because
+use Rattle.admin_commands.specs.Answers.{rows_of}
 use Rattle.admin_words.specs.Commands.{request_of}
+use Rattle.attempt_laws.proofs.Walk.{if_with}
+use Rattle.ccr_tables.specs.Updates.{table_named}
+use Rattle.cl_base.specs.declared.command.Table.{Table}
+use Rattle.cmm_attempt.proofs.Basics.{false_true}
 use Rattle.admin_words.specs.declared.error.WordError.{WordError}
 use Rattle.admin_words.specs.declared.request.Request.TheVariants as asked
 use Rattle.admin_words.specs.declared.request.Request as wanted
@@ -33,37 +38,36 @@ use Rattle.node_model.specs.Presidents.{checked, is_busy, is_clear, others_of, o
 use Rattle.node_model.specs.Requests.{is_idle, waiting_with}
 use Rattle.node_model.specs.Updates.{is_of_member}
 use Rattle.refinement.specs.Courses.{Course}
-use Rattle.refinement.specs.Courses.Course.{Acts, Falls, Keeps, Stops}
 use Rattle.refinement.specs.Cuts as cuts
 use Rattle.refinement.specs.Cuts.{acks_of, first_turn, left_answered}
 use Rattle.node_model.specs.Seats.{coordinator_of, is_member, record_of, version_of}
-use Rattle.refinement.specs.Doings.{acted, changed}
-use Rattle.std.specs.Prelude.{ℕ, zero, suc, ◌==◌, ◌&&◌, Bool, true, false, List, Option, None, Some, Result, Ok, Err, if◌then◌else◌}
+use Rattle.refinement.specs.Doings.{changed}
+use Rattle.std.specs.Prelude.{ℕ, zero, suc, ◌≡◌, ◌==◌, ◌&&◌, Bool, true, false, List, Option, None, Some, Result, Ok, Err, is_some, if◌then◌else◌}
 use Rattle.std.proofs.Common.{refl, inr}
 use Rattle.node_model.specs.Presidents.{answer_given, orders_for}
 use Rattle.refinement.specs.Cuts.{queue_by}
-use Rattle.run_commands.specs.Guards.{GoesSo, Hand, IsFree, IsUnspent}
-use Rattle.run_commands.specs.Guards.Hand.{Free, Held, Spent}
+use Rattle.run_commands.specs.Guards.{GoesSo, IsLed}
+use Rattle.run_commands.specs.Guards.Hand.{Free, Held}
 use Rattle.run_commands.specs.Guards.Move.{Joins}
 use Rattle.run_commands.proofs.Asides.{Frees, Turns, given_frees, given_turns, lines_quiet, orders_quiet, quiet_gives}
 use Rattle.run_commands.proofs.Forming.{deciding_so, either_so, then_so, unmoved}
 
--- what ends well in the strict sense ends well in the loose one
-loosely : (c : Cluster) (me : ℕ) (h : Hand) (x : UpNode) (k : Course) → GoesSo false c me h x k → GoesSo true c me h x k
-loosely c me h x Stops p = by_hand h p
-  where
-    by_hand : (g : Hand) → IsFree g → IsUnspent g
-    by_hand Free is = tt
-    by_hand (Held k) is = tt
-    by_hand (Spent k) is = absurd is
-loosely c me h x (Acts a rest) p = (p.0, p.1, loosely c me p.0 (acted c me x a) rest p.2)
-loosely c me h x (Keeps change rest) p = (p.0, p.1, loosely c me p.0 (changed c me x change) rest p.2)
-loosely c me h x (Falls why) p = tt
+-- a query is accepted as one, or refused
+abbrev pub IsOfQuery : Result Accepted CheckError → Type 0
+IsOfQuery (Ok (accepted.Query q)) = Unit {0}
+IsOfQuery (Ok (accepted.Change u)) = ⊥
+IsOfQuery (Ok (accepted.Act ask)) = ⊥
+IsOfQuery (Err (because.Refused r)) = Unit {0}
+IsOfQuery (Err because.NoMemory) = ⊥
+
+pub rows_of_query : (o : Option Table) (name : List ℕ) → IsOfQuery (rows_of o name)
+rows_of_query None name = tt
+rows_of_query (Some table) name = tt
 
 module _ (c : Cluster) (me : ℕ) where
   -- no command waits but those whose requests are in the queue, before the course and after it
   abbrev G : UpNode → Course → Type 0
-  G x k = GoesSo false c me Free x k
+  G x k = GoesSo c me Free x k
 
   answering_so : (x : UpNode) (p : Presidency) (a : Arrived) (told : Answer) → G x (cuts.answering_course c me x p a told)
   answering_so x p a told =
@@ -169,10 +173,10 @@ module _ (c : Cluster) (me : ℕ) where
   pub asking_if_so : (alone : Bool) (x : UpNode) → G x (cuts.asking_if_course alone c me x)
   asking_if_so alone x = either_so c me x alone _ _ (asking_so x) tt
 
-  -- A command that came: it is answered, or gets its request, or waits on.
+  -- A command that came: it is answered, or gets its request.
 
   abbrev W : ℕ → UpNode → Course → Type 0
-  W q x k = GoesSo true c me (Held q) x k
+  W q x k = GoesSo c me (Held q) x k
 
   either_held : (q : ℕ) (x : UpNode) (b : Bool) (k l : Course) → W q x k → W q x l → W q x (if b then k else l)
   either_held q x true k l g h = g
@@ -186,34 +190,37 @@ module _ (c : Cluster) (me : ℕ) where
       either_held number x (is_full x.requests) _ _ (replying_so x number answer.QueueFull) (
         Free,
         record { move = Joins (record { number = number; text = text; told = true; second = x.second }); waiting = refl; asked = refl; may = (refl, refl, refl) },
-        loosely c me Free (waiting_with x number text) _ (asking_if_so (is_idle x.requests.waiting) (waiting_with x number text)),
+        asking_if_so (is_idle x.requests.waiting) (waiting_with x number text),
       )
 
-  elsewhere_so : (x : UpNode) (number : ℕ) (o : Option ℕ) → W number x (cuts.elsewhere_course me number o)
-  elsewhere_so x number None = tt
-  elsewhere_so x number (Some president) = replying_so x number (answer.Ask president)
+  elsewhere_so : (x : UpNode) (number : ℕ) (o : Option ℕ) → is_some o ≡ true → W number x (cuts.elsewhere_course me number o)
+  elsewhere_so x number None some = absurd (false_true some)
+  elsewhere_so x number (Some president) some = replying_so x number (answer.Ask president)
 
   telling_so : (x : UpNode) (number : ℕ) (lines : List StatusEntry) → W number x (cuts.telling_course me number lines)
   telling_so x number lines = (Held number, quiet_gives me (Held number) x.requests.waiting _ (lines_quiet lines), replying_so x number answer.Ok)
 
-  query_so : (x : UpNode) (p : Presidency) (number : ℕ) (s : ConfigState) (r : Result Accepted CheckError) → W number x (cuts.query_course me x p number s r)
-  query_so x p number s (Ok (accepted.Query q)) = telling_so x number (query_lines x p s q)
-  query_so x p number s (Ok (accepted.Change u)) = tt
-  query_so x p number s (Ok (accepted.Act ask)) = tt
-  query_so x p number s (Err (because.Refused r)) = replying_so x number (answer.Refused r)
-  query_so x p number s (Err because.NoMemory) = tt
+  query_so : (x : UpNode) (p : Presidency) (number : ℕ) (s : ConfigState) (r : Result Accepted CheckError) → IsOfQuery r → W number x (cuts.query_course me x p number s r)
+  query_so x p number s (Ok (accepted.Query q)) of = telling_so x number (query_lines x p s q)
+  query_so x p number s (Ok (accepted.Change u)) of = absurd of
+  query_so x p number s (Ok (accepted.Act ask)) of = absurd of
+  query_so x p number s (Err (because.Refused r)) of = replying_so x number (answer.Refused r)
+  query_so x p number s (Err because.NoMemory) of = absurd of
 
-  queried_so : (x : UpNode) (number : ℕ) (question : AdminCommand) (o : Option Presidency) → W number x (cuts.queried_course c me x number question o)
-  queried_so x number question None = elsewhere_so x number (coordinator_of x)
-  queried_so x number question (Some p) =
-      either_held number x (is_full x.requests) _ _ (replying_so x number answer.QueueFull) (query_so x p number (in_force c x) (checked c x p question))
+  queried_so : (x : UpNode) (number : ℕ) (question : AdminCommand) (o : Option Presidency) → is_some (coordinator_of x) ≡ true
+      → ((p : Presidency) → IsOfQuery (checked c x p question)) → W number x (cuts.queried_course c me x number question o)
+  queried_so x number question None some of = elsewhere_so x number (coordinator_of x) some
+  queried_so x number question (Some p) some of =
+      either_held number x (is_full x.requests) _ _ (replying_so x number answer.QueueFull) (query_so x p number (in_force c x) (checked c x p question) (of p))
 
-  commanded_so : (x : UpNode) (number : ℕ) (o : AdminCommand) → W number x (cuts.commanded_course c me x number o)
-  commanded_so x number (wish.Change u) = waiting_so x number (words_of u)
-  commanded_so x number (wish.Act a) = waiting_so x number (ask_words_of a)
-  commanded_so x number (wish.Status q) = queried_so x number (wish.Status q) x.presidency
-  commanded_so x number (wish.Rows table) = queried_so x number (wish.Rows table) x.presidency
+  commanded_so : (x : UpNode) (number : ℕ) (o : AdminCommand) → is_some (coordinator_of x) ≡ true → W number x (cuts.commanded_course c me x number o)
+  commanded_so x number (wish.Change u) some = waiting_so x number (words_of u)
+  commanded_so x number (wish.Act a) some = waiting_so x number (ask_words_of a)
+  commanded_so x number (wish.Status q) some = queried_so x number (wish.Status q) x.presidency some (λ p. tt)
+  commanded_so x number (wish.Rows table) some =
+      queried_so x number (wish.Rows table) x.presidency some (λ p. rows_of_query (table_named (in_force c x).groups.version table) table)
 
-  pub worded_so : (x : UpNode) (number : ℕ) (r : Result AdminCommand WordError) → W number x (cuts.worded_course c me x number r)
-  worded_so x number (Err e) = replying_so x number (word_answer e)
-  worded_so x number (Ok command) = either_held number x (is_member x.seat) _ _ (commanded_so x number command) (replying_so x number answer.NotMember)
+  pub worded_so : (x : UpNode) (number : ℕ) (r : Result AdminCommand WordError) → IsLed x → W number x (cuts.worded_course c me x number r)
+  worded_so x number (Err e) led = replying_so x number (word_answer e)
+  worded_so x number (Ok command) led =
+      if_with (λ z. W number x z) (is_member x.seat) (is_member x.seat) _ _ refl (λ is. commanded_so x number command (led is)) (λ is. replying_so x number answer.NotMember)

@@ -38,13 +38,14 @@ use Rattle.status_report.specs.declared.entry.Entry.TheVariants as entry
 use Rattle.status_report.specs.declared.packet_entry.PacketEntry.TheVariants as packet
 use Rattle.world_model.specs.First.{first_cluster}
 use Rattle.run_history.proofs.Idle.{passing_nodes}
-use Rattle.run_history.proofs.Reached.{kept_holds}
 use Rattle.run_history.specs.Happenings.{Arrives, Begins, Commands, Happening, IsSaid, Loses, MayAllHappen, MayHappen, Misses, Notes, Refuses, Repeats, Speaks, Strays, Takes, Writes, all_happened, armed_by, commanded, commanded_at, given_by, happened, removed, taking}
 use Rattle.run_history.specs.Scenes.{Scene, adding, dropped_so, first_scene, passing, telling, with_links}
 use Rattle.run_requests.specs.Steps.{used_lines}
 use Rattle.run_requests.proofs.Counts.{dropped_used, few_longer, more_used, passing_used, then_le}
 use Rattle.run_commands.specs.Guards.Hand.{Free}
 use Rattle.run_commands.specs.Answers.{AnswersWait}
+use Rattle.run_messages.proofs.Reaching.{IsSmall, holds_of_each}
+use Rattle.run_commands.proofs.Coordinators.{AreLed, NodeLed, commanded_led, led_at}
 use Rattle.run_commands.proofs.Numbers.{Numbers, NumbersOn, apart_numbers, packet_numbers, part_numbers, passing_numbers, said_numbers}
 use Rattle.run_commands.proofs.Owed.{Owed, owed_stays}
 use Rattle.run_commands.proofs.Steps.{NodeNumbers, Stepped, down_step, up_step}
@@ -79,20 +80,20 @@ moment_waits v m ms l num h = record { nodes = λ k. node_stays k (v.node k) ms 
 abbrev pub FewLines : List Moment → Type 0
 FewLines ms = length (lines_of ms) < 2 ^ 63
 
-step_by : (c : Cluster) (n now : ℕ) (ends : method.Outcome) (i : Input) (replies : List Reply) (node : Node) (disk : NodeRecord) (s : Scene) → IsSaid s.moments n i → FewLines s.moments
+step_by : (c : Cluster) (n now : ℕ) (ends : method.Outcome) (i : Input) (replies : List Reply) (node : Node) (disk : NodeRecord) (s : Scene) → NodeLed node → IsSaid s.moments n i → FewLines s.moments
     → NodeFits n s.moments node → AnswersWait s.moments
     → Stepped n (after_all c n (site node disk) (doings c n now ends replies i node)).node (given_all c n (site node disk) (doings c n now ends replies i node)) s
-step_by c n now ends i replies Down disk s said few h waits = down_step c n i replies disk s waits
-step_by c n now ends i replies (Up x) disk s said few h waits = up_step c n now ends i replies x disk s said (record { owed = h.0; said = waits }) (record { low = h.1; few = few }) h.2
+step_by c n now ends i replies Down disk s led said few h waits = down_step c n i replies disk s waits
+step_by c n now ends i replies (Up x) disk s led said few h waits = up_step c n now ends i replies x disk s led said (record { owed = h.0; said = waits }) (record { low = h.1; few = few }) h.2
 
-step_leaves : (c : Cluster) (v : Nodes) (n now : ℕ) (ends : method.Outcome) (i : Input) (s : Scene) → IsSaid s.moments n i → FewLines s.moments → NodeFits n s.moments (v.node n) → AnswersWait s.moments
+step_leaves : (c : Cluster) (v : Nodes) (n now : ℕ) (ends : method.Outcome) (i : Input) (s : Scene) → NodeLed (v.node n) → IsSaid s.moments n i → FewLines s.moments → NodeFits n s.moments (v.node n) → AnswersWait s.moments
     → (let o : Outcome DiskState = stepped disk_rules c n now ends (v.node n) (v.disk n) i in Stepped n o.after o.given s)
-step_leaves c v n now ends i s said few h waits =
+step_leaves c v n now ends i s led said few h waits =
     let o : Outcome DiskState = stepped disk_rules c n now ends (v.node n) (v.disk n) i in
     let cut : IsCut disk_rules c n now ends (v.node n) (v.disk n) i [] o = steps_are_cut disk_rules disks_keep_rules c n now ends (v.node n) (v.disk n) i in
     let x : Site = site (v.node n) (v.disk n).kept in
     let ds : List Doing = doings c n now ends cut.replies i (v.node n) in
-    let g : Stepped n (after_all c n x ds).node (given_all c n x ds) s = step_by c n now ends i cut.replies (v.node n) (v.disk n).kept s said few h waits in
+    let g : Stepped n (after_all c n x ds).node (given_all c n x ds) s = step_by c n now ends i cut.replies (v.node n) (v.disk n).kept s led said few h waits in
     subst (λ (z : Site). Stepped n z.node o.given s) cut.comes.left (subst (λ os. Stepped n (after_all c n x ds).node os s) cut.comes.given g)
 
 so_fits : (n last : ℕ) (node : Node) (ms : List Moment) → NodeOwes n last node ms → last ≤ used_lines ms → NodeNumbers n last node ms → NodeFits n ms node
@@ -106,14 +107,14 @@ put_all P f n x here others k = go (same_or_not k n)
     go (inl e) = subst (λ j. P j (put f n x j)) (sym e) (subst (P n) (sym (put_here f n x)) here)
     go (inr ne) = subst (P k) (sym (put_there f n x k ne)) (others k ne)
 
-taking_waits : (c : Cluster) (s : Scene) (n now : ℕ) (ends : method.Outcome) (i : Input) → IsSaid s.moments n i → FewLines s.moments → WaitsIn s → WaitsIn (taking c n now ends i s)
-taking_waits c s n now ends i said few h =
+taking_waits : (c : Cluster) (s : Scene) (n now : ℕ) (ends : method.Outcome) (i : Input) → NodeLed (s.nodes.node n) → IsSaid s.moments n i → FewLines s.moments → WaitsIn s → WaitsIn (taking c n now ends i s)
+taking_waits c s n now ends i led said few h =
     let v : Nodes = moved c s.nodes (Takes_in n now ends i) in
     let t : Scene = record s { nodes = v } in
     let os : List Output = given_by c n now ends i s.nodes in
     let after : Node = (stepped disk_rules c n now ends (s.nodes.node n) (s.nodes.disk n) i).after in
     let end : Scene = passing n os t in
-    let g : Stepped n after os t = step_leaves c s.nodes n now ends i t said few (h.nodes n) h.said in
+    let g : Stepped n after os t = step_leaves c s.nodes n now ends i t led said few (h.nodes n) h.said in
     subst (λ w. Waits w end.moments) (sym (passing_nodes n os t)) (record {
       nodes = put_all (λ j node. NodeFits j end.moments node) s.nodes.node n after (so_fits n g.last after end.moments g.own g.low g.numbers)
           (λ j ne. node_stays j (s.nodes.node j) s.moments end.moments (passing_waits j n os t (g.apart j ne)) (passing_numbers j n os t (g.apart j ne)) (passing_used n os t).used (h.nodes j));
@@ -169,31 +170,31 @@ dropped_waits : (o : Option (ℕ × DropCause)) (s : Scene) → WaitsIn s → Wa
 dropped_waits None s h = h
 dropped_waits (Some drop) s h = moment_waits s.nodes (Told (entry.Packet (packet.Dropped drop.0 drop.1))) s.moments (packet_leaves (packet.Dropped drop.0 drop.1) s.moments) (λ k. packet_numbers k (packet.Dropped drop.0 drop.1) s.moments) h
 
-happening_waits : (c : Cluster) (s : Scene) (x : Happening) → MayHappen c s x → FewLines s.moments → WaitsIn s → WaitsIn (happened c s x)
-happening_waits c s (Speaks e) may few h =
+happening_waits : (c : Cluster) (s : Scene) (x : Happening) → MayHappen c s x → AreLed s → FewLines s.moments → WaitsIn s → WaitsIn (happened c s x)
+happening_waits c s (Speaks e) may led few h =
     armed_waits c e (adding (Said (line.Event e)) s) (moment_waits s.nodes (Said (line.Event e)) s.moments (record { wait = λ k. said_waits k (line.Event e) s.moments; said = λ a. (tt, a) }) (λ k. said_numbers k (line.Event e) s.moments) h)
-happening_waits c s (Begins e) may few h = moment_waits s.nodes (Part e) s.moments (record { wait = λ k. part_waits k e s.moments; said = λ a. (tt, a) }) (λ k. part_numbers k e s.moments) h
-happening_waits c s (Notes e) may few h = moment_waits s.nodes (Told (entry.Schedule e)) s.moments (quiet_leaves (entry.Schedule e) s.moments tt) (λ k. apart_numbers k (entry.Schedule e) s.moments tt) h
-happening_waits c s (Takes n now ends i) may few h = taking_waits c s n now ends i may.4 few h
-happening_waits c s (Arrives number x m now ends) may few h =
-    taking_waits c (telling (entry.Packet (packet.Delivered number x.from x.to)) (removed s number)) x.to now ends (input.Packet x.from m) tt few
+happening_waits c s (Begins e) may led few h = moment_waits s.nodes (Part e) s.moments (record { wait = λ k. part_waits k e s.moments; said = λ a. (tt, a) }) (λ k. part_numbers k e s.moments) h
+happening_waits c s (Notes e) may led few h = moment_waits s.nodes (Told (entry.Schedule e)) s.moments (quiet_leaves (entry.Schedule e) s.moments tt) (λ k. apart_numbers k (entry.Schedule e) s.moments tt) h
+happening_waits c s (Takes n now ends i) may led few h = taking_waits c s n now ends i (led n) may.4 few h
+happening_waits c s (Arrives number x m now ends) may led few h =
+    taking_waits c (telling (entry.Packet (packet.Delivered number x.from x.to)) (removed s number)) x.to now ends (input.Packet x.from m) (led x.to) tt few
     (moment_waits s.nodes (Told (entry.Packet (packet.Delivered number x.from x.to))) s.moments (packet_leaves (packet.Delivered number x.from x.to) s.moments) (λ k. packet_numbers k (packet.Delivered number x.from x.to) s.moments) h)
-happening_waits c s (Strays number x) may few h =
+happening_waits c s (Strays number x) may led few h =
     moment_waits s.nodes (Told (entry.Packet (packet.Delivered number x.from x.to))) s.moments (packet_leaves (packet.Delivered number x.from x.to) s.moments) (λ k. packet_numbers k (packet.Delivered number x.from x.to) s.moments) h
-happening_waits c s (Misses number x) may few h = moment_waits s.nodes (Told (entry.Packet (packet.Dropped number drop.Down))) s.moments (packet_leaves (packet.Dropped number drop.Down) s.moments) (λ k. packet_numbers k (packet.Dropped number drop.Down) s.moments) h
-happening_waits c s (Loses number x) may few h = moment_waits s.nodes (Told (entry.Packet (packet.Lost number))) s.moments (packet_leaves (packet.Lost number) s.moments) (λ k. packet_numbers k (packet.Lost number) s.moments) h
-happening_waits c s (Repeats number x) may few h =
+happening_waits c s (Misses number x) may led few h = moment_waits s.nodes (Told (entry.Packet (packet.Dropped number drop.Down))) s.moments (packet_leaves (packet.Dropped number drop.Down) s.moments) (λ k. packet_numbers k (packet.Dropped number drop.Down) s.moments) h
+happening_waits c s (Loses number x) may led few h = moment_waits s.nodes (Told (entry.Packet (packet.Lost number))) s.moments (packet_leaves (packet.Lost number) s.moments) (λ k. packet_numbers k (packet.Lost number) s.moments) h
+happening_waits c s (Repeats number x) may led few h =
     let o : links.Outcome = sending s.links x.from x.to x.bytes in
     dropped_waits o.sent.dropped (telling (entry.Packet (packet.Repeated number s.links.next)) (with_links s o.after))
     (moment_waits s.nodes (Told (entry.Packet (packet.Repeated number s.links.next))) s.moments (packet_leaves (packet.Repeated number s.links.next) s.moments) (λ k. packet_numbers k (packet.Repeated number s.links.next) s.moments) h)
-happening_waits c s (Commands n d k now ends) may few h =
+happening_waits c s (Commands n d k now ends) may led few h =
     let o : Option Device = slice_get s.devices (d - 1) in
-    taking_waits c (commanded s n d k).scene n now ends (input.Answered (commanded s n d k).answer) tt (subst FewLines (sym (commanded_moments s n d o k)) few) (commanded_waits s n d o k h)
-happening_waits c s (Writes n d value now ends) may few h =
+    taking_waits c (commanded s n d k).scene n now ends (input.Answered (commanded s n d k).answer) (commanded_led s n d o k led n) tt (subst FewLines (sym (commanded_moments s n d o k)) few) (commanded_waits s n d o k h)
+happening_waits c s (Writes n d value now ends) may led few h =
     let o : Option Device = slice_get s.devices (d - 1) in
     let k : PrCommand = command.Write value in
-    taking_waits c (commanded s n d k).scene n now ends (input.Wrote d value (commanded s n d k).answer) tt (subst FewLines (sym (commanded_moments s n d o k)) few) (commanded_waits s n d o k h)
-happening_waits c s (Refuses n d value cause) may few h = moment_waits s.nodes (Told (entry.Device (device.Refused n d value cause))) s.moments (quiet_leaves (entry.Device (device.Refused n d value cause)) s.moments tt) (λ k. apart_numbers k (entry.Device (device.Refused n d value cause)) s.moments tt) h
+    taking_waits c (commanded s n d k).scene n now ends (input.Wrote d value (commanded s n d k).answer) (commanded_led s n d o k led n) tt (subst FewLines (sym (commanded_moments s n d o k)) few) (commanded_waits s n d o k h)
+happening_waits c s (Refuses n d value cause) may led few h = moment_waits s.nodes (Told (entry.Device (device.Refused n d value cause))) s.moments (quiet_leaves (entry.Device (device.Refused n d value cause)) s.moments tt) (λ k. apart_numbers k (entry.Device (device.Refused n d value cause)) s.moments tt) h
 
 -- ---- a run
 
@@ -204,8 +205,10 @@ first_waits : (h : Header) (cells : ℕ) → WaitsIn (first_scene h cells)
 unfolding first_scene
 first_waits h cells = record { nodes = λ k. tt; said = tt }
 
-pub waits_in_each : (h : Header) (cells : ℕ) (hs : List Happening) → MayAllHappen (first_cluster h) (first_scene h cells) hs
+pub waits_in_each : (h : Header) (cells : ℕ) (hs : List Happening) → IsSmall h → MayAllHappen (first_cluster h) (first_scene h cells) hs
     → FewLines (all_happened (first_cluster h) (first_scene h cells) hs).moments → WaitsIn (all_happened (first_cluster h) (first_scene h cells) hs)
-waits_in_each h cells hs may few =
-    kept_holds (first_cluster h) Keeps (λ s x now keeps more. happening_waits (first_cluster h) s x now (few_before (first_cluster h) s x more) (keeps (few_before (first_cluster h) s x more)))
-    (first_scene h cells) hs may (λ first. first_waits h cells) few
+waits_in_each h cells hs size may few =
+    holds_of_each h cells Keeps
+    (λ s x now at more keeps lines.
+    let before : FewLines s.moments = few_before (first_cluster h) s x lines in happening_waits (first_cluster h) s x now (led_at h cells s size at) before (keeps before))
+    (λ first. first_waits h cells) hs may few

@@ -51,6 +51,7 @@ use Rattle.run_history.specs.Scenes.{Scene, passing, telling}
 use Rattle.run_requests.specs.Steps.{Counted, used_lines}
 use Rattle.run_requests.proofs.Commands.{next_is}
 use Rattle.run_requests.proofs.Counts.{next_low, passing_used, room_left, then_le, told_uses}
+use Rattle.run_commands.specs.Guards.{IsLed}
 use Rattle.run_commands.specs.Guards.Hand.{Free, Held}
 use Rattle.run_commands.specs.Answers.{AnswersWait}
 use Rattle.run_commands.proofs.Asides.{quiet_gives}
@@ -58,8 +59,10 @@ use Rattle.run_commands.proofs.Courses.{IsNoCommand, course_at_so}
 use Rattle.run_commands.proofs.Requesting.{asking_if_so, worded_so}
 use Rattle.run_commands.proofs.Doings.{Was}
 use Rattle.run_commands.proofs.Numbers.{Numbers, apart_numbers, asked_numbered, asked_numbers, boot_numbers, monitor_numbers, passing_steady}
-use Rattle.run_commands.proofs.Owed.{is_untold, owed_added, owed_asked, owed_none, owed_stays}
-use Rattle.run_commands.proofs.Waiting.{AreApart, Leaves, boot_unanswered, monitors_of, probed_more, quiet_leaves, tally}
+use Rattle.run_commands.proofs.Askings.{owed_added, owed_asked}
+use Rattle.run_commands.proofs.Owed.{is_untold, owed_none, owed_stays}
+use Rattle.run_commands.proofs.Tallies.{boot_none, tally}
+use Rattle.run_commands.proofs.Waiting.{AreApart, Leaves, boot_unanswered, monitors_of, probed_more, quiet_leaves}
 use Rattle.run_commands.proofs.Walk.{Ends, NodeOwes, then_ends, walk}
 
 abbrev pub NodeNumbers : ℕ → ℕ → Node → List Moment → Type 0
@@ -106,13 +109,13 @@ stays_counted n asked node os s k num e = record {
 plain_step : (c : Cluster) (n now : ℕ) (ends : method.Outcome) (i : Input) (replies : List Reply) (x : UpNode) (disk : NodeRecord) (s : Scene) → IsNoCommand i → Was n Free x.requests s
     → Counted x.requests.asked s.moments → Numbers n s.moments x.requests.asked → SteppedBy c n x disk (under replies (course_at c n now ends x i)) s
 plain_step c n now ends i replies x disk s plain w k num =
-    stays_counted n x.requests.asked _ _ s k num (walk c n false replies (course_at c n now ends x i) Free x.requests.asked x disk s (course_at_so c n now ends x i plain) refl w)
+    stays_counted n x.requests.asked _ _ s k num (walk c n replies (course_at c n now ends x i) Free x.requests.asked x disk s (course_at_so c n now ends x i plain) refl w)
 
 -- ---- a command
 
-command_step : (c : Cluster) (n : ℕ) (replies : List Reply) (x : UpNode) (disk : NodeRecord) (words : List ℕ) (s : Scene) → slice_get s.moments 0 ≡ Some (Said (line.Event (event.Command n words)))
+command_step : (c : Cluster) (n : ℕ) (replies : List Reply) (x : UpNode) (disk : NodeRecord) (words : List ℕ) (s : Scene) → IsLed x → slice_get s.moments 0 ≡ Some (Said (line.Event (event.Command n words)))
     → Was n Free x.requests s → Counted x.requests.asked s.moments → Numbers n s.moments x.requests.asked → SteppedBy c n x disk (under replies (cuts.command_course c n x words)) s
-command_step c n replies x disk words s said w k num =
+command_step c n replies x disk words s led said w k num =
     let q : ℕ = next_number x.requests in
     let is : q ≡ x.requests.asked + 1 = next_is x.requests.asked x refl (room_left x.requests.asked s.moments k) in
     let y : UpNode = numbered x in
@@ -121,7 +124,7 @@ command_step c n replies x disk words s said w k num =
     let rest : Course = cuts.worded_course c n y q (command_of (version_of c) words) in
     let more : List Output = given_all c n (site (Up y) disk) (under replies rest) in
     let e : Ends n q (after_all c n (site (Up y) disk) (under replies rest)).node more t =
-    walk c n true replies rest (Held q) q y disk t (worded_so c n y q (command_of (version_of c) words)) refl
+    walk c n replies rest (Held q) q y disk t (worded_so c n y q (command_of (version_of c) words) led) refl
     (record { owed = owed_asked n s.moments x.requests.asked q x.requests.waiting is w.owed; said = (asked_numbered n q x.requests.asked s.moments is num, w.said) }) in
     record {
       last = q;
@@ -148,7 +151,7 @@ RisesBy c n x disk ds s = Rises n x.requests.asked (after_all c n (site (Up x) d
 nothing_asked : (c : Cluster) (n : ℕ) (replies : List Reply) (x : UpNode) (disk : NodeRecord) (s : Scene) → Numbers n s.moments x.requests.asked → Was n Free x.requests s
     → RisesBy c n x disk (under replies Stops) s
 nothing_asked c n replies x disk s num w =
-    record { last = x.requests.asked; ends = walk c n false replies Stops Free x.requests.asked x disk s tt refl w; numbers = num; low = low_same x.requests.asked }
+    record { last = x.requests.asked; ends = walk c n replies Stops Free x.requests.asked x disk s tt refl w; numbers = num; low = low_same x.requests.asked }
 
 -- .. and this is so of the next number
 abbrev NextNumbers : ℕ → List Moment → ℕ → Type 0
@@ -166,7 +169,7 @@ asking_when c n replies x disk ask s true room more num next w =
     let rest : Course = cuts.asking_if_course (is_idle x.requests.waiting) c n y in
     record {
       last = q;
-      ends = walk c n false replies rest Free q y disk s (asking_if_so c n (is_idle x.requests.waiting) y) refl
+      ends = walk c n replies rest Free q y disk s (asking_if_so c n (is_idle x.requests.waiting) y) refl
           (record { owed = owed_added n s.moments x.requests.asked x.requests.waiting (record { number = q; text = ask_words_of ask; told = false; second = x.second }) is refl more w.owed; said = w.said });
       numbers = next q is;
       low = low_next x.requests.asked q is;
@@ -195,10 +198,10 @@ asked_room n r action.Logged ms waiting last h num = tt
 
 report_step : (c : Cluster) (n : ℕ) (replies : List Reply) (x : UpNode) (disk : NodeRecord) (r : List ℕ) (p : Probed) (said_line : Line) (s : Scene) → slice_get s.moments 0 ≡ Some (Said said_line)
     → Was n Free x.requests s → Counted x.requests.asked s.moments → Numbers n s.moments x.requests.asked → SteppedBy c n x disk (under replies (cuts.reporting_course c n x r p)) s
-report_step c n replies x disk r probe.NoMonitor said_line s said w k num = stays_counted n x.requests.asked _ _ s k num (walk c n false replies Stops Free x.requests.asked x disk s tt refl w)
+report_step c n replies x disk r probe.NoMonitor said_line s said w k num = stays_counted n x.requests.asked _ _ s k num (walk c n replies Stops Free x.requests.asked x disk s tt refl w)
 report_step c n replies x disk r probe.Good said_line s said w k num =
     stays_counted n x.requests.asked _ _ s k num
-    (walk c n false replies (cuts.reporting_course c n x r probe.Good) Free x.requests.asked x disk s
+    (walk c n replies (cuts.reporting_course c n x r probe.Good) Free x.requests.asked x disk s
     (Free, quiet_gives n Free x.requests.waiting (report_told n r result.Ok ∷ []) (tt, tt), (Free, refl, tt)) refl w)
 report_step c n replies x disk r (probe.Failed a) said_line s said w k num =
     let told : Entry = entry.Call (call.Probed n r (result_of a)) in
@@ -224,20 +227,20 @@ report_step c n replies x disk r (probe.Failed a) said_line s said w k num =
 
 -- ---- a node that is up
 
-pub up_step : (c : Cluster) (n now : ℕ) (ends : method.Outcome) (i : Input) (replies : List Reply) (x : UpNode) (disk : NodeRecord) (s : Scene) → IsSaid s.moments n i → Was n Free x.requests s
+pub up_step : (c : Cluster) (n now : ℕ) (ends : method.Outcome) (i : Input) (replies : List Reply) (x : UpNode) (disk : NodeRecord) (s : Scene) → IsLed x → IsSaid s.moments n i → Was n Free x.requests s
     → Counted x.requests.asked s.moments → Numbers n s.moments x.requests.asked → SteppedBy c n x disk (under replies (course_at c n now ends x i)) s
-up_step c n now ends (input.Commanded words) replies x disk s said w k num = command_step c n replies (at_second now x) disk words s said w k num
-up_step c n now ends (input.Reported p good) replies x disk s said w k num =
+up_step c n now ends (input.Commanded words) replies x disk s led said w k num = command_step c n replies (at_second now x) disk words s led said w k num
+up_step c n now ends (input.Reported p good) replies x disk s led said w k num =
     let y : UpNode = at_second now x in
     report_step c n replies y disk p (probed y.worker (own_config c y) p good y.second) (line.Event (event.Probe n p good)) s said w k num
-up_step c n now ends input.Boot replies x disk s said w k num = plain_step c n now ends input.Boot replies x disk s tt w k num
-up_step c n now ends input.Crash replies x disk s said w k num = plain_step c n now ends input.Crash replies x disk s tt w k num
-up_step c n now ends input.Tick replies x disk s said w k num = plain_step c n now ends input.Tick replies x disk s tt w k num
-up_step c n now ends (input.Packet from m) replies x disk s said w k num = plain_step c n now ends (input.Packet from m) replies x disk s tt w k num
-up_step c n now ends input.CommandDue replies x disk s said w k num = plain_step c n now ends input.CommandDue replies x disk s tt w k num
-up_step c n now ends (input.Answered a) replies x disk s said w k num = plain_step c n now ends (input.Answered a) replies x disk s tt w k num
-up_step c n now ends (input.Wrote d value a) replies x disk s said w k num = plain_step c n now ends (input.Wrote d value a) replies x disk s tt w k num
-up_step c n now ends (input.Client name client port) replies x disk s said w k num = plain_step c n now ends (input.Client name client port) replies x disk s tt w k num
+up_step c n now ends input.Boot replies x disk s led said w k num = plain_step c n now ends input.Boot replies x disk s tt w k num
+up_step c n now ends input.Crash replies x disk s led said w k num = plain_step c n now ends input.Crash replies x disk s tt w k num
+up_step c n now ends input.Tick replies x disk s led said w k num = plain_step c n now ends input.Tick replies x disk s tt w k num
+up_step c n now ends (input.Packet from m) replies x disk s led said w k num = plain_step c n now ends (input.Packet from m) replies x disk s tt w k num
+up_step c n now ends input.CommandDue replies x disk s led said w k num = plain_step c n now ends input.CommandDue replies x disk s tt w k num
+up_step c n now ends (input.Answered a) replies x disk s led said w k num = plain_step c n now ends (input.Answered a) replies x disk s tt w k num
+up_step c n now ends (input.Wrote d value a) replies x disk s led said w k num = plain_step c n now ends (input.Wrote d value a) replies x disk s tt w k num
+up_step c n now ends (input.Client name client port) replies x disk s led said w k num = plain_step c n now ends (input.Client name client port) replies x disk s tt w k num
 
 -- ---- a node that is down
 
@@ -254,7 +257,7 @@ boot_ends n why s said = record {
 boots : (c : Cluster) (n : ℕ) (disk : NodeRecord) (s : Scene) → AnswersWait s.moments → Stepped n (Up (up_with n (first_valid_of c n) disk)) (of_node n note.Up ∷ []) s
 boots c n disk s said = record {
   last = 0;
-  own = (refl, owed_none n _ 0 [] refl (λ k above. boot_unanswered n k s.moments));
+  own = (refl, owed_none n _ 0 [] refl (λ k above. boot_unanswered n k s.moments) (boot_none n s.moments));
   said = (tt, said);
   apart = λ k ne. ((λ same. ne (sym same)), tt);
   numbers = boot_numbers n s.moments;

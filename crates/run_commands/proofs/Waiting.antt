@@ -33,29 +33,7 @@ use Rattle.run_history.proofs.Idle.{if_false, if_true}
 use Rattle.run_history.specs.Scenes.{Scene, dropped_so, passing, posting, sent_as, telling, with_links}
 use Rattle.run_commands.specs.Guards.{AreQuiet, IsQuiet}
 use Rattle.run_commands.specs.Answers.{AnswerWaits, AnswersWait}
-
--- ---- counts
-
--- how many pass the test
-abbrev pub tally : {X : Type 0} → (X → Bool) → List X → ℕ
-tally p [] = 0
-tally p (x ∷ xs) = if p x then 1 + tally p xs else tally p xs
-
-le_more : (k : ℕ) → k ≤ 1 + k
-le_more k = omega arith
-
-le_same : (k : ℕ) → k ≤ k
-le_same k = omega arith
-
-pub le_then : (a b c : ℕ) → a ≤ b → b ≤ c → a ≤ c
-le_then a b c h k = omega (arith, h, k)
-
-pub tally_more : {X : Type 0} (p : X → Bool) (x : X) (xs : List X) → tally p xs ≤ tally p (x ∷ xs)
-tally_more {X} p x xs = by_test (p x)
-  where
-    by_test : (b : Bool) → tally p xs ≤ (if b then 1 + tally p xs else tally p xs)
-    by_test true = le_more (tally p xs)
-    by_test false = le_same (tally p xs)
+use Rattle.run_commands.proofs.Tallies.{calm_fewer, le_same, le_then, tally, tally_more, waiting_of}
 
 -- ---- what waits
 
@@ -71,20 +49,22 @@ Open n q ms = (waits n q ms ≡ true) × (answered_since n q ms ≡ false)
 abbrev pub monitors_of : ℕ → List Moment → ℕ
 monitors_of n ms = tally (is_monitors n) (since (is_boot n) ms)
 
--- each command of node k that waits waits still, none is answered, and no monitor is forgotten
+-- each command of node k that waits waits still, none is answered, no monitor is forgotten, and no more commands wait
 pub record WaitOn (k : ℕ) (before after : List Moment) : Type 0 where
   pub open_still : (q : ℕ) → Open k q before → Open k q after
   pub unanswered : (q : ℕ) → answered_since k q before ≡ false → answered_since k q after ≡ false
   pub monitors : monitors_of k before ≤ monitors_of k after
+  pub fewer : waiting_of k after ≤ waiting_of k before
 
 pub wait_same : (k : ℕ) (ms : List Moment) → WaitOn k ms ms
-wait_same k ms = record { open_still = λ q h. h; unanswered = λ q h. h; monitors = le_same (monitors_of k ms) }
+wait_same k ms = record { open_still = λ q h. h; unanswered = λ q h. h; monitors = le_same (monitors_of k ms); fewer = le_same (waiting_of k ms) }
 
 pub wait_then : (k : ℕ) (a b c : List Moment) → WaitOn k a b → WaitOn k b c → WaitOn k a c
 wait_then k a b c f g = record {
   open_still = λ q h. g.open_still q (f.open_still q h);
   unanswered = λ q h. g.unanswered q (f.unanswered q h);
   monitors = le_then (monitors_of k a) (monitors_of k b) (monitors_of k c) f.monitors g.monitors;
+  fewer = le_then (waiting_of k c) (waiting_of k b) (waiting_of k a) g.fewer f.fewer;
 }
 
 -- a moment more, where the node does not go up
@@ -93,14 +73,16 @@ more k m ms = tally_more (is_monitors k) m (since (is_boot k) ms)
 
 -- ---- a command is asked
 
--- one of another number waits on
-pub asked_waits : (k m q : ℕ) (ms : List Moment) → WaitOn k ms (asked m q ∷ ms)
-asked_waits k m q ms = record { open_still = λ r h. (by_test r h.0 (is_asking k r (asked m q)), h.1); unanswered = λ r h. h; monitors = more k (asked m q) ms }
+-- one that waits waits on
+pub asked_still : (k m q r : ℕ) (ms : List Moment) → Open k r ms → Open k r (asked m q ∷ ms)
+asked_still k m q r ms h = (by_test (is_asking k r (asked m q)), h.1)
   where
-    by_test : (r : ℕ) → waits k r ms ≡ true → (b : Bool)
-        → ((b || list_any (is_asking k r) (since (is_boot k) ms)) && not (list_any (is_answered_to k r) (if b then [] else asked m q ∷ since (is_asking k r) ms))) ≡ true
-    by_test r h true = refl
-    by_test r h false = h
+    by_test : (b : Bool) → ((b || list_any (is_asking k r) (since (is_boot k) ms)) && not (list_any (is_answered_to k r) (if b then [] else asked m q ∷ since (is_asking k r) ms))) ≡ true
+    by_test true = refl
+    by_test false = h.0
+
+pub asked_monitors : (k m q : ℕ) (ms : List Moment) → monitors_of k ms ≤ monitors_of k (asked m q ∷ ms)
+asked_monitors k m q ms = more k (asked m q) ms
 
 is_here : (k : ℕ) → (k == k) ≡ true
 is_here k = grind arith
@@ -154,11 +136,21 @@ other_unanswered k q r reply ms ne h = or_none ((k == k) && (q == r)) (answered_
 pub answered_monitors : (k q : ℕ) (reply : Answer) (ms : List Moment) → monitors_of k ms ≤ monitors_of k (answered k q reply ∷ ms)
 answered_monitors k q reply ms = more k (answered k q reply) ms
 
+-- another node asks
+others_asked : (k m q : ℕ) (ms : List Moment) → m ≢ k → WaitOn k ms (asked m q ∷ ms)
+others_asked k m q ms ne = record {
+  open_still = λ r h. asked_still k m q r ms h;
+  unanswered = λ r h. h;
+  monitors = asked_monitors k m q ms;
+  fewer = calm_fewer k (asked m q) ms refl (λ r. refl) (λ later. and_first (m == k) (not (list_any (is_answered_to k q) later)) (is_other m k ne));
+}
+
 pub others_wait : (k m q : ℕ) (reply : Answer) (ms : List Moment) → m ≢ k → WaitOn k ms (answered m q reply ∷ ms)
 others_wait k m q reply ms ne = record {
   open_still = λ r h. still k m q r reply ms (and_first (m == k) (q == r) (is_other m k ne)) h;
   unanswered = λ r h. or_none ((m == k) && (q == r)) (answered_since k r ms) (and_first (m == k) (q == r) (is_other m k ne)) ∙ h;
   monitors = more k (answered m q reply) ms;
+  fewer = calm_fewer k (answered m q reply) ms refl (λ r. and_first (m == k) (q == r) (is_other m k ne)) (λ later. refl);
 }
 
 -- ---- a node goes up
@@ -173,6 +165,7 @@ others_boot k m ms ne =
       );
       unanswered = λ r h. subst (λ xs. list_any (is_answered_to k r) xs ≡ false) (sym same) h;
       monitors = subst (λ xs. monitors_of k ms ≤ tally (is_monitors k) xs) (sym same) (more k (up m) ms);
+      fewer = calm_fewer k (up m) ms (is_other m k ne) (λ r. refl) (λ later. refl);
     }
 
 -- nothing was answered since
@@ -183,25 +176,33 @@ boot_unanswered k q ms = ap (λ xs. list_any (is_answered_to k q) xs) (if_true (
 
 pub quiet_waits : (k : ℕ) (e : Entry) (ms : List Moment) → IsQuiet e → WaitOn k ms (Told e ∷ ms)
 quiet_waits k (entry.Node m note.Up) ms quiet = absurd quiet
-quiet_waits k (entry.Node m note.Ticked) ms quiet = record { open_still = λ r h. h; unanswered = λ r h. h; monitors = more k (Told (entry.Node m note.Ticked)) ms }
-quiet_waits k (entry.Node m note.Saved) ms quiet = record { open_still = λ r h. h; unanswered = λ r h. h; monitors = more k (Told (entry.Node m note.Saved)) ms }
-quiet_waits k (entry.Node m (note.Down why)) ms quiet = record { open_still = λ r h. h; unanswered = λ r h. h; monitors = more k (Told (entry.Node m (note.Down why))) ms }
-quiet_waits k (entry.Node m (note.Member e)) ms quiet = record { open_still = λ r h. h; unanswered = λ r h. h; monitors = more k (Told (entry.Node m (note.Member e))) ms }
-quiet_waits k (entry.Node m (note.Installed e)) ms quiet = record { open_still = λ r h. h; unanswered = λ r h. h; monitors = more k (Told (entry.Node m (note.Installed e))) ms }
+quiet_waits k (entry.Node m note.Ticked) ms quiet = record { open_still = λ r h. h; unanswered = λ r h. h; monitors = more k (Told (entry.Node m note.Ticked)) ms; fewer = calm_fewer k (Told (entry.Node m note.Ticked)) ms refl (λ q. refl) (λ later. refl) }
+quiet_waits k (entry.Node m note.Saved) ms quiet = record { open_still = λ r h. h; unanswered = λ r h. h; monitors = more k (Told (entry.Node m note.Saved)) ms; fewer = calm_fewer k (Told (entry.Node m note.Saved)) ms refl (λ q. refl) (λ later. refl) }
+quiet_waits k (entry.Node m (note.Down why)) ms quiet = record { open_still = λ r h. h; unanswered = λ r h. h; monitors = more k (Told (entry.Node m (note.Down why))) ms; fewer = calm_fewer k (Told (entry.Node m (note.Down why))) ms refl (λ q. refl) (λ later. refl) }
+quiet_waits k (entry.Node m (note.Member e)) ms quiet = record { open_still = λ r h. h; unanswered = λ r h. h; monitors = more k (Told (entry.Node m (note.Member e))) ms; fewer = calm_fewer k (Told (entry.Node m (note.Member e))) ms refl (λ q. refl) (λ later. refl) }
+quiet_waits k (entry.Node m (note.Installed e)) ms quiet = record { open_still = λ r h. h; unanswered = λ r h. h; monitors = more k (Told (entry.Node m (note.Installed e))) ms; fewer = calm_fewer k (Told (entry.Node m (note.Installed e))) ms refl (λ q. refl) (λ later. refl) }
 quiet_waits k (entry.Command e) ms quiet = absurd quiet
 quiet_waits k (entry.Packet e) ms quiet = absurd quiet
-quiet_waits k (entry.Call e) ms quiet = record { open_still = λ r h. h; unanswered = λ r h. h; monitors = more k (Told (entry.Call e)) ms }
-quiet_waits k _ ms quiet = record { open_still = λ r h. h; unanswered = λ r h. h; monitors = le_same (monitors_of k ms) }
+quiet_waits k (entry.Call e) ms quiet = record { open_still = λ r h. h; unanswered = λ r h. h; monitors = more k (Told (entry.Call e)) ms; fewer = calm_fewer k (Told (entry.Call e)) ms refl (λ q. refl) (λ later. refl) }
+quiet_waits k (entry.Answered e) ms quiet = record { open_still = λ r h. h; unanswered = λ r h. h; monitors = more k (Told (entry.Answered e)) ms; fewer = calm_fewer k (Told (entry.Answered e)) ms refl (λ q. refl) (λ later. refl) }
+quiet_waits k entry.Powered ms quiet = record { open_still = λ r h. h; unanswered = λ r h. h; monitors = more k (Told entry.Powered) ms; fewer = calm_fewer k (Told entry.Powered) ms refl (λ q. refl) (λ later. refl) }
+quiet_waits k (entry.Device e) ms quiet = record { open_still = λ r h. h; unanswered = λ r h. h; monitors = more k (Told (entry.Device e)) ms; fewer = calm_fewer k (Told (entry.Device e)) ms refl (λ q. refl) (λ later. refl) }
+quiet_waits k (entry.Attempt e) ms quiet = record { open_still = λ r h. h; unanswered = λ r h. h; monitors = more k (Told (entry.Attempt e)) ms; fewer = calm_fewer k (Told (entry.Attempt e)) ms refl (λ q. refl) (λ later. refl) }
+quiet_waits k (entry.Start e) ms quiet = record { open_still = λ r h. h; unanswered = λ r h. h; monitors = more k (Told (entry.Start e)) ms; fewer = calm_fewer k (Told (entry.Start e)) ms refl (λ q. refl) (λ later. refl) }
+quiet_waits k (entry.Update e) ms quiet = record { open_still = λ r h. h; unanswered = λ r h. h; monitors = more k (Told (entry.Update e)) ms; fewer = calm_fewer k (Told (entry.Update e)) ms refl (λ q. refl) (λ later. refl) }
+quiet_waits k (entry.Schedule e) ms quiet = record { open_still = λ r h. h; unanswered = λ r h. h; monitors = more k (Told (entry.Schedule e)) ms; fewer = calm_fewer k (Told (entry.Schedule e)) ms refl (λ q. refl) (λ later. refl) }
+quiet_waits k (entry.Status e) ms quiet = record { open_still = λ r h. h; unanswered = λ r h. h; monitors = more k (Told (entry.Status e)) ms; fewer = calm_fewer k (Told (entry.Status e)) ms refl (λ q. refl) (λ later. refl) }
+quiet_waits k (entry.Address e) ms quiet = record { open_still = λ r h. h; unanswered = λ r h. h; monitors = more k (Told (entry.Address e)) ms; fewer = calm_fewer k (Told (entry.Address e)) ms refl (λ q. refl) (λ later. refl) }
 
 pub packet_waits : (k : ℕ) (e : PacketEntry) (ms : List Moment) → WaitOn k ms (Told (entry.Packet e) ∷ ms)
-packet_waits k e ms = record { open_still = λ r h. h; unanswered = λ r h. h; monitors = le_same (monitors_of k ms) }
+packet_waits k e ms = record { open_still = λ r h. h; unanswered = λ r h. h; monitors = le_same (monitors_of k ms); fewer = calm_fewer k (Told (entry.Packet e)) ms refl (λ q. refl) (λ later. refl) }
 
 -- a line of the schedule, or a part of a round
 pub said_waits : (k : ℕ) (l : Line) (ms : List Moment) → WaitOn k ms (Said l ∷ ms)
-said_waits k l ms = record { open_still = λ r h. h; unanswered = λ r h. h; monitors = le_same (monitors_of k ms) }
+said_waits k l ms = record { open_still = λ r h. h; unanswered = λ r h. h; monitors = le_same (monitors_of k ms); fewer = calm_fewer k (Said l) ms refl (λ q. refl) (λ later. refl) }
 
 pub part_waits : (k : ℕ) (e : Event) (ms : List Moment) → WaitOn k ms (Part e ∷ ms)
-part_waits k e ms = record { open_still = λ r h. h; unanswered = λ r h. h; monitors = le_same (monitors_of k ms) }
+part_waits k e ms = record { open_still = λ r h. h; unanswered = λ r h. h; monitors = le_same (monitors_of k ms); fewer = calm_fewer k (Part e) ms refl (λ q. refl) (λ later. refl) }
 
 -- a monitor that asks is one more
 pub probed_more : (k : ℕ) (r : List ℕ) (found : ProbeResult) (ms : List Moment) → is_monitors k (Told (entry.Call (call.Probed k r found))) ≡ true
@@ -277,11 +278,19 @@ apart_waits k (entry.Node m note.Saved) ms ne = quiet_waits k (entry.Node m note
 apart_waits k (entry.Node m (note.Down why)) ms ne = quiet_waits k (entry.Node m (note.Down why)) ms tt
 apart_waits k (entry.Node m (note.Member e)) ms ne = quiet_waits k (entry.Node m (note.Member e)) ms tt
 apart_waits k (entry.Node m (note.Installed e)) ms ne = quiet_waits k (entry.Node m (note.Installed e)) ms tt
-apart_waits k (entry.Command (command.Asked m q)) ms ne = asked_waits k m q ms
+apart_waits k (entry.Command (command.Asked m q)) ms ne = others_asked k m q ms ne
 apart_waits k (entry.Command (command.Answered m q reply)) ms ne = others_wait k m q reply ms ne
 apart_waits k (entry.Packet e) ms ne = absurd ne
 apart_waits k (entry.Call e) ms ne = quiet_waits k (entry.Call e) ms tt
-apart_waits k _ ms ne = record { open_still = λ r h. h; unanswered = λ r h. h; monitors = le_same (monitors_of k ms) }
+apart_waits k (entry.Answered e) ms ne = quiet_waits k (entry.Answered e) ms tt
+apart_waits k entry.Powered ms ne = quiet_waits k entry.Powered ms tt
+apart_waits k (entry.Device e) ms ne = quiet_waits k (entry.Device e) ms tt
+apart_waits k (entry.Attempt e) ms ne = quiet_waits k (entry.Attempt e) ms tt
+apart_waits k (entry.Start e) ms ne = quiet_waits k (entry.Start e) ms tt
+apart_waits k (entry.Update e) ms ne = quiet_waits k (entry.Update e) ms tt
+apart_waits k (entry.Schedule e) ms ne = quiet_waits k (entry.Schedule e) ms tt
+apart_waits k (entry.Status e) ms ne = quiet_waits k (entry.Status e) ms tt
+apart_waits k (entry.Address e) ms ne = quiet_waits k (entry.Address e) ms tt
 
 pub passing_waits : (k n : ℕ) (os : List Output) (s : Scene) → AreApart k os → WaitOn k s.moments (passing n os s).moments
 passing_waits k n [] s apart = wait_same k s.moments

@@ -1,5 +1,5 @@
 -- A course of a node that is up, under all replies of its disk, answers commands that wait.
-use Rattle.std.specs.Prelude.{ℕ, ◌≡◌, ◌≢◌, ◌++◌, Bool, true, false, List, [], ◌∷◌}
+use Rattle.std.specs.Prelude.{ℕ, ◌≡◌, ◌≢◌, ◌++◌, List, [], ◌∷◌}
 use Rattle.std.proofs.Common.{refl, sym, subst, ◌∙◌, inr}
 use Rattle.cmm_member.specs.Records.{NodeRecord}
 use Rattle.status_report.specs.declared.node_entry.DownCause.{DownCause}
@@ -18,8 +18,8 @@ use Rattle.refinement.specs.Doings.Doing.{Saves}
 use Rattle.run_history.proofs.Idle.{passing_append}
 use Rattle.run_history.proofs.Lists.{both}
 use Rattle.run_history.specs.Scenes.{Scene, passing}
-use Rattle.run_commands.specs.Guards.{AreQuiet, EndsSo, GoesSo, Hand, IsQuietOutput, IsUnspent}
-use Rattle.run_commands.specs.Guards.Hand.{Free, Held, Spent}
+use Rattle.run_commands.specs.Guards.{AreQuiet, GoesSo, Hand, IsQuietOutput}
+use Rattle.run_commands.specs.Guards.Hand.{Free}
 use Rattle.run_commands.specs.Answers.{AnswersWait}
 use Rattle.run_commands.proofs.Doings.{Left, Was, act_left, change_left}
 use Rattle.run_commands.proofs.Numbers.{AreSteady, IsSteadyOutput, quiets_steady}
@@ -57,30 +57,24 @@ falls n last change why s said =
     down_ends n last ((first_lines n change ++ gone_line n why) ++ []) s
     (both IsQuietOutput (first_lines n change ++ gone_line n why) [] (both IsQuietOutput (first_lines n change) (gone_line n why) (first_quiet n change) (tt, tt)) tt) said
 
-unspent : (loose : Bool) (h : Hand) → EndsSo loose h → IsUnspent h
-unspent true h is = is
-unspent false Free is = tt
-unspent false (Held k) is = tt
-unspent false (Spent k) is = absurd is
-
-pub walk : (c : Cluster) (n : ℕ) (loose : Bool) (replies : List Reply) (k : Course) (h : Hand) (last : ℕ) (x : UpNode) (disk : NodeRecord) (s : Scene) → GoesSo loose c n h x k
+pub walk : (c : Cluster) (n : ℕ) (replies : List Reply) (k : Course) (h : Hand) (last : ℕ) (x : UpNode) (disk : NodeRecord) (s : Scene) → GoesSo c n h x k
     → x.requests.asked ≡ last → Was n h x.requests s
     → Ends n last (after_all c n (site (Up x) disk) (under replies k)).node (given_all c n (site (Up x) disk) (under replies k)) s
-walk c n loose replies Stops h last x disk s goes same w =
-    record { own = (same, owed_free n s.moments h x.requests.asked x.requests.waiting (unspent loose h goes) w.owed); said = w.said; apart = λ k ne. tt; steady = tt }
-walk c n loose replies (Acts a rest) h last x disk s goes same w =
+walk c n replies Stops h last x disk s goes same w =
+    record { own = (same, owed_free n s.moments h x.requests.asked x.requests.waiting goes w.owed); said = w.said; apart = λ k ne. tt; steady = tt }
+walk c n replies (Acts a rest) h last x disk s goes same w =
     let os : List Output = said c n x a in
     let y : UpNode = acted c n x a in
     let l : Left n goes.0 x.requests y.requests os s = act_left c n x a h goes.0 s goes.1 w in
     then_ends n last (after_all c n (site (Up y) disk) (under replies rest)).node os (given_all c n (site (Up y) disk) (under replies rest)) s l.apart l.steady
-    (walk c n loose replies rest goes.0 last y disk (passing n os s) goes.2 (l.last_so ∙ same) (record { owed = l.owed; said = l.said }))
-walk c n loose [] (Keeps change rest) h last x disk s goes same w = falls n last change _ s w.said
-walk c n loose (Done ∷ replies) (Keeps change rest) h last x disk s goes same w =
+    (walk c n replies rest goes.0 last y disk (passing n os s) goes.2 (l.last_so ∙ same) (record { owed = l.owed; said = l.said }))
+walk c n [] (Keeps change rest) h last x disk s goes same w = falls n last change _ s w.said
+walk c n (Done ∷ replies) (Keeps change rest) h last x disk s goes same w =
     let os : List Output = first_lines n change ++ saved_lines c n x change in
     let y : UpNode = changed c n x change in
     let l : Left n goes.0 x.requests y.requests os s = change_left c n x change (of_node n note.Saved ∷ []) h goes.0 s goes.1 (inr refl) w in
     then_ends n last (after_all c n (effect c n (site (Up x) disk) (Saves change)) (under replies rest)).node os (given_all c n (effect c n (site (Up x) disk) (Saves change)) (under replies rest)) s l.apart l.steady
-    (walk c n loose replies rest goes.0 last y _ (passing n os s) goes.2 (l.last_so ∙ same) (record { owed = l.owed; said = l.said }))
-walk c n loose (Lost_new why ∷ replies) (Keeps change rest) h last x disk s goes same w = falls n last change why s w.said
-walk c n loose (Lost_old why ∷ replies) (Keeps change rest) h last x disk s goes same w = falls n last change why s w.said
-walk c n loose replies (Falls why) h last x disk s goes same w = down_ends n last (gone_line n why ++ []) s (tt, tt) w.said
+    (walk c n replies rest goes.0 last y _ (passing n os s) goes.2 (l.last_so ∙ same) (record { owed = l.owed; said = l.said }))
+walk c n (Lost_new why ∷ replies) (Keeps change rest) h last x disk s goes same w = falls n last change why s w.said
+walk c n (Lost_old why ∷ replies) (Keeps change rest) h last x disk s goes same w = falls n last change why s w.said
+walk c n replies (Falls why) h last x disk s goes same w = down_ends n last (gone_line n why ++ []) s (tt, tt) w.said

@@ -1,5 +1,5 @@
 -- When a node may answer a command in a step: one that waits, once.
-use Rattle.std.specs.Prelude.{ℕ, ◌≡◌, ◌⊎◌, ◌++◌, Bool, true, false, List, [], ◌∷◌, Some}
+use Rattle.std.specs.Prelude.{ℕ, ◌≡◌, ◌⊎◌, ◌++◌, true, false, List, [], ◌∷◌, Some, is_some}
 use Rattle.std.specs.List.{AllByRecursion}
 use Rattle.request_queue.specs.Queue.{Queue, oldest_in}
 use Rattle.request_queue.specs.declared.request.Request.{Request}
@@ -8,6 +8,7 @@ use Rattle.status_report.specs.declared.command_entry.CommandEntry.TheVariants a
 use Rattle.status_report.specs.declared.entry.Entry.{Entry}
 use Rattle.status_report.specs.declared.entry.Entry.TheVariants as entry
 use Rattle.status_report.specs.declared.node_entry.NodeEntry.TheVariants as note
+use Rattle.node_model.specs.Seats.{coordinator_of, is_member}
 use Rattle.node_model.specs.declared.cluster.Cluster.{Cluster}
 use Rattle.node_model.specs.declared.node.UpNode.{UpNode}
 use Rattle.node_model.specs.declared.output.Output.{Output}
@@ -98,10 +99,15 @@ waiting_by Drops waiting = rest_of waiting
 waiting_by (Takes r) waiting = rest_of waiting
 waiting_by (Joins r) waiting = waiting ++ r ∷ []
 
+-- the first request is a monitor's
+abbrev pub FirstUntold : List Request → Type 0
+FirstUntold [] = Unit {0}
+FirstUntold (r ∷ rs) = r.told ≡ false
+
 abbrev pub MayMove : Move → Hand → List Request → Hand → Type 0
 MayMove Stays h waiting after = IsUnspent h × (after ≡ h)
 MayMove Pops h waiting after = IsSpent h × (after ≡ Free)
-MayMove Drops h waiting after = (h ≡ Free) × (after ≡ Free)
+MayMove Drops h waiting after = (h ≡ Free) × FirstUntold waiting × (after ≡ Free)
 MayMove (Takes r) h waiting after = (h ≡ Free) × (oldest_in waiting ≡ Some r) × (r.told ≡ true) × (after ≡ Held r.number)
 MayMove (Joins r) h waiting after = (h ≡ Held r.number) × (r.told ≡ true) × (after ≡ Free)
 
@@ -110,6 +116,10 @@ pub record QueueGoes (h : Hand) (before after : Queue) (g : Hand) : Type 0 where
   pub waiting : after.waiting ≡ waiting_by move before.waiting
   pub asked : after.asked ≡ before.asked
   pub may : MayMove move h before.waiting g
+
+-- the coordinator of a member's session is a node
+abbrev pub IsLed : UpNode → Type 0
+IsLed x = is_member x.seat ≡ true → is_some (coordinator_of x) ≡ true
 
 -- ---- how a course goes
 
@@ -123,13 +133,9 @@ ActSo own h x (Minds q p) g = QueueGoes h x.requests q g
 ActSo own h x (Makes change) g = ChangeSo h x change g
 ActSo own h x _ g = g ≡ h
 
--- at its end the command that came may wait on, if it may
-abbrev pub EndsSo : Bool → Hand → Type 0
-EndsSo false h = IsFree h
-EndsSo true h = IsUnspent h
-
-abbrev pub GoesSo : Bool → Cluster → ℕ → Hand → UpNode → Course → Type 0
-GoesSo loose c own h x Stops = EndsSo loose h
-GoesSo loose c own h x (Acts a rest) = (g : Hand) × ActSo own h x a g × GoesSo loose c own g (acted c own x a) rest
-GoesSo loose c own h x (Keeps change rest) = (g : Hand) × ChangeSo h x change g × GoesSo loose c own g (changed c own x change) rest
-GoesSo loose c own h x (Course_falls why) = Unit {0}
+-- at its end each command that waits has its request in the queue
+abbrev pub GoesSo : Cluster → ℕ → Hand → UpNode → Course → Type 0
+GoesSo c own h x Stops = IsFree h
+GoesSo c own h x (Acts a rest) = (g : Hand) × ActSo own h x a g × GoesSo c own g (acted c own x a) rest
+GoesSo c own h x (Keeps change rest) = (g : Hand) × ChangeSo h x change g × GoesSo c own g (changed c own x change) rest
+GoesSo c own h x (Course_falls why) = Unit {0}

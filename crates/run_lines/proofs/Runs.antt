@@ -96,7 +96,7 @@ copy_ready : (s : Scene) (b : Bool) (number : ℕ) (x : Packet) → IsReady s (i
 copy_ready s true number x = refl
 copy_ready s false number x = tt
 
-ready_of : (c : Cluster) (s : Scene) (e : Event) → IsReady s (brings c s e)
+pub ready_of : (c : Cluster) (s : Scene) (e : Event) → IsReady s (brings c s e)
 ready_of c s (event.Boot n) = boot_ready s n (s.nodes.node n) refl
 ready_of c s (event.Crash n) = up_ready s (s.nodes.node n) (λ x. taking_this n input.Crash) (λ x is. (is_up_at s n x is, refl))
 ready_of c s (event.CrashAt n calls choice) = (tt, refl)
@@ -191,7 +191,7 @@ node_presides : (c : Cluster) (M : Memberships) (n : ℕ) (disk : NodeRecord) (z
 node_presides c M n disk Down h = tt
 node_presides c M n disk (Up x) h = tied_presides M n x.presidency x.seat h.1
 
-stage_presides : (c : Cluster) (s : Scene) → Stage c s → (n : ℕ) → NodePresides n (s.nodes.node n)
+pub stage_presides : (c : Cluster) (s : Scene) → Stage c s → (n : ℕ) → NodePresides n (s.nodes.node n)
 stage_presides c s k n = node_presides c k.machine n (s.nodes.disk n).kept (s.nodes.node n) (k.stands n).tied
 
 -- what the lines say of each scene of a run

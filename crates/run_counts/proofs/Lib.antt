@@ -1,0 +1,12 @@
+pub mod Given
+pub mod Presidents
+pub mod Free
+pub mod Courses
+pub mod Newest
+pub mod InHand
+pub mod Votes
+pub mod Ended
+pub mod Lines
+pub mod Doings
+pub mod Steps
+pub mod Runs

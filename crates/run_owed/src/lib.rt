@@ -1,0 +1,19 @@
+//! What is owed in each event, in each run of the simulated world: of the messages that `history` says are owed, the Prepares of a proposal; and that all
+//! doings in one event are one node's.
+//!
+//! Each function here is a law. It has no body, and its contract is proved of every header, every list of lines, everything that happens and
+//! all agents.
+#![tactic(auto)]
+
+ghost use Rattle.run_owed.specs.Laws.{OneNodeOfEachRun, PreparesOfEachRun};
+
+/// All entries of an event are the doings of one node, or nobody's: a node tells of attempts and memberships that it coordinates, and of no others.
+pub fn one_node_of_each_run()
+    ensures { OneNodeOfEachRun }
+{}
+
+/// Each proposal has its Prepares in its event, one to each other member that the `start` line names, unless the president goes down there. Nothing is
+/// said of an event behind which no packet number is left.
+pub fn prepares_of_each_run()
+    ensures { PreparesOfEachRun }
+{}

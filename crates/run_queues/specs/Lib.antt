@@ -1,0 +1,4 @@
+pub mod Told
+pub mod Laws
+-- what only the proofs need
+pub mod Kept

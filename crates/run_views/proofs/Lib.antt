@@ -1,0 +1,11 @@
+pub mod Ages
+pub mod Same
+pub mod Walk
+pub mod Lists
+pub mod Single
+pub mod Begins
+pub mod Steps
+pub mod Plain
+pub mod Strays
+pub mod Accounts
+pub mod Runs
