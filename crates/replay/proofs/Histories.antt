@@ -36,6 +36,8 @@ use Rattle.run_owed.proofs.Runs as owed
 use Rattle.run_queues.proofs.Disks.{disk_lines_of_each_run}
 use Rattle.run_readings.proofs.Runs as readings
 use Rattle.run_taken.proofs.Laws as taken
+use Rattle.run_valid.proofs.Runs as valid
+use Rattle.run_valid.proofs.Told.{installs_tell_seizings}
 use Rattle.run_views.proofs.Runs as views
 use Rattle.run_writes.proofs.Runs.{writes_of_each_run}
 use Rattle.run_rounds.specs.Laws.{AsksSome}
@@ -190,6 +192,10 @@ told_trace h events text p header disks asks is told =
       names_members = endings.ends_name_members_in_each_run h 65536 told.happenings header.devices header.cluster_high told.may;
       foreign = counts.foreign_of_each_run h 65536 told.happenings header.devices header.cluster_high told.may;
       needed = counts.needed_of_each_run h 65536 told.happenings header.devices header.cluster_high told.may;
+      counted = counts.counted_of_each_run h 65536 told.happenings header.devices header.cluster_high told.may;
+      lacking = counts.lacking_of_each_run h 65536 told.happenings header.devices header.cluster_high told.may;
+      one_seizer = valid.one_seizer_in_each_run h 65536 told.happenings header.devices header.cluster_high told.may;
+      installs_told = installs_tell_seizings h 65536 told.happenings header.devices header.cluster_high told.may;
       seizeds = readings.seizeds_say_what_was_read h 65536 told.happenings header.devices header.cluster_high told.may;
       readings = readings.readings_are_of_seizers h 65536 told.happenings header.devices header.cluster_high told.may;
       valid_shown = promises_show_validity_in_each_run h 65536 told.happenings header.devices header.cluster_high built told.may told.shaped;

@@ -32,12 +32,13 @@ use Rattle.run_commands.specs.Own.{OwnAnswersFit}
 use Rattle.run_endings.specs.Laws.{EndsInTick, EndsUnderWay, HasPromises, HasWaited, IsSuperseded, NamesMember}
 use Rattle.run_downs.specs.Laws.{BootIsSaid, CrashIsSaid, FencedByWrite, SavesInEvent, StopComes, StopsAtStop}
 use Rattle.run_history.specs.Telling.{lines_upon}
+use Rattle.run_valid.specs.Laws.{OneSeizer, TellsSeizings}
 use Rattle.run_validity.specs.Laws.{ShowsValidity}
 use Rattle.run_history.specs.Scenes.{text_of}
 use Rattle.run_lines.specs.Laws.{IsAnswered}
 use Rattle.run_writes.specs.Laws.{IsWritten}
 use Rattle.run_rounds.specs.Parts.{PartsInOrder, shown}
-use Rattle.run_counts.specs.Laws.{EndsForeign, EndsShort}
+use Rattle.run_counts.specs.Laws.{EndsForeign, EndsNeeding, EndsShort, NamesLacking}
 use Rattle.run_owed.specs.Laws.{HasPrepares, IsOfOne}
 use Rattle.run_queues.specs.Laws.{IsDone}
 use Rattle.run_readings.specs.Laws.{BringsWhatWasRead, SaysWhatWasRead}
@@ -110,9 +111,13 @@ pub record IsTrace (h : Header) (events : List Event) (text : List ℕ) : Type 0
   pub promised : Always HasPromises moments
   pub names_members : Always NamesMember moments
   pub foreign : Always (EndsForeign (setting_of h)) moments
-  pub needed : Always (EndsShort (setting_of h)) moments
+  pub needed : Always (EndsNeeding (setting_of h)) moments
+  pub counted : Always (EndsShort (setting_of h)) moments
+  pub lacking : Always (NamesLacking (setting_of h)) moments
   pub seizeds : Always (SaysWhatWasRead h) moments
   pub readings : Always (BringsWhatWasRead h) moments
+  pub one_seizer : OneSeizer h moments
+  pub installs_told : Always (TellsSeizings h) moments
   pub valid_shown : Always (ShowsValidity h) moments
   pub holds : length (lines_of moments) < 2 ^ 63 → Holds (setting_of h) moments
   pub answers_once : length (lines_of moments) < 2 ^ 63 → AnswersOnce moments

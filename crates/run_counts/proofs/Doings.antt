@@ -29,6 +29,7 @@ use Rattle.run_records.specs.Kept.{Goes}
 use Rattle.status_report.specs.declared.node_entry.DownCause.{DownCause}
 use Rattle.run_counts.specs.Ends.{ActFits, DoingFits, Last, last_after, last_by, last_by_change}
 use Rattle.run_counts.specs.Facts.{AllDue, CountsIn, Foretold, LastTied}
+use Rattle.run_counts.specs.Shorts.{NodePlanned}
 use Rattle.run_counts.proofs.Ended.{Tied, ends_due, tied_of}
 use Rattle.run_counts.proofs.Given.{call_ends_so}
 use Rattle.run_counts.proofs.Lines.{ArePlain, IsMild, IsPlain, first_plain, passing_due, said_plain, saved_plain}
@@ -77,33 +78,33 @@ gone_plain n change why = both IsPlain (first_lines n change) (gone_line n why) 
 mild_goes : (S : Setting) (c : Cluster) (n : ℕ) (x : UpNode) (a : Act) (s : Scene) → IsMild a → ActSo a → AllDue S s.moments → AllDue S (passing n (said c n x a) s).moments
 mild_goes S c n x a s mild so due = passing_due S n (said c n x a) s (said_plain c n x a mild so) due
 
-act_goes : (S : Setting) (c : Cluster) (M : Memberships) (n : ℕ) (told : Delivered) (v : Nodes) (x : UpNode) (disk : NodeRecord) (a : Act) (last : Last) (s : Scene) → CountsIn S c → Holds (setting_of c) M → NodeTied c M n disk (Up x) → LastTied c M last
+act_goes : (S : Setting) (c : Cluster) (M : Memberships) (n : ℕ) (told : Delivered) (v : Nodes) (x : UpNode) (disk : NodeRecord) (a : Act) (last : Last) (s : Scene) → CountsIn S c → Holds (setting_of c) M → NodeTied c M n disk (Up x) → NodePlanned c (Up x) → LastTied c M last
     → ActFits last x a → ActSo a → Notes s.moments n (site (Up x) disk) → Goes n told v M (site (Up x) disk) s → AllDue S s.moments → AllDue S (passing n (said c n x a) s).moments
-act_goes S c M n told v x disk (Ends a why) last s counts holds tied h fits so notes goes due = (ends_due S c M n told v x disk a why last s counts holds tied fits.0 h fits.1 notes goes, due)
-act_goes S c M n told v x disk (Hears from b) last s counts holds tied h fits so notes goes due = mild_goes S c n x (Hears from b) s tt so due
-act_goes S c M n told v x disk Ticks last s counts holds tied h fits so notes goes due = mild_goes S c n x Ticks s tt so due
-act_goes S c M n told v x disk Waits last s counts holds tied h fits so notes goes due = mild_goes S c n x Waits s tt so due
-act_goes S c M n told v x disk (Goes_on a k) last s counts holds tied h fits so notes goes due = mild_goes S c n x (Goes_on a k) s tt so due
-act_goes S c M n told v x disk (Queues a d kind) last s counts holds tied h fits so notes goes due = mild_goes S c n x (Queues a d kind) s tt so due
-act_goes S c M n told v x disk (Accepts kind e members d) last s counts holds tied h fits so notes goes due = mild_goes S c n x (Accepts kind e members d) s tt so due
-act_goes S c M n told v x disk (Takes at command a) last s counts holds tied h fits so notes goes due = mild_goes S c n x (Takes at command a) s tt so due
-act_goes S c M n told v x disk (Stores d value a) last s counts holds tied h fits so notes goes due = mild_goes S c n x (Stores d value a) s tt so due
-act_goes S c M n told v x disk (Writes to b) last s counts holds tied h fits so notes goes due = mild_goes S c n x (Writes to b) s tt so due
-act_goes S c M n told v x disk (Makes change) last s counts holds tied h fits so notes goes due = mild_goes S c n x (Makes change) s tt so due
-act_goes S c M n told v x disk (Gives os) last s counts holds tied h fits so notes goes due = mild_goes S c n x (Gives os) s tt so due
-act_goes S c M n told v x disk (Spreads receivers b) last s counts holds tied h fits so notes goes due = mild_goes S c n x (Spreads receivers b) s tt so due
-act_goes S c M n told v x disk (Minds q p) last s counts holds tied h fits so notes goes due = mild_goes S c n x (Minds q p) s tt so due
-act_goes S c M n told v x disk (Notes_prepared from place p) last s counts holds tied h fits so notes goes due = mild_goes S c n x (Notes_prepared from place p) s tt so due
-act_goes S c M n told v x disk (Dates now) last s counts holds tied h fits so notes goes due = mild_goes S c n x (Dates now) s tt so due
-act_goes S c M n told v x disk (Works w) last s counts holds tied h fits so notes goes due = mild_goes S c n x (Works w) s tt so due
+act_goes S c M n told v x disk (Ends a why) last s counts holds tied planned h fits so notes goes due = (ends_due S c M n told v x disk a why last s counts holds tied planned fits.0 h fits.1 notes goes, due)
+act_goes S c M n told v x disk (Hears from b) last s counts holds tied planned h fits so notes goes due = mild_goes S c n x (Hears from b) s tt so due
+act_goes S c M n told v x disk Ticks last s counts holds tied planned h fits so notes goes due = mild_goes S c n x Ticks s tt so due
+act_goes S c M n told v x disk Waits last s counts holds tied planned h fits so notes goes due = mild_goes S c n x Waits s tt so due
+act_goes S c M n told v x disk (Goes_on a k) last s counts holds tied planned h fits so notes goes due = mild_goes S c n x (Goes_on a k) s tt so due
+act_goes S c M n told v x disk (Queues a d kind) last s counts holds tied planned h fits so notes goes due = mild_goes S c n x (Queues a d kind) s tt so due
+act_goes S c M n told v x disk (Accepts kind e members d) last s counts holds tied planned h fits so notes goes due = mild_goes S c n x (Accepts kind e members d) s tt so due
+act_goes S c M n told v x disk (Takes at command a) last s counts holds tied planned h fits so notes goes due = mild_goes S c n x (Takes at command a) s tt so due
+act_goes S c M n told v x disk (Stores d value a) last s counts holds tied planned h fits so notes goes due = mild_goes S c n x (Stores d value a) s tt so due
+act_goes S c M n told v x disk (Writes to b) last s counts holds tied planned h fits so notes goes due = mild_goes S c n x (Writes to b) s tt so due
+act_goes S c M n told v x disk (Makes change) last s counts holds tied planned h fits so notes goes due = mild_goes S c n x (Makes change) s tt so due
+act_goes S c M n told v x disk (Gives os) last s counts holds tied planned h fits so notes goes due = mild_goes S c n x (Gives os) s tt so due
+act_goes S c M n told v x disk (Spreads receivers b) last s counts holds tied planned h fits so notes goes due = mild_goes S c n x (Spreads receivers b) s tt so due
+act_goes S c M n told v x disk (Minds q p) last s counts holds tied planned h fits so notes goes due = mild_goes S c n x (Minds q p) s tt so due
+act_goes S c M n told v x disk (Notes_prepared from place p) last s counts holds tied planned h fits so notes goes due = mild_goes S c n x (Notes_prepared from place p) s tt so due
+act_goes S c M n told v x disk (Dates now) last s counts holds tied planned h fits so notes goes due = mild_goes S c n x (Dates now) s tt so due
+act_goes S c M n told v x disk (Works w) last s counts holds tied planned h fits so notes goes due = mild_goes S c n x (Works w) s tt so due
 
-pub doing_goes : (S : Setting) (c : Cluster) (M : Memberships) (n : ℕ) (told : Delivered) (v : Nodes) (node : Node) (disk : NodeRecord) (d : Doing) (last : Last) (s : Scene) → CountsIn S c → Holds (setting_of c) M → NodeTied c M n disk node
+pub doing_goes : (S : Setting) (c : Cluster) (M : Memberships) (n : ℕ) (told : Delivered) (v : Nodes) (node : Node) (disk : NodeRecord) (d : Doing) (last : Last) (s : Scene) → CountsIn S c → Holds (setting_of c) M → NodeTied c M n disk node → NodePlanned c node
     → LastTied c M last → DoingFits last (site node disk) d → DoingSo d → Notes s.moments n (site node disk) → Goes n told v M (site node disk) s → AllDue S s.moments → AllDue S (passing n (gives c n (site node disk) d) s).moments
-doing_goes S c M n told v (Up x) disk (Does a) last s counts holds tied h fits so notes goes due = act_goes S c M n told v x disk a last s counts holds tied h fits so notes goes due
-doing_goes S c M n told v Down disk (Does a) last s counts holds tied h fits so notes goes due = due
-doing_goes S c M n told v (Up x) disk (Saves change) last s counts holds tied h fits so notes goes due = passing_due S n (first_lines n change ++ saved_lines c n x change) s (saved_plain c n x change) due
-doing_goes S c M n told v Down disk (Saves change) last s counts holds tied h fits so notes goes due = due
-doing_goes S c M n told v node disk Comes_up last s counts holds tied h fits so notes goes due = (tt, due)
-doing_goes S c M n told v node disk (Goes_down why) last s counts holds tied h fits so notes goes due = (tt, due)
-doing_goes S c M n told v node disk (Loses change why) last s counts holds tied h fits so notes goes due = passing_due S n (first_lines n change ++ gone_line n why) s (gone_plain n change why) due
-doing_goes S c M n told v node disk (Forgets change why) last s counts holds tied h fits so notes goes due = passing_due S n (first_lines n change ++ gone_line n why) s (gone_plain n change why) due
+doing_goes S c M n told v (Up x) disk (Does a) last s counts holds tied planned h fits so notes goes due = act_goes S c M n told v x disk a last s counts holds tied planned h fits so notes goes due
+doing_goes S c M n told v Down disk (Does a) last s counts holds tied planned h fits so notes goes due = due
+doing_goes S c M n told v (Up x) disk (Saves change) last s counts holds tied planned h fits so notes goes due = passing_due S n (first_lines n change ++ saved_lines c n x change) s (saved_plain c n x change) due
+doing_goes S c M n told v Down disk (Saves change) last s counts holds tied planned h fits so notes goes due = due
+doing_goes S c M n told v node disk Comes_up last s counts holds tied planned h fits so notes goes due = (tt, due)
+doing_goes S c M n told v node disk (Goes_down why) last s counts holds tied planned h fits so notes goes due = (tt, due)
+doing_goes S c M n told v node disk (Loses change why) last s counts holds tied planned h fits so notes goes due = passing_due S n (first_lines n change ++ gone_line n why) s (gone_plain n change why) due
+doing_goes S c M n told v node disk (Forgets change why) last s counts holds tied planned h fits so notes goes due = passing_due S n (first_lines n change ++ gone_line n why) s (gone_plain n change why) due

@@ -14,7 +14,7 @@ use Rattle.cmm_attempt.specs.declared.step.AttemptEnd.{AttemptEnd}
 use Rattle.cmm_attempt.specs.declared.step.AttemptEnd.TheVariants as end
 use Rattle.cmm_member.specs.Nodes.{NodeState}
 use Rattle.cmm_member.specs.Records.{NodeRecord}
-use Rattle.history.specs.Attempts.{is_foreign_to}
+use Rattle.history.specs.Attempts.{counts, counts_for, is_foreign_to, may_be_enough}
 use Rattle.history.specs.Member.{members_of}
 use Rattle.history.specs.Moment.{Told}
 use Rattle.history.specs.Queue.{is_enabled}
@@ -48,8 +48,11 @@ use Rattle.run_records.specs.Shown.{IsOf}
 use Rattle.status_report.specs.declared.entry.Entry.TheVariants as entry
 use Rattle.run_counts.specs.Ends.{IsGivenBy, Last}
 use Rattle.run_counts.specs.Facts.{AreOf, CountsIn, ForeignTo, Foretold, IsDue, Known, LastTied, NeedsOf, NeedsUnder, ShortOf}
-use Rattle.run_counts.specs.Laws.{needs_for, needs_under}
+use Rattle.run_counts.specs.Laws.{AreNamed, needs_for, needs_under}
+use Rattle.run_counts.specs.Shorts.{AttemptPlanned, IsPlaced, NodePlanned}
 use Rattle.run_counts.proofs.InHand.{HasNewestOf, committed_is, in_hand, newest_passes}
+use Rattle.run_counts.proofs.Places.{OfHeader}
+use Rattle.run_counts.proofs.Stages.{CountsUnder, short_counts, short_names}
 
 -- ---- the attempt of a node that is up is tied
 
@@ -74,8 +77,8 @@ record Counted (S : Setting) (r : Shown) (both : BothVotes) : Type 0 where
 
 counted_so : (S : Setting) (c : Cluster) (r : Shown) (s : Saved) (both : BothVotes) → CountsIn S c → IsOf r s → AreOf c s both → Counted S r both
 counted_so S c r s both counts h of = record {
-  committed = counts (take (committed_of r) r.texts) ∙ (ap (votes_under c) (ap (λ k. take k r.texts) (committed_is r s h) ∙ ap (λ xs. take s.committed xs) h.texts) ∙ sym of.committed);
-  all = counts r.texts ∙ (ap (votes_under c) h.texts ∙ sym of.all);
+  committed = counts.votes (take (committed_of r) r.texts) ∙ (ap (votes_under c) (ap (λ k. take k r.texts) (committed_is r s h) ∙ ap (λ xs. take s.committed xs) h.texts) ∙ sym of.committed);
+  all = counts.votes r.texts ∙ (ap (votes_under c) h.texts ∙ sym of.all);
 }
 
 -- ---- a foreign member
@@ -141,6 +144,27 @@ needs_of_record S r both need lacking h (inl under) = or_first _ (needs_under (S
 needs_of_record S r both need lacking h (inr under) =
     or_second (needs_under (S.votes (take (committed_of r) r.texts)) need lacking) _ (needs_so (unwrap_or both.pending both.committed) (S.votes r.texts) need lacking h.all under)
 
+-- ---- what is counted
+
+counts_of_record : (S : Setting) (r : Shown) (both : BothVotes) (members have need : ℕ) (lacking : List Lack) → Counted S r both → CountsUnder S.header both members have need lacking → counts_for S r members have need lacking ≡ true
+counts_of_record S r both members have need lacking h (inl under) =
+    or_first (counts S.header (S.votes (take (committed_of r) r.texts)) members have need lacking) _ (subst (λ v. counts S.header v members have need lacking ≡ true) (sym h.committed) under)
+counts_of_record S r both members have need lacking h (inr under) =
+    or_second (counts S.header (S.votes (take (committed_of r) r.texts)) members have need lacking) _
+    (and_both (may_be_enough S.header (S.votes (take (committed_of r) r.texts)) members lacking) _ (subst (λ v. may_be_enough S.header v members lacking ≡ true) (sym h.committed) under.0)
+    (subst (λ v. counts S.header v members have need lacking ≡ true) (sym h.all) under.1))
+
+of_header : (S : Setting) (c : Cluster) (a : AttemptState) → CountsIn S c → a.plan.attached ≡ c.attached → a.plan.nodes ≡ nodes_of a.plan.members → OfHeader S.header a.plan
+of_header S c a counted planned nodes = record { few = counted.few; attached = planned ∙ counted.attached; nodes = nodes }
+
+-- what the attempt counts is counted under the votes of the record
+counted_of_record : (S : Setting) (c : Cluster) (M : Memberships) (r : Shown) (a : AttemptState) (have need : ℕ) (lacking : List Lack) → CountsIn S c → a.plan.attached ≡ c.attached → a.plan.nodes ≡ nodes_of a.plan.members
+    → (f : ShortOf c M a have need lacking) → Counted S r f.both → counts_for S r a.plan.members have need lacking ≡ true
+counted_of_record S c M r a have need lacking counted planned nodes f h =
+    counts_of_record S r f.both a.plan.members have need lacking h
+    (short_counts S.header a f.both have need lacking (of_header S c a counted planned nodes) (subst (IsPlaced S.header) h.committed (counted.placed (take (committed_of r) r.texts)))
+    (subst (IsPlaced S.header) h.all (counted.placed r.texts)) f.given f.short)
+
 -- ---- the records in hand
 
 -- the newest of them has the votes that the attempt was given; so what they pass is passed by one of the newest
@@ -176,8 +200,8 @@ foretold_of c M (Some l) a why h given = subst (λ z. Foretold c M z why) (sym g
 -- ---- the line
 
 pub ends_due : (S : Setting) (c : Cluster) (M : Memberships) (n : ℕ) (told : Delivered) (v : Nodes) (x : UpNode) (disk : NodeRecord) (a : AttemptState) (why : AttemptEnd) (last : Last) (s : Scene) → CountsIn S c → Holds (setting_of c) M
-    → NodeTied c M n disk (Up x) → x.attempt ≡ Some a → LastTied c M last → IsGivenBy last a why → Notes s.moments n (site (Up x) disk) → Goes n told v M (site (Up x) disk) s → IsDue S s.moments (Told (entry.Attempt (ended_entry a.plan.epoch why)))
-ends_due S c M n told v x disk a (end.Foreign m) last s counts holds tied is h given notes goes =
+    → NodeTied c M n disk (Up x) → NodePlanned c (Up x) → x.attempt ≡ Some a → LastTied c M last → IsGivenBy last a why → Notes s.moments n (site (Up x) disk) → Goes n told v M (site (Up x) disk) s → IsDue S s.moments (Told (entry.Attempt (ended_entry a.plan.epoch why)))
+ends_due S c M n told v x disk a (end.Foreign m) last s counts holds tied planned is h given notes goes =
     let t : Tied c M n a = tied_of c M n disk x a tied is in
     let f : ForeignTo c M a m = foretold_of c M last a (end.Foreign m) h given in
     let note : noted.AttemptNoted s.moments n a = subst (noted.AttemptIn s.moments n) is notes.up.attempt in
@@ -185,11 +209,17 @@ ends_due S c M n told v x disk a (end.Foreign m) last s counts holds tied is h g
     let nodes : a.plan.nodes ≡ nodes_of (members_of a.plan.epoch s.moments) = t.co.has.nodes ∙ ap (λ set. numbers_to set most_nodes) (sym note.members) in
     counts_newest S c M n told v x disk (record_of x) a f.both (λ z. is_number m (find (is_foreign_to S z) (nodes_of (members_of a.plan.epoch s.moments)))) s counts holds t f.known kept goes
     (λ z counted. names_least S z f.both (nodes_of (members_of a.plan.epoch s.moments)) m counted (subst (λ ns. first_foreign f.both ns ≡ Some m) nodes f.least))
-ends_due S c M n told v x disk a (end.Votes have need lacking) last s counts holds tied is h given notes goes =
+ends_due S c M n told v x disk a (end.Votes have need lacking) last s counts holds tied planned is h given notes goes =
     let t : Tied c M n a = tied_of c M n disk x a tied is in
-    let f : ShortOf c M a need lacking = foretold_of c M last a (end.Votes have need lacking) h given in
+    let f : ShortOf c M a have need lacking = foretold_of c M last a (end.Votes have need lacking) h given in
+    let note : noted.AttemptNoted s.moments n a = subst (noted.AttemptIn s.moments n) is notes.up.attempt in
     let kept : AttemptKept M s.moments n (record_of x) a = subst (AttemptIn M s.moments n (record_of x)) is goes.here.up.attempt in
-    counts_newest S c M n told v x disk (record_of x) a f.both (λ z. needs_for S z need lacking) s counts holds t f.known kept goes (λ z counted. needs_of_record S z f.both need lacking counted f.needs)
-ends_due S c M n told v x disk a (end.Superseded q) last s counts holds tied is h given notes goes = tt
-ends_due S c M n told v x disk a (end.Silent m) last s counts holds tied is h given notes goes = tt
-ends_due S c M n told v x disk a (end.Excluded m) last s counts holds tied is h given notes goes = tt
+    let own : a.plan.attached ≡ c.attached = subst (AttemptPlanned c) is planned in (
+      counts_newest S c M n told v x disk (record_of x) a f.both (λ z. counts_for S z (members_of a.plan.epoch s.moments) have need lacking) s counts holds t f.known kept goes
+          (λ z counted. subst (λ set. counts_for S z set have need lacking ≡ true) (sym note.members) (counted_of_record S c M z a have need lacking counts own t.co.has.nodes f counted)),
+      counts_newest S c M n told v x disk (record_of x) a f.both (λ z. needs_for S z need lacking) s counts holds t f.known kept goes (λ z counted. needs_of_record S z f.both need lacking counted f.needs),
+      subst (λ set. AreNamed S.header set lacking) (sym note.members) (short_names S.header a have need lacking (of_header S c a counts own t.co.has.nodes) f.short),
+    )
+ends_due S c M n told v x disk a (end.Superseded q) last s counts holds tied planned is h given notes goes = tt
+ends_due S c M n told v x disk a (end.Silent m) last s counts holds tied planned is h given notes goes = tt
+ends_due S c M n told v x disk a (end.Excluded m) last s counts holds tied planned is h given notes goes = tt

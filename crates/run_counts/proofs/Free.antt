@@ -64,7 +64,7 @@ use Rattle.node_model.specs.Requests.{is_idle, numbered, waiting_with}
 use Rattle.node_model.specs.Updates.{commits_now, is_of_member}
 use Rattle.refinement.specs.Courses.Course.{Acts, Stops}
 use Rattle.refinement.specs.Cuts as cuts
-use Rattle.std.specs.Prelude.{ℕ, ◌==◌, ◌&&◌, nat_lt, not, Bool, List, length, Option, None, Some, Result, Ok, Err, is_some, if◌then◌else◌}
+use Rattle.std.specs.Prelude.{ℕ, ◌==◌, ◌&&◌, nat_lt, not, Bool, List, length, Option, None, Some, Result, Ok, Err, is_some}
 use Rattle.node_model.specs.Seats.{coordinator_of, installed_of, is_in, is_member, promised_of, record_of, version_of}
 use Rattle.refinement.specs.Doings.{changed}
 use Rattle.refinement.specs.Doings.Act.{Gives}

@@ -1,6 +1,7 @@
 -- In each run the line of an attempt that ends by what it counts is due.
-use Rattle.std.specs.Prelude.{ℕ, ◌-◌, ◌≡◌, List, [], ◌∷◌, Option, None, Some, slice_get}
-use Rattle.std.proofs.Common.{◌∙◌}
+use Rattle.std.specs.Prelude.{ℕ, ◌-◌, ◌≡◌, ◌≤◌, List, [], ◌∷◌, length, Option, None, Some, slice_get}
+use Rattle.std.proofs.Common.{refl, ◌∙◌}
+use Rattle.cl_base.specs.Limits.{most_devices}
 use Rattle.cl_base.specs.declared.header.Header.{Header}
 use Rattle.history.specs.Letters.{arrived}
 use Rattle.history.specs.Moment.{Moment, Told}
@@ -41,8 +42,10 @@ use Rattle.status_report.specs.declared.entry.Entry.TheVariants as entry
 use Rattle.status_report.specs.declared.packet_entry.PacketEntry.TheVariants as packet
 use Rattle.world_model.specs.First.{first_cluster}
 use Rattle.run_counts.specs.Facts.{AllDue, CountsIn, IsDue}
-use Rattle.run_counts.specs.Laws.{EndsForeign, EndsShort, ForeignOfEachRun, NeededOfEachRun}
+use Rattle.run_counts.specs.Laws.{CountedOfEachRun, EndsForeign, EndsNeeding, EndsShort, ForeignOfEachRun, LackingOfEachRun, NamesLacking, NeededOfEachRun}
 use Rattle.run_counts.proofs.Lines.{dropped_due}
+use Rattle.run_counts.proofs.Placed.{config_placed}
+use Rattle.run_counts.proofs.Planned.{ScenePlanned, happening_planned}
 use Rattle.run_counts.proofs.Steps.{step_due}
 
 -- ---- what comes
@@ -73,33 +76,37 @@ commanded_due : (S : Setting) (s : Scene) (n d : ℕ) (o : Option Device) (k : P
 commanded_due S s n d None k h = h
 commanded_due S s n d (Some x) k h = h
 
+commanded_planned : (c : Cluster) (s : Scene) (n d : ℕ) (o : Option Device) (k : PrCommand) → ScenePlanned c s → ScenePlanned c (commanded_at s n d o k).scene
+commanded_planned c s n d None k h = h
+commanded_planned c s n d (Some x) k h = h
+
 -- ---- each thing that happens
 
-happening_due : (S : Setting) (c : Cluster) (s : Scene) (h : Happening) → CountsIn S c → Sized c → MayHappen c s h → KnownScene c s → AllDue S s.moments → AllDue S (happened c s h).moments
-happening_due S c s (Speaks e) counts sized may a due = armed_due S c e (adding _ s) (tt, due)
-happening_due S c s (Begins e) counts sized may a due = (tt, due)
-happening_due S c s (Notes_of e) counts sized may a due = (tt, due)
-happening_due S c s (Takes n now ends i) counts sized may a due =
-    step_due S c n now ends i s counts sized may.0 may.2 (plain_sent s.nodes i may.1) (plain_fits i may.1) (plain_hand s.moments n i may.1) (plain_kept s.moments n i may.1 may.3) a due
-happening_due S c s (Arrives number x m now ends) counts sized may a due =
+happening_due : (S : Setting) (c : Cluster) (s : Scene) (h : Happening) → CountsIn S c → Sized c → MayHappen c s h → KnownScene c s → ScenePlanned c s → AllDue S s.moments → AllDue S (happened c s h).moments
+happening_due S c s (Speaks e) counts sized may a plans due = armed_due S c e (adding _ s) (tt, due)
+happening_due S c s (Begins e) counts sized may a plans due = (tt, due)
+happening_due S c s (Notes_of e) counts sized may a plans due = (tt, due)
+happening_due S c s (Takes n now ends i) counts sized may a plans due =
+    step_due S c n now ends i s counts sized may.0 may.2 (plain_sent s.nodes i may.1) (plain_fits i may.1) (plain_hand s.moments n i may.1) (plain_kept s.moments n i may.1 may.3) a plans due
+happening_due S c s (Arrives number x m now ends) counts sized may a plans due =
     step_due S c x.to now ends (Packet_in x.from m) (telling (entry.Packet (packet.Delivered number x.from x.to)) (removed s number)) counts sized may.3 may.5 may.4 tt
-    (arrived_hand c s number x m may.0 may.1 a.stage) (arrived_kept c s number x m may.0 may.1 a) (delivered_known c s number x.from x.to a) (tt, due)
-happening_due S c s (Strays number x) counts sized may a due = (tt, due)
-happening_due S c s (Misses number x) counts sized may a due = (tt, due)
-happening_due S c s (Loses number x) counts sized may a due = (tt, due)
-happening_due S c s (Repeats number x) counts sized may a due =
+    (arrived_hand c s number x m may.0 may.1 a.stage) (arrived_kept c s number x m may.0 may.1 a) (delivered_known c s number x.from x.to a) plans (tt, due)
+happening_due S c s (Strays number x) counts sized may a plans due = (tt, due)
+happening_due S c s (Misses number x) counts sized may a plans due = (tt, due)
+happening_due S c s (Loses number x) counts sized may a plans due = (tt, due)
+happening_due S c s (Repeats number x) counts sized may a plans due =
     let o : links.Outcome = sending s.links x.from x.to x.bytes in
     dropped_due S o.sent.dropped (telling (entry.Packet (packet.Repeated number s.links.next)) (with_links s o.after)) (tt, due)
-happening_due S c s (Commands n d k now ends) counts sized may a due =
+happening_due S c s (Commands n d k now ends) counts sized may a plans due =
     let o : After c s (commanded s n d k) = after_command c s n d k (due_keeps c s n d k sized may.0.0 may.0.1 may.2 a.stage) a in
     step_due S c n now ends (Answered (commanded s n d k).answer) (commanded s n d k).scene counts sized may.0 may.3 tt o.answer tt (o.apart ∙ may.4) o.known
-    (commanded_due S s n d (slice_get s.devices (d - 1)) k due)
-happening_due S c s (Writes n d value now ends) counts sized may a due =
+    (commanded_planned c s n d (slice_get s.devices (d - 1)) k plans) (commanded_due S s n d (slice_get s.devices (d - 1)) k due)
+happening_due S c s (Writes n d value now ends) counts sized may a plans due =
     let z : Commanded = commanded s n d (command.Write value) in
     let o : After c s z = after_command c s n d (command.Write value) (λ x fit. write_keeps n value x fit) a in
     step_due S c n now ends (Wrote d value z.answer) z.scene counts sized may.0 may.2 tt tt tt (o.apart ∙ may.3) o.known
-    (commanded_due S s n d (slice_get s.devices (d - 1)) (command.Write value) due)
-happening_due S c s (Refuses n d value cause) counts sized may a due = (tt, due)
+    (commanded_planned c s n d (slice_get s.devices (d - 1)) (command.Write value) plans) (commanded_due S s n d (slice_get s.devices (d - 1)) (command.Write value) due)
+happening_due S c s (Refuses n d value cause) counts sized may a plans due = (tt, due)
 
 -- ---- runs
 
@@ -111,28 +118,61 @@ all_foreign : (S : Setting) (ms : List Moment) → Always HasPromises ms → All
 all_foreign S [] promised due = tt
 all_foreign S (x ∷ before) promised due = (one_foreign S before x promised.0 due.0, all_foreign S before promised.1 due.1)
 
-first_due : (S : Setting) (h : Header) (cells : ℕ) → AllDue S (first_scene h cells).moments
-unfolding first_scene
-first_due S h cells = tt
+one_needing : (S : Setting) (before : List Moment) (x : Moment) → IsDue S before x → EndsNeeding S before x
+one_needing S before (Told (entry.Attempt (attempt_entry.Votes e have need lacking))) due = due.1
+one_needing S before _ due = tt
+
+all_needing : (S : Setting) (ms : List Moment) → AllDue S ms → Always (EndsNeeding S) ms
+all_needing S [] due = tt
+all_needing S (x ∷ before) due = (one_needing S before x due.0, all_needing S before due.1)
 
 one_short : (S : Setting) (before : List Moment) (x : Moment) → IsDue S before x → EndsShort S before x
-one_short S before (Told (entry.Attempt (attempt_entry.Votes e have need lacking))) due = due
+one_short S before (Told (entry.Attempt (attempt_entry.Votes e have need lacking))) due = due.0
 one_short S before _ due = tt
 
 all_short : (S : Setting) (ms : List Moment) → AllDue S ms → Always (EndsShort S) ms
 all_short S [] due = tt
 all_short S (x ∷ before) due = (one_short S before x due.0, all_short S before due.1)
 
+one_named : (S : Setting) (before : List Moment) (x : Moment) → IsDue S before x → NamesLacking S before x
+one_named S before (Told (entry.Attempt (attempt_entry.Votes e have need lacking))) due = due.2
+one_named S before _ due = tt
+
+all_named : (S : Setting) (ms : List Moment) → AllDue S ms → Always (NamesLacking S) ms
+all_named S [] due = tt
+all_named S (x ∷ before) due = (one_named S before x due.0, all_named S before due.1)
+
+counts_in : (h : Header) → length h.devices ≤ most_devices → CountsIn (setting_of h) (first_cluster h)
+counts_in h few = record { votes = setting_counts_votes h; few = few; attached = refl; placed = config_placed h }
+
+-- the attempts of a scene are over the devices of the cluster, and its lines are due
+abbrev SceneDue : Header → Scene → Type 0
+SceneDue h s = ScenePlanned (first_cluster h) s × AllDue (setting_of h) s.moments
+
+first_scene_due : (h : Header) (cells : ℕ) → SceneDue h (first_scene h cells)
+unfolding first_scene
+first_scene_due h cells = ((λ n. tt), tt)
+
 run_due : OfEachRunIn AllDue
 run_due h cells hs few small may =
     let size : IsSmall h = record { few = few; small = small } in
-    holds_of_each h cells (λ s. AllDue (setting_of h) s.moments)
-    (λ s x now at more due. happening_due (setting_of h) (first_cluster h) s x (setting_counts_votes h) (header_sized h few small) now (known_scene h cells s size at) due)
-    (first_due (setting_of h) h cells) hs may
+    (holds_of_each h cells (SceneDue h)
+    (λ s x now at more due.
+    let a : KnownScene (first_cluster h) s = known_scene h cells s size at in (
+      happening_planned (first_cluster h) s x (header_sized h few small) now a.stage due.0,
+      happening_due (setting_of h) (first_cluster h) s x (counts_in h few) (header_sized h few small) now a due.0 due.1,
+    ))
+    (first_scene_due h cells) hs may).1
 
 pub foreign_of_each_run : ForeignOfEachRun
 foreign_of_each_run h cells hs few small may =
     all_foreign (setting_of h) (all_happened (first_cluster h) (first_scene h cells) hs).moments (promised_in_each_run h cells hs few small may) (run_due h cells hs few small may)
 
 pub needed_of_each_run : NeededOfEachRun
-needed_of_each_run h cells hs few small may = all_short (setting_of h) (all_happened (first_cluster h) (first_scene h cells) hs).moments (run_due h cells hs few small may)
+needed_of_each_run h cells hs few small may = all_needing (setting_of h) (all_happened (first_cluster h) (first_scene h cells) hs).moments (run_due h cells hs few small may)
+
+pub counted_of_each_run : CountedOfEachRun
+counted_of_each_run h cells hs few small may = all_short (setting_of h) (all_happened (first_cluster h) (first_scene h cells) hs).moments (run_due h cells hs few small may)
+
+pub lacking_of_each_run : LackingOfEachRun
+lacking_of_each_run h cells hs few small may = all_named (setting_of h) (all_happened (first_cluster h) (first_scene h cells) hs).moments (run_due h cells hs few small may)

@@ -52,7 +52,9 @@ use Rattle.run_counts.specs.Ends as ends
 use Rattle.run_counts.specs.Ends.{Last, last_after}
 use Rattle.run_counts.specs.Facts.{AllDue, CountsIn, LastTied}
 use Rattle.run_counts.proofs.Courses.{doings_fit}
+use Rattle.run_counts.specs.Shorts.{NodePlanned}
 use Rattle.run_counts.proofs.Doings.{doing_goes, doing_tied}
+use Rattle.run_counts.proofs.Planned.{doing_planned}
 
 fit_parts : (n : ℕ) (os more : List Output) → AllFit n (os ++ more) → AllFit n os × AllFit n more
 fit_parts n [] more h = (tt, h)
@@ -65,9 +67,9 @@ fit_parts n (Sends to b ∷ os) more h =
 
 all_due : (S : Setting) (c : Cluster) (M : Memberships) (n : ℕ) (told : Delivered) (v w : Nodes) (x : Site) (small : List Doing) (led : Bool) (last : Last) (s : Scene) → CountsIn S c → All IsDevice c.attached → Holds (setting_of c) M → Known M told
     → SiteTied c M n x → MayAll c n told x small → AllSo small → AllLed n told led small → (led ≡ true → IsLed n x.node) → AllFit n (given_all c n x small) → AllTold_in c n told x small → AllApart told small → ends.AllFit c n last x small
-    → Walks n told v w M x s → Goes n told v M x s → LastTied c M last → AllDue S s.moments → AllDue S (passing n (given_all c n x small) s).moments
-all_due S c M n told v w x [] led last s counts fits i known tied may so leads own widths tells apart ending h mine latest due = due
-all_due S c M n told v w x (d ∷ small) led last s counts fits i known tied may so leads own widths tells apart ending h mine latest due =
+    → Walks n told v w M x s → Goes n told v M x s → NodePlanned c x.node → LastTied c M last → AllDue S s.moments → AllDue S (passing n (given_all c n x small) s).moments
+all_due S c M n told v w x [] led last s counts fits i known tied may so leads own widths tells apart ending h mine planned latest due = due
+all_due S c M n told v w x (d ∷ small) led last s counts fits i known tied may so leads own widths tells apart ending h mine planned latest due =
     let first : List Output = gives c n x d in
     let rest : List Output = given_all c n (effect c n x d) small in
     let parts : AllFit n first × AllFit n rest = fit_parts n first rest widths in
@@ -75,16 +77,16 @@ all_due S c M n told v w x (d ∷ small) led last s counts fits i known tied may
     let one : Walks n told v w g.machine (effect c n x d) (passing n first s) = doing_walks c M n told v w g.machine x led d s i known tied may.0 so.0 leads.0 own parts.0 g.grows g.run h in
     let two : Goes n told v g.machine (effect c n x d) (passing n first s) = records.doing_goes c M n told v g.machine x d s i known tied h.here may.0 so.0 tells.0 apart.0 parts.0 g.grows g.tied g.holds mine in
     let three : LastTied c g.machine (last_after last d) = doing_tied c M g.machine n told x.node x.disk d last i tied may.0 g.run latest in
-    let four : AllDue S (passing n first s).moments = doing_goes S c M n told v x.node x.disk d last s counts i tied latest ending.0 so.0 h.here mine due in
+    let four : AllDue S (passing n first s).moments = doing_goes S c M n told v x.node x.disk d last s counts i tied planned latest ending.0 so.0 h.here mine due in
     subst (λ (t : Scene). AllDue S t.moments) (sym (passing_append n first rest s))
     (all_due S c g.machine n told v w (effect c n x d) small (led_doing led d) (last_after last d) (passing n first s) counts fits g.holds (known_stays c M g.machine told i g.grows known) g.tied may.1 so.1 leads.1
-    (doing_led c M n told x led d i known tied may.0 leads.0 own) parts.1 tells.1 apart.1 ending.1 one two three four)
+    (doing_led c M n told x led d i known tied may.0 leads.0 own) parts.1 tells.1 apart.1 ending.1 one two (doing_planned c n told x.node x.disk d may.0 planned) three four)
 
 -- ---- a step
 
 pub step_due : (S : Setting) (c : Cluster) (n now : ℕ) (outcome : method.Outcome) (i : Input) (s : Scene) → CountsIn S c → Sized c → IsNode n → now < 2 ^ 64 → WasSent s.nodes i → AnswersFit i → Hand s.moments n (delivered_by i) → HandKept s.moments n (delivered_by i)
-    → KnownScene c s → AllDue S s.moments → AllDue S (taking c n now outcome i s).moments
-step_due S c n now outcome i s counts sized is time was answer hand mine a due =
+    → KnownScene c s → ((k : ℕ) → NodePlanned c (s.nodes.node k)) → AllDue S s.moments → AllDue S (taking c n now outcome i s).moments
+step_due S c n now outcome i s counts sized is time was answer hand mine a planned due =
     let b : Stage c s = a.stage in
     let v : Nodes = s.nodes in
     let M : Memberships = b.machine in
@@ -105,4 +107,4 @@ step_due S c n now outcome i s counts sized is time was answer hand mine a due =
     (all_due S c M n told v w x small false None t counts sized.fits.devices.attached b.holds (known_by M i truth) (b.stands n).tied may (doings_so c n now outcome cut.replies i (v.node n))
     (doings_led c n now outcome cut.replies i (v.node n)) (λ no. absurd (false_true no))
     (subst (λ os. AllFit n os) (sym cut.comes.given) (all_spelled n o.given is widths.given))
-    (doings_told c n now outcome cut.replies i (v.disk n).kept (v.node n)) (doings_apart c n now outcome cut.replies i (v.node n) cut.losses) (doings_fit c n now outcome cut.replies i (v.disk n).kept (v.node n)) first second tt due)
+    (doings_told c n now outcome cut.replies i (v.disk n).kept (v.node n)) (doings_apart c n now outcome cut.replies i (v.node n) cut.losses) (doings_fit c n now outcome cut.replies i (v.disk n).kept (v.node n)) first second (planned n) tt due)

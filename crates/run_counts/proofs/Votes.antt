@@ -1,5 +1,5 @@
 -- Where a call ends an attempt by what it counts, its votes are those of the newest record that its members have shown.
-use Rattle.std.specs.Prelude.{ℕ, ◌≡◌, ◌==◌, ◌++◌, ◌⊎◌, Bool, true, false, List, [], ◌∷◌, length, take, Option, None, Some, unwrap_or, option_map, if◌then◌else◌}
+use Rattle.std.specs.Prelude.{ℕ, ◌≡◌, ◌++◌, ◌⊎◌, Bool, true, false, List, [], ◌∷◌, length, take, Option, None, Some, unwrap_or, option_map, if◌then◌else◌}
 use Rattle.std.specs.List.{AllByRecursion, cons_option, filter_map, find}
 use Rattle.std.proofs.Common.{refl, sym, ap, subst, ◌∙◌, inl, inr}
 use Rattle.attempt_laws.proofs.Causes.{caused_by_call}
@@ -9,15 +9,11 @@ use Rattle.attempt_laws.specs.Laws.{IsForeign, IsShort}
 use Rattle.attempt_laws.specs.Machine.{IsAnswer, record_in}
 use Rattle.attempt_laws.specs.Staying.{IsKnown}
 use Rattle.ccr_commit.specs.Entries.{listed}
-use Rattle.cl_base.specs.Seizings.{SeizeResult}
 use Rattle.cl_base.specs.declared.seizing.Lack.{Lack}
-use Rattle.cl_base.specs.declared.seizing.Obstacle.TheVariants as obstacle
-use Rattle.cl_base.specs.declared.seizing.SeizeEnd.TheVariants as told
 use Rattle.cmm_attempt.proofs.Basics.{none_some, same_number, same_some}
 use Rattle.cmm_attempt.specs.Attempts.{AttemptState}
 use Rattle.cmm_attempt.specs.Calls.{Call, May, With_votes, end_in, turn}
-use Rattle.cmm_attempt.specs.Counts.{first_short, is_enabled, is_foreign, is_short, lack_by, lack_in, lack_of, lack_under, short_pending}
-use Rattle.cmm_attempt.specs.Plans.{is_reachable}
+use Rattle.cmm_attempt.specs.Counts.{first_short, is_enabled, is_foreign, is_short, lack_of, lack_under, short_pending}
 use Rattle.cmm_attempt.specs.Promises.{is_from, promised_by, shown_by}
 use Rattle.cmm_attempt.specs.declared.attached.AttachedDevice.{AttachedDevice}
 use Rattle.cmm_attempt.specs.declared.counting.BothVotes.{BothVotes}
@@ -44,6 +40,8 @@ use Rattle.wire.specs.declared.message.Message.{Message}
 use Rattle.run_counts.specs.Facts.{AreOf, Foretold, Known, NeedsOf, NeedsUnder}
 use Rattle.run_counts.proofs.Given.{AreFrom, call_ends_so}
 use Rattle.run_counts.proofs.Newest.{Found, has_newest, newest_found}
+use Rattle.run_counts.proofs.Lacks.{told_device}
+use Rattle.run_counts.proofs.Short.{call_short}
 
 -- ---- the votes that a Promise shows are those of its record
 
@@ -148,30 +146,6 @@ first_one both members devices v is = by_test (is_short both.committed members d
 abbrev HasVotes : VoteTable → Lack → Type 0
 HasVotes v x = is_enabled v x.device ≡ true
 
--- what is lacking of a device is told of it
-lack_device : (plan : Plan) (devices : List Seizing) (a : AttachedDevice) (x : Lack) → lack_of plan devices a ≡ Some x → x.device ≡ a.device
-lack_device plan devices a x is = by_reach (is_reachable plan a) is
-  where
-    told_device : (y : Lack) → y.device ≡ a.device → Some y ≡ Some x → x.device ≡ a.device
-    told_device y at same = ap (λ (z : Lack). z.device) (sym (same_some y x same)) ∙ at
-
-    by_result : (r : Option SeizeResult) → lack_by a.device r ≡ Some x → x.device ≡ a.device
-    by_result None is = absurd (none_some x is)
-    by_result (Some (told.Held keys)) is = absurd (none_some x is)
-    by_result (Some (told.NotRegistered keys)) is = told_device _ refl is
-    by_result (Some (told.Greater w)) is = told_device _ refl is
-    by_result (Some told.Expelled) is = told_device _ refl is
-    by_result (Some (told.Contended key)) is = told_device _ refl is
-    by_result (Some told.Fault) is = told_device _ refl is
-
-    by_entry : (o : Option Seizing) → lack_in a.device o ≡ Some x → x.device ≡ a.device
-    by_entry None is = absurd (none_some x is)
-    by_entry (Some e) is = by_result e.result is
-
-    by_reach : (t : Bool) → (if t then lack_in a.device (find (λ e. e.attached.device == a.device) devices) else Some (record { device = a.device; obstacle = obstacle.NoPath })) ≡ Some x → x.device ≡ a.device
-    by_reach true is = by_entry (find (λ e. e.attached.device == a.device) devices) is
-    by_reach false is = told_device _ refl is
-
 -- each device that is lacking has votes
 lacks_enabled : (v : VoteTable) (plan : Plan) (devices : List Seizing) (attached : List AttachedDevice) → AllByRecursion (HasVotes v) (filter_map (lack_under v plan devices) attached)
 lacks_enabled v plan devices [] = tt
@@ -183,7 +157,7 @@ lacks_enabled v plan devices (a ∷ attached) = by_test (is_enabled v a.device) 
 
     by_test : (t : Bool) → is_enabled v a.device ≡ t → AllByRecursion (HasVotes v) (filter_map (lack_under v plan devices) attached)
         → AllByRecursion (HasVotes v) (cons_option (if t then lack_of plan devices a else None) (filter_map (lack_under v plan devices) attached))
-    by_test true enabled rest = with_lack (lack_of plan devices a) (λ x is. ap (is_enabled v) (lack_device plan devices a x is) ∙ enabled) rest
+    by_test true enabled rest = with_lack (lack_of plan devices a) (λ x is. ap (is_enabled v) (told_device plan devices a x is) ∙ enabled) rest
     by_test false enabled rest = rest
 
 need_in : AttemptEnd → ℕ
@@ -214,7 +188,13 @@ foretells c M n told s a k (end.Foreign m) holds session co may is =
     record { both = u.both; known = u.known; least = subst (λ b. find (is_foreign b) (turn a k).after.plan.nodes ≡ Some m) (same_some cause.both u.both (sym cause.given ∙ u.given)) cause.least }
 foretells c M n told s a k (end.Votes have need lacking) holds session co may is =
     let u : Under c M (turn a k).after = ends_under c M n told s a k holds session co may ((call_ends_so a k (end.Votes have need lacking) is).votes tt) in
-    record { both = u.both; known = u.known; needs = needs_so (turn a k).after u.both have need lacking u.given ((caused_by_call a k).end (end.Votes have need lacking) is) }
+    record {
+      both = u.both;
+      known = u.known;
+      needs = needs_so (turn a k).after u.both have need lacking u.given ((caused_by_call a k).end (end.Votes have need lacking) is);
+      given = u.given;
+      short = call_short a k (end.Votes have need lacking) co.reached is tt;
+    }
 foretells c M n told s a k (end.Superseded q) holds session co may is = tt
 foretells c M n told s a k (end.Silent m) holds session co may is = tt
 foretells c M n told s a k (end.Excluded m) holds session co may is = tt

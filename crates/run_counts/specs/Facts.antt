@@ -1,6 +1,7 @@
 -- What is known where an attempt is to end by what it counts, and what is proved of each moment.
-use Rattle.std.specs.Prelude.{ℕ, ◌≡◌, ◌⊎◌, true, false, List, take, None, Some, IfSome, unwrap_or}
+use Rattle.std.specs.Prelude.{ℕ, ◌≡◌, ◌≤◌, ◌⊎◌, true, false, List, length, take, None, Some, IfSome, unwrap_or}
 use Rattle.std.specs.List.{AllByRecursion, find}
+use Rattle.cl_base.specs.Limits.{most_devices}
 use Rattle.cl_base.specs.declared.seizing.Lack.{Lack}
 use Rattle.cmm_attempt.specs.Attempts.{AttemptState}
 use Rattle.cmm_attempt.specs.Calls.{end_in, turn}
@@ -10,7 +11,7 @@ use Rattle.cmm_attempt.specs.declared.counting.BothVotes.{BothVotes}
 use Rattle.cmm_attempt.specs.declared.promised.Promised.{Promised}
 use Rattle.cmm_attempt.specs.declared.step.AttemptEnd.{AttemptEnd}
 use Rattle.cmm_attempt.specs.declared.step.AttemptEnd.TheVariants as end
-use Rattle.history.specs.Attempts.{is_foreign}
+use Rattle.history.specs.Attempts.{is_counted, is_foreign}
 use Rattle.history.specs.Member.{members_of}
 use Rattle.history.specs.Moment.{Moment}
 use Rattle.history.specs.Order.{Always}
@@ -24,12 +25,17 @@ use Rattle.node_model.specs.declared.cluster.Cluster.{Cluster}
 use Rattle.quorum_votes.specs.Tables.{VoteTable}
 use Rattle.quorum_votes.specs.Votes.{needed_of}
 use Rattle.refinement.specs.Ties.{votes_under}
+use Rattle.world_model.specs.First.{attached_from}
 use Rattle.run_counts.specs.Ends.{Last}
-use Rattle.run_counts.specs.Laws.{is_needed}
+use Rattle.run_counts.specs.Laws.{AreNamed, is_needed}
+use Rattle.run_counts.specs.Shorts.{IsPlaced, ShortBy}
 
--- the setting counts the votes that the nodes count
-abbrev pub CountsIn : Setting → Cluster → Type 0
-CountsIn S c = (updates : List (List ℕ)) → S.votes updates ≡ votes_under c updates
+-- the setting counts the votes that the nodes count, and its header has the devices of the cluster, which alone have votes
+pub record CountsIn (S : Setting) (c : Cluster) : Type 0 where
+  pub votes : (updates : List (List ℕ)) → S.votes updates ≡ votes_under c updates
+  pub few : length S.header.devices ≤ most_devices
+  pub attached : c.attached ≡ attached_from 1 S.header.devices
+  pub placed : (updates : List (List ℕ)) → IsPlaced S.header (S.votes updates)
 
 -- the votes are those of the record: of its committed updates, and of all of them, which are the same where none is pending
 pub record AreOf (c : Cluster) (r : Saved) (both : BothVotes) : Type 0 where
@@ -57,14 +63,16 @@ pub record ForeignTo (c : Cluster) (M : Memberships) (a : AttemptState) (m : ℕ
   pub known : Known c M a both
   pub least : first_foreign both a.plan.nodes ≡ Some m
 
-pub record ShortOf (c : Cluster) (M : Memberships) (a : AttemptState) (need : ℕ) (lacking : List Lack) : Type 0 where
+pub record ShortOf (c : Cluster) (M : Memberships) (a : AttemptState) (have need : ℕ) (lacking : List Lack) : Type 0 where
   pub both : BothVotes
   pub known : Known c M a both
   pub needs : NeedsOf both need lacking
+  pub given : a.votes ≡ Some both
+  pub short : ShortBy a (end.Votes have need lacking)
 
 abbrev pub Foretold : Cluster → Memberships → AttemptState → AttemptEnd → Type 0
 Foretold c M a (end.Foreign m) = ForeignTo c M a m
-Foretold c M a (end.Votes have need lacking) = ShortOf c M a need lacking
+Foretold c M a (end.Votes have need lacking) = ShortOf c M a have need lacking
 Foretold c M a _ = Unit {0}
 
 -- where the last call ends the attempt, this is known of what it leaves
@@ -76,7 +84,9 @@ LastTied c M (Some l) = (why : AttemptEnd) → end_in (turn l.0 l.1).steps ≡ S
 
 abbrev pub IsDue : Setting → List Moment → Moment → Type 0
 IsDue S before (ended_foreign e m) = IfSome (records_in_hand e before) (λ records. is_foreign S (members_of e before) m records ≡ true)
-IsDue S before (ended_votes e have need lacking) = IfSome (records_in_hand e before) (λ records. is_needed S need lacking records ≡ true)
+IsDue S before (ended_votes e have need lacking) =
+    IfSome (records_in_hand e before) (λ records. is_counted S (members_of e before) have need lacking records ≡ true)
+    × IfSome (records_in_hand e before) (λ records. is_needed S need lacking records ≡ true) × AreNamed S.header (members_of e before) lacking
 IsDue S before _ = Unit {0}
 
 abbrev pub AllDue : Setting → List Moment → Type 0

@@ -2,4 +2,5 @@
 pub mod Laws
 -- what only the proofs need
 pub mod Ends
+pub mod Shorts
 pub mod Facts

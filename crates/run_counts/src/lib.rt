@@ -7,7 +7,7 @@
 //! all agents.
 #![tactic(auto)]
 
-ghost use Rattle.run_counts.specs.Laws.{ForeignOfEachRun, NeededOfEachRun};
+ghost use Rattle.run_counts.specs.Laws.{CountedOfEachRun, ForeignOfEachRun, LackingOfEachRun, NeededOfEachRun};
 
 /// An attempt ends for a foreign member once all have promised, and names the least of its members that is configured neither in the newest
 /// committed updates in hand nor with the pending one.
@@ -19,4 +19,17 @@ pub fn foreign_of_each_run()
 /// one; and under these each device that is lacking has votes.
 pub fn needed_of_each_run()
     ensures { NeededOfEachRun }
+{}
+
+/// Where it ends for want of votes, what it has is told by the newest record in hand too: under its committed updates these are the votes of the
+/// members and of each device with votes that is not lacking, to which a member has a path; or they are so with the pending update, where the
+/// committed ones may be enough.
+pub fn counted_of_each_run()
+    ensures { CountedOfEachRun }
+{}
+
+/// The devices that it names as lacking are devices of the header, in order and each once; one to which no member has a path is named so, and no
+/// other.
+pub fn lacking_of_each_run()
+    ensures { LackingOfEachRun }
 {}
