@@ -32,6 +32,7 @@ use Rattle.run_downs.proofs.Runs as downs
 use Rattle.run_endings.proofs.Runs as endings
 use Rattle.run_counts.proofs.Runs as counts
 use Rattle.run_lines.proofs.Runs.{lines_of_each_run}
+use Rattle.run_exclusions.proofs.Runs.{exclusions_of_each_run}
 use Rattle.run_owed.proofs.Runs as owed
 use Rattle.run_queues.proofs.Disks.{disk_lines_of_each_run}
 use Rattle.run_readings.proofs.Runs as readings
@@ -191,6 +192,7 @@ told_trace h events text p header disks asks is told =
       promised = endings.promised_in_each_run h 65536 told.happenings header.devices header.cluster_high told.may;
       names_members = endings.ends_name_members_in_each_run h 65536 told.happenings header.devices header.cluster_high told.may;
       foreign = counts.foreign_of_each_run h 65536 told.happenings header.devices header.cluster_high told.may;
+      exclusions = exclusions_of_each_run h 65536 told.happenings header.devices header.cluster_high told.may;
       needed = counts.needed_of_each_run h 65536 told.happenings header.devices header.cluster_high told.may;
       counted = counts.counted_of_each_run h 65536 told.happenings header.devices header.cluster_high told.may;
       lacking = counts.lacking_of_each_run h 65536 told.happenings header.devices header.cluster_high told.may;

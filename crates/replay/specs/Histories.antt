@@ -39,6 +39,7 @@ use Rattle.run_lines.specs.Laws.{IsAnswered}
 use Rattle.run_writes.specs.Laws.{IsWritten}
 use Rattle.run_rounds.specs.Parts.{PartsInOrder, shown}
 use Rattle.run_counts.specs.Laws.{EndsForeign, EndsNeeding, EndsShort, NamesLacking}
+use Rattle.run_exclusions.specs.Laws.{EndsExcluded}
 use Rattle.run_owed.specs.Laws.{HasPrepares, IsOfOne}
 use Rattle.run_queues.specs.Laws.{IsDone}
 use Rattle.run_readings.specs.Laws.{BringsWhatWasRead, SaysWhatWasRead}
@@ -51,22 +52,26 @@ use Rattle.replay.specs.Replays.{OfCluster, OfDevice, Schedule, entries, schedul
 -- There are moments of which the text is what is printed: exactly these events are said, in this order. They are what
 -- can happen in one cluster: each line has its entries, and is skipped exactly where that is due (but for the lines of
 -- which `run_lines` says nothing); a write of a node that is up is refused for the cause that is due, or comes to what
--- the device answers; the parts of rounds come in their order; the links and the devices do what their lines say, each
--- start has its base, what was acknowledged is kept, no device takes a write of a node that a greater membership left
--- out, a node installs, is ready, is a member and has prepared by the messages that tell of it, and a membership starts
--- with a majority of the votes under its base and with devices that were seized for it, as its coordinator knew. The
--- bytes of each message spell it: a Promise and an Install show the record of their sender, a Promise the devices that
--- are valid to it as its lines tell, the newest in hand is installed and is the base, and a Heartbeat says who is a
--- member, is sent in a tick and to whom it is due. An attempt begins in a tick of its coordinator, with nodes that it
--- sees and for a reason, and its Installs bring its members; it ends, and starts, while it is under way, is superseded
--- by what stands against it, ends for want of an answer at its eighth tick at the earliest and for want of votes once
--- all have promised, and names a member. A node comes up, crashes and saves in the event that makes it do so, panics for
+-- the device answers; the parts of rounds come in their order; a `disk` line at a node whose tasks are told does the
+-- command that is due; a client's request is served by a president, or skipped; the entries of an event are one node's,
+-- and a proposal has its Prepares; the links and the devices do what their lines say, each start has its base, what was
+-- acknowledged is kept, no device takes a write of a node that a greater membership left out, a node installs, is ready,
+-- is a member and has prepared by the messages that tell of it, and a membership starts with a majority of the votes
+-- under its base and with devices that were seized for it, as its coordinator knew. The bytes of each message spell it: a
+-- Promise and an Install show the record of their sender, a Promise the devices that are valid to it as its lines tell,
+-- the newest in hand is installed and is the base, a Seized and an Install bring what was read by the one node that
+-- seized the device, and a Heartbeat says who is a member, is sent in a tick and to whom it is due. An attempt begins in
+-- a tick of its coordinator, with nodes that it sees and for a reason, not alone where its coordinator is not configured,
+-- and its Installs bring its members; it ends, and starts, while it is under way, is superseded by what stands against
+-- it, ends for want of an answer at its eighth tick at the earliest and for want of votes once all have promised, by what
+-- the newest record in hand counts, for the least member that is foreign by that record, or for one that an earlier
+-- attempt left out, and names a member. A node comes up, crashes and saves in the event that makes it do so, panics for
 -- a fence where a write of its own was refused, and stops exactly where an armed stop falls. While there are fewer than
 -- 2^63 lines, which number the commands, all holds that a trace has to keep at each prefix (`Holds` of `history`): with
 -- what stands above, a Prepare has the words that were proposed, a Request those of its command, a member answers what
 -- the president's Answer says, each update was asked for by a request of its own, and is answered `ok` behind its
--- acknowledgement alone. Then, too, each command is numbered and is answered once at most, and what a node answers by
--- itself fits its command.
+-- acknowledgement alone. Then, too, each command is numbered and is answered once at most, by its node itself exactly
+-- where that is due, and with an answer that fits.
 pub record IsTrace (h : Header) (events : List Event) (text : List ℕ) : Type 0 where
   pub moments : List Moment
   pub said : lines_of moments ≡ lines_upon [] events
@@ -111,6 +116,7 @@ pub record IsTrace (h : Header) (events : List Event) (text : List ℕ) : Type 0
   pub promised : Always HasPromises moments
   pub names_members : Always NamesMember moments
   pub foreign : Always (EndsForeign (setting_of h)) moments
+  pub exclusions : Always EndsExcluded moments
   pub needed : Always (EndsNeeding (setting_of h)) moments
   pub counted : Always (EndsShort (setting_of h)) moments
   pub lacking : Always (NamesLacking (setting_of h)) moments

@@ -1,0 +1,9 @@
+pub mod Ends
+pub mod Plain
+pub mod Told
+pub mod Letters
+pub mod Excluded
+pub mod Changes
+pub mod Doings
+pub mod Steps
+pub mod Runs

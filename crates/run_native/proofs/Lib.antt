@@ -1,0 +1,14 @@
+pub mod Sets
+pub mod Entries
+pub mod Lines
+pub mod Beats
+pub mod Writes
+pub mod Changes
+pub mod Acts
+pub mod Walk
+pub mod Steps
+pub mod Judged
+pub mod Flying
+pub mod Moves
+pub mod Runs
+pub mod Boots
