@@ -7,3 +7,4 @@ pub mod Awaited
 pub mod Follows
 pub mod Weak
 pub mod Counting
+pub mod Outside

@@ -1,15 +1,22 @@
 -- How an outlook is found and kept: where places may come up it is found for weak targets alone.
-use Rattle.std.specs.Prelude.{List, ℕ, [], fold, if◌then◌else◌}
+use Rattle.std.specs.Prelude.{List, ℕ, [], fold, if◌then◌else◌, Option, Some, None}
 use Rattle.load_limits.specs.declared.limits.Limit.{Limit}
+use Rattle.rg_props.specs.declared.group.Resource.{Resource}
 use Rattle.rg_props.specs.Settings.{has_name}
 use Rattle.rg_props.specs.Table.{GroupTable}
 use Rattle.rg_view.specs.declared.view.GroupView.{GroupView}
+use Rattle.rg_view.specs.Goals.{goal_of}
 use Rattle.rt_types.specs.Fields.{TypeFields}
 use Rattle.sequencer.specs.declared.direction.Direction.TheVariants.{Down, Up}
 use Rattle.sequencer.specs.Fields.{OutlookFields}
 use Rattle.sequencer.specs.Outlooks.{with_risings, without_risings}
 use Rattle.sequencer.specs.Renewals.{renewed}
 use Rattle.sequencer.specs.Shown.{awaited}
+
+-- the goal of the group of the resource
+abbrev pub goal_for : GroupView → Option Resource → ℕ
+goal_for v None = 0
+goal_for v (Some r) = goal_of v.goals r.group
 
 -- those of a resource, where it is one of these
 abbrev pub with_risings_of : GroupTable → List (List ℕ × TypeFields) → List Limit → GroupView → List (List ℕ) → OutlookFields → List ℕ → OutlookFields

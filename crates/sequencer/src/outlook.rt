@@ -2,7 +2,9 @@ ghost use Rattle.std.specs.Prelude.{◌≡◌, [], fold, slice_get, true, IfOk, 
 ghost use Rattle.std.specs.Option.{option_copied, option_map_or};
 ghost use Rattle.rg_view.specs.Marks.{is_marked, marks_with};
 ghost use Rattle.sequencer.specs.Leaving.{going_of, with_place, with_places, with_resource};
-ghost use Rattle.sequencer.specs.Kept.{kept_outlook, outlook_renewed, risen, with_going_renewed, with_risings_of};
+ghost use Rattle.rg_props.specs.Lookups.{named};
+ghost use Rattle.sequencer.specs.Allowed.{has_up_call};
+ghost use Rattle.sequencer.specs.Kept.{goal_for, kept_outlook, outlook_renewed, risen, with_going_renewed, with_risings_of};
 ghost use Rattle.sequencer.specs.Outlooks.{members_of, outlook_of, with_rising, with_risings, without_risings};
 ghost use Rattle.sequencer.specs.Resting.{is_in_order};
 ghost use Rattle.sequencer.specs.Shown.{FollowsOrder, Shows, awaited};
@@ -12,7 +14,7 @@ use crate::leaving::must_go;
 use crate::methods::has_up_call;
 use crate::renewing::renew;
 use crate::resting::has_name;
-use cl_base::{Name, NodeId};
+use cl_base::{Name, NodeId, NodeSet};
 use load_limits::Limits;
 use rg_props::{Groups, Resource};
 use rg_view::{GroupView, Marks, NoMemory};
@@ -345,26 +347,56 @@ fn add_rising(
 ) -> Result<(), NoMemory>
     ensures { OnOk result (outlook.new ≡ with_risings g.now types.now limits.now view.entry.now outlook.old name.now) }
 {
+    let goal = goal_for(view, g.resource(name));
     for place in 0..outlook.members.len() {
         let n = outlook.members[place];
-        add_rising_at(g, types, limits, view, name, n, outlook)?;
+        add_rising_at(g, types, limits, view, goal, name, n, outlook)?;
     }
     Ok(())
 }
 
+/// The goal of the group of the resource.
+fn goal_for(view: &GroupView, r: Option<&Resource>) -> NodeSet
+    ensures { result ≡ goal_for view.entry.now (option_copied r.entry) }
+{
+    match r {
+        Some(r) => view.goals.goal(&r.group),
+        None => NodeSet::empty(),
+    }
+}
+
+/// Outside of the goal no up call is allowed.
 fn add_rising_at(
     g: &Groups,
     types: &Types,
     limits: &Limits,
     view: &GroupView,
+    goal: NodeSet,
     name: &Name,
     n: NodeId,
     outlook: &mut Outlook,
 ) -> Result<(), NoMemory>
+    requires { goal ≡ goal_for view.now (named g.now.resources name.now) }
     ensures value { OnOk result (outlook.new ≡ with_rising g.now types.now limits.now view.entry.now name.now outlook.old n) }
 {
-    if has_up_call(g, types, limits, view, outlook, n, name) {
+    if rises(g, types, limits, view, goal, outlook, name, n) {
         outlook.rising.add(name, n)?;
     }
     Ok(())
+}
+
+fn rises(
+    g: &Groups,
+    types: &Types,
+    limits: &Limits,
+    view: &GroupView,
+    goal: NodeSet,
+    outlook: &Outlook,
+    name: &Name,
+    n: NodeId,
+) -> bool
+    requires { goal ≡ goal_for view.now (named g.now.resources name.now) }
+    ensures { result ≡ has_up_call g.now types.now limits.now view.entry.now outlook.now n name.now }
+{
+    goal.has(n) && has_up_call(g, types, limits, view, outlook, n, name)
 }
