@@ -97,7 +97,7 @@ told_body before after from (body.Install i) g so install = install
 told_body before after from _ g so install = tt
 
 -- what a packet says that comes: its Install has the members of its attempt, and its Promise tells what its sender had installed
-arrived_so : (c : Cluster) (s : Scene) (number : ℕ) (x : Packet) (m : Message) → packet_of s.links.packets number ≡ Some x → whole_of x.bytes ≡ Some m → KnownScene c s → AllBring s.moments → AllJudged s.moments → BodyTold s.moments x.from m.body
+pub arrived_so : (c : Cluster) (s : Scene) (number : ℕ) (x : Packet) (m : Message) → packet_of s.links.packets number ≡ Some x → whole_of x.bytes ≡ Some m → KnownScene c s → AllBring s.moments → AllJudged s.moments → BodyTold s.moments x.from m.body
 arrived_so c s number x m is whole a brings judged = subst (λ k. BodyTold s.moments k m.body) came.sender (by_whole (whole_of came.letter.bytes) refl came.read)
   where
     came : Came (delivered number x.from x.to ∷ s.moments) x.to x.from m.body
@@ -181,7 +181,7 @@ first_went h cells = record { judged = tt; sites = λ k. record { last = omega a
 brings_scene : (h : Header) (cells : ℕ) (s : Scene) → IsSmall h → IsReached h cells s → AllBring s.moments
 brings_scene h cells s size r = subst (λ (z : Scene). AllBring z.moments) r.is (installs_bring_members_in_each_run h cells r.happenings size.few size.small r.may)
 
-run_went : (h : Header) (cells : ℕ) (hs : List Happening) → length h.devices ≤ most_devices → h.cluster < 2 ^ 32 → MayAllHappen (first_cluster h) (first_scene h cells) hs
+pub run_went : (h : Header) (cells : ℕ) (hs : List Happening) → length h.devices ≤ most_devices → h.cluster < 2 ^ 32 → MayAllHappen (first_cluster h) (first_scene h cells) hs
     → (let s : Scene = all_happened (first_cluster h) (first_scene h cells) hs in AllWent s.nodes s.moments)
 run_went h cells hs few small may =
     let size : IsSmall h = record { few = few; small = small } in

@@ -1,0 +1,12 @@
+pub mod Presidents
+pub mod Free
+pub mod Calls
+pub mod Courses
+pub mod Named
+pub mod Past
+pub mod Leaving
+pub mod Calm
+pub mod Told
+pub mod Doings
+pub mod Steps
+pub mod Runs
