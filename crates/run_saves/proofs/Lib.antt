@@ -1,0 +1,13 @@
+pub mod Here
+pub mod Ways
+pub mod Trying
+pub mod Walk
+pub mod Once
+pub mod AtInstall
+pub mod Rests
+pub mod Beside
+pub mod RestSteps
+pub mod Installed
+pub mod Kept
+pub mod Letters
+pub mod Runs
