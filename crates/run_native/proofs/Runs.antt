@@ -80,10 +80,10 @@ gone c s number e k = linked c s (telling e (removed s number)) refl (removing_f
 -- ---- each thing that happens
 
 -- what is known of a scene of a run, and of the one that comes next
-record Known (h : Header) (s : Scene) (x : Happening) : Type 0 where
-  stage : Stage (first_cluster h) s
-  whole : IsWhole (first_cluster h) s
-  next : Stage (first_cluster h) (happened (first_cluster h) s x)
+pub record Known (h : Header) (s : Scene) (x : Happening) : Type 0 where
+  pub stage : Stage (first_cluster h) s
+  pub whole : IsWhole (first_cluster h) s
+  pub next : Stage (first_cluster h) (happened (first_cluster h) s x)
 
 boot_so : (h : Header) (n now : ℕ) (ends : method.Outcome) (i : Input) → h.nodes ≤ 32 → IsSmall h → 1 ≤ n → BootsInHeader h (Takes n now ends i) → BootNamed (first_cluster h) n i
 boot_so h n now ends input.Boot few size low high = (first_has h.nodes n few low high, attached_known (length h.devices) 1 h.devices (at_most (length h.devices) size.few) (omega arith) (omega arith))
@@ -96,7 +96,7 @@ plain_hand : (c : Cluster) (i : Input) → IsPlain i → HandNamed c (delivered_
 plain_hand c (input.Packet from m) plain = absurd plain
 plain_hand c _ plain = tt
 
-happening_named : (h : Header) (s : Scene) (x : Happening) → h.nodes ≤ 32 → IsSmall h → MayHappen (first_cluster h) s x → BootsInHeader h x → Known h s x → SceneNamed (first_cluster h) s
+pub happening_named : (h : Header) (s : Scene) (x : Happening) → h.nodes ≤ 32 → IsSmall h → MayHappen (first_cluster h) s x → BootsInHeader h x → Known h s x → SceneNamed (first_cluster h) s
     → SceneNamed (first_cluster h) (happened (first_cluster h) s x)
 happening_named h s (Speaks e) few size may boots b k = armed_named (first_cluster h) e (adding (Said (line.Event e)) s) (linked (first_cluster h) s (adding (Said (line.Event e)) s) refl k.flying k)
 happening_named h s (Begins e) few size may boots b k = linked (first_cluster h) s (adding (Part e) s) refl k.flying k
@@ -162,7 +162,7 @@ comes_so h P s _ judge may b k = tt
 
 -- ---- runs
 
-whole_at : (h : Header) (cells : ℕ) (s : Scene) → IsSmall h → IsReached h cells s → IsWhole (first_cluster h) s
+pub whole_at : (h : Header) (cells : ℕ) (s : Scene) → IsSmall h → IsReached h cells s → IsWhole (first_cluster h) s
 whole_at h cells s size r = subst (IsWhole (first_cluster h)) r.is (runs_are_whole h cells r.happenings (runs_are_cut h cells r.happenings) size.few size.small r.may).scene
 
 run_on : (h : Header) (cells : ℕ) (P : Cluster → ℕ → Node → Body → Type 0) (s : Scene) (hs : List Happening) → h.nodes ≤ 32 → IsSmall h → Judges h P → IsReached h cells s
@@ -176,7 +176,7 @@ run_on h cells P s (x ∷ hs) few size judge at may boots k =
       run_on h cells P (happened c s x) hs few size judge then may.1 boots.1 (happening_named h s x few size may.0 boots.0 b k),
     )
 
-first_named : (h : Header) (cells : ℕ) → SceneNamed (first_cluster h) (first_scene h cells)
+pub first_named : (h : Header) (cells : ℕ) → SceneNamed (first_cluster h) (first_scene h cells)
 unfolding first_scene
 first_named h cells = record {
   nodes = record { sites = λ n. record { disk_so = λ m is. absurd (false_true (sym (none_of_zero m) ∙ is)); node_so = tt }; sent = tt };

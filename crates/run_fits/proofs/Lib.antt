@@ -1,0 +1,14 @@
+pub mod Rows
+pub mod Bytes
+pub mod Words
+pub mod Machine
+pub mod Proposed
+pub mod Courses
+pub mod Sets
+pub mod Changes
+pub mod Doings
+pub mod Disks
+pub mod Steps
+pub mod Told
+pub mod Runs
+pub mod Lines
