@@ -66,7 +66,7 @@ sized_of : (S : Setting) (s : Scene) → Known S s → Sized (first_cluster S.he
 sized_of S s b = record { fits = b.whole.cluster.fits; small = b.whole.cluster.small }
 
 placed_of : (S : Setting) (s : Scene) (n : ℕ) → Known S s → n ≤ 32 → Placed S (first_cluster S.header) n
-placed_of S s n b low = record { fixed = record { id = refl; low = low_number n low; many = b.many }; paths = λ d from. path_so S.header n d from }
+placed_of S s n b low = record { fixed = record { id = refl; low = low_number n low; few = low; many = b.many }; paths = λ d from. path_so S.header n d from }
 
 -- attempts differ once it has happened
 abbrev pub Differs : Setting → Scene → Happening → Type 0

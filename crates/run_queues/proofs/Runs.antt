@@ -15,7 +15,7 @@ use Rattle.cl_base.specs.declared.method.Outcome as method
 use Rattle.history.specs.Moment.{Moment}
 use Rattle.history.specs.Queue as told
 use Rattle.history.specs.Setting.{Setting}
-use Rattle.history.specs.Validated.{Validity}
+use Rattle.history.specs.Validated.{Validity, validity as validity_in}
 use Rattle.node_model.specs.Seats.{installed_of, session_of}
 use Rattle.node_model.specs.declared.cluster.Cluster.{Cluster}
 use Rattle.node_model.specs.declared.node.Node.{Node}
@@ -44,6 +44,8 @@ use Rattle.run_history.specs.WorldLines.{AreDisks, IsDevice}
 use Rattle.run_seizings.specs.Sites.{IsSeizing}
 use Rattle.run_seizings.proofs.Runs.{run_seizes}
 use Rattle.run_validity.specs.Laws.{Agrees, InMemory, told_validity}
+use Rattle.run_installs.proofs.Stepping.{standing_at}
+use Rattle.run_validity.proofs.Histories.{told_agrees}
 use Rattle.run_validity.proofs.Acts.{strict}
 use Rattle.run_validity.proofs.First.{first_told}
 use Rattle.run_validity.proofs.Moments as validity
@@ -75,8 +77,10 @@ known_at S cells s few small r =
       many = few;
     }
 
-valid_known : (S : Setting) (s : Scene) → Known S s → validity.Known S.header s
-valid_known S s b = record { stage = b.stage; whole = b.whole; seizing = b.seizing; many = b.many }
+valid_known : (S : Setting) (cells : ℕ) (s : Scene) → length S.header.devices ≤ most_devices → S.header.cluster < 2 ^ 32 → Reached (first_cluster S.header) (first_scene S.header cells) s
+    → Known S s → validity.Known S.header s
+valid_known S cells s few small r b =
+    record { stage = b.stage; whole = b.whole; seizing = b.seizing; many = b.many; standing = standing_at S.header cells s few small r }
 
 -- ---- where a packet comes, what is told of validity holds in memory
 
@@ -88,7 +92,8 @@ strict_memory : (S : Setting) (s : Scene) (n : ℕ) → Known S s → validity_a
     → InMemory (told_validity S.header n d s.moments) d (s.nodes.node n)
 strict_memory S s n b k d is =
     in_memory (first_cluster S.header) b.stage.machine n d (s.nodes.disk n).kept (told_validity S.header n d s.moments) (s.nodes.node n) (b.stage.stands n).tied
-    (strict (Agrees (told_validity S.header n d s.moments) (has (s.nodes.disk n).kept.valid d)) ((k.sites n).valid d is))
+    (told_agrees S.header n d s.moments (has (s.nodes.disk n).kept.valid d)
+    (strict (Agrees (validity_in S.header n d s.moments) (has (s.nodes.disk n).kept.valid d)) ((k.sites n).valid d is)))
 
 arrives_valid : (S : Setting) (s : Scene) (wants : List Want) (rounds : Option Progress) (number : ℕ) (x : Packet) (m : Message) (now : ℕ) (ends : method.Outcome)
     → Comes s wants rounds (Arrives number x m now ends) → Known S s → Kept S.header s wants → ValidAt S s (Arrives number x m now ends)
@@ -118,7 +123,7 @@ comes_more S cells few small s d x may due k =
     let next : Reached c (first_scene S.header cells) (happened c s x) = reached_more c (first_scene S.header cells) s x k.reached may in
     record {
       reached = next;
-      valid = step_so S.header s d x due may (valid_known S s b) (stage_at S.header cells (happened c s x) few small next).laws.once k.valid;
+      valid = step_so S.header s d x due may (valid_known S cells s few small k.reached b) (stage_at S.header cells (happened c s x) few small next).laws.once k.valid;
       so = happening_strict S s x may b (stage_at S.header cells (happened c s x) few small next).laws.once (valid_at S s d x due b k.valid) k.so;
     }
 

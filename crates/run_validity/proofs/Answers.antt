@@ -39,7 +39,7 @@ use Rattle.history.specs.Member.{last_installed}
 use Rattle.history.specs.Moment.{Moment}
 use Rattle.history.specs.Order.{since}
 use Rattle.history.specs.Seizing.{is_install}
-use Rattle.history.specs.Validated.{Lapsed, Valid, moved_on, registers}
+use Rattle.history.specs.Validated.{Lapsed, Valid, moved_on, registers, validity}
 use Rattle.history.specs.Validated as validated
 use Rattle.node_model.specs.Seats.{installed_of, record_of, session_of}
 use Rattle.node_model.specs.declared.node.Node.TheVariants.{Up}
@@ -49,7 +49,7 @@ use Rattle.run_history.specs.Happenings.{IsReadied}
 use Rattle.run_seizings.proofs.Progress.{if_not, if_so}
 use Rattle.run_seizings.proofs.Promising.{same_so}
 use Rattle.run_validity.specs.Kept.{HasEntered, JoinSo, TaskSo, UpSo, WorkSo, readying}
-use Rattle.run_validity.specs.Laws.{Agrees, told_validity}
+use Rattle.run_validity.specs.Laws.{Agrees}
 use Rattle.run_validity.proofs.Tasks.{IsFirst, WorkFits, found_so, line_of, no_truth, same_two}
 
 -- ---- what the line tells
@@ -62,14 +62,14 @@ begins_so x at k f =
 
 -- the record was as told, or excused
 abbrev Weakly : Header → List Moment → ℕ → UpNode → NodeRecord → ℕ → Type 0
-Weakly h ms n x disk d = Agrees (told_validity h n d ms) (has disk.valid d) ⊎ readying (site (Up x) disk) d
+Weakly h ms n x disk d = Agrees (validity h n d ms) (has disk.valid d) ⊎ readying (site (Up x) disk) d
 
 -- .. and is as told behind the line
 abbrev Strictly : Header → List Moment → ℕ → ℕ → ℕ → Answer → ℕ → PrCommand → Type 0
-Strictly h ms n at d a valid k = Agrees (told_validity h n d (line_of n at k a ∷ ms)) (has valid d)
+Strictly h ms n at d a valid k = Agrees (validity h n d (line_of n at k a ∷ ms)) (has valid d)
 
 not_excused : (h : Header) (ms : List Moment) (n d : ℕ) (x : UpNode) (disk : NodeRecord) → begins_plainly x.tasks ≡ None → Weakly h ms n x disk d
-    → Agrees (told_validity h n d ms) (has disk.valid d)
+    → Agrees (validity h n d ms) (has disk.valid d)
 not_excused h ms n d x disk none (inl k) = k
 not_excused h ms n d x disk none (inr e) = absurd (none_some d (sym none ∙ e.0))
 
@@ -77,11 +77,11 @@ not_excused h ms n d x disk none (inr e) = absurd (none_some d (sym none ∙ e.0
 ignored : (h : Header) (ms : List Moment) (n at d key : ℕ) (x : UpNode) (disk : NodeRecord) (a : Answer) → has disk.valid at ≡ false → (begins_plainly x.tasks ≡ Some d → at ≡ d)
     → Weakly h ms n x disk d → Strictly h ms n at d a disk.valid (command.Ignore key)
 ignored h ms n at d key x disk a none begins k =
-    if_with (λ v. Agrees v (has disk.valid d)) ((n == n) && (at == d)) ((n == n) && (at == d)) Lapsed (told_validity h n d ms) refl
+    if_with (λ v. Agrees v (has disk.valid d)) ((n == n) && (at == d)) ((n == n) && (at == d)) Lapsed (validity h n d ms) refl
     (λ is. subst (λ e. has disk.valid e ≡ false) (same_number at d (and_cases (n == n) (at == d) is).1) none)
     (λ ban. by_excuse ban k)
   where
-    by_excuse : ((n == n) && (at == d)) ≡ false → Weakly h ms n x disk d → Agrees (told_validity h n d ms) (has disk.valid d)
+    by_excuse : ((n == n) && (at == d)) ≡ false → Weakly h ms n x disk d → Agrees (validity h n d ms) (has disk.valid d)
     by_excuse ban (inl told) = told
     by_excuse ban (inr e) = absurd (no_truth (sym ban ∙ same_two n at d (begins e.0)))
 
@@ -101,9 +101,9 @@ third_not false b c is = refl
 
 -- a word that joins nothing
 word_told_same : (h : Header) (ms : List Moment) (n at d : ℕ) (a : Answer) → ((w : ℕ) → word_told a ≡ Some w → validated.joins n d w ms ≡ false)
-    → told_validity h n d (line_of n at command.Word a ∷ ms) ≡ told_validity h n d ms
+    → validity h n d (line_of n at command.Word a ∷ ms) ≡ validity h n d ms
 word_told_same h ms n at d (Ok (given.Word w)) ban =
-    if_not ((n == n) && (at == d) && validated.joins n d w ms) Valid (told_validity h n d ms) (third_not (n == n) (at == d) (validated.joins n d w ms) (ban w refl))
+    if_not ((n == n) && (at == d) && validated.joins n d w ms) Valid (validity h n d ms) (third_not (n == n) (at == d) (validated.joins n d w ms) (ban w refl))
 word_told_same h ms n at d (Ok given.Good) ban = refl
 word_told_same h ms n at d (Ok given.Conflict) ban = refl
 word_told_same h ms n at d (Ok given.InvalidRelease) ban = refl
@@ -115,7 +115,7 @@ word_told_same h ms n at d (Ok (given.Miscompare w)) ban = refl
 word_told_same h ms n at d (Err lost) ban = refl
 
 word_same : (h : Header) (ms : List Moment) (n at d valid : ℕ) (a : Answer) → ((w : ℕ) → word_told a ≡ Some w → validated.joins n d w ms ≡ false)
-    → Agrees (told_validity h n d ms) (has valid d) → Strictly h ms n at d a valid command.Word
+    → Agrees (validity h n d ms) (has valid d) → Strictly h ms n at d a valid command.Word
 word_same h ms n at d valid a ban k = subst (λ v. Agrees v (has valid d)) (sym (word_told_same h ms n at d a ban)) k
 
 not_equal : (a b : ℕ) → a < b → a ≡ b → ⊥
@@ -195,8 +195,8 @@ progress_so x at k a f =
     progress_by_so o = queue.progress_by o a
 
 pub taken_valid : (h : Header) (ms : List Moment) (n at d : ℕ) (x : UpNode) (disk : NodeRecord) (k : PrCommand) (a : Answer) → disk ≡ record_of x → (f : IsFirst x at k)
-    → NotJoined (progress_after x.tasks a) → UpSo ms n x → Agrees (told_validity h n d ms) (has disk.valid d) ⊎ readying (site (Up x) disk) d
-    → Agrees (told_validity h n d (line_of n at k a ∷ ms)) (has disk.valid d)
+    → NotJoined (progress_after x.tasks a) → UpSo ms n x → Agrees (validity h n d ms) (has disk.valid d) ⊎ readying (site (Up x) disk) d
+    → Agrees (validity h n d (line_of n at k a ∷ ms)) (has disk.valid d)
 taken_valid h ms n at d x disk k a same f ban up weak =
     by_work f.task.work f.command f.fits (begins_so x at k f) (subst NotJoined (progress_so x at k a f) ban)
   where
@@ -249,14 +249,14 @@ second_off false b c e = refl
 
 -- the device of the joining is valid now, each other as it was
 word_valid : (h : Header) (ms : List Moment) (n at d w : ℕ) (valid : ℕ) → IsNumber at → last_installed n ms ≡ w → moved_on n ms ≡ false → HasEntered ms n at w
-    → Agrees (told_validity h n d ms) (has valid d) → Agrees (told_validity h n d (line_of n at command.Word (Ok (given.Word w)) ∷ ms)) (has (set_with valid at) d)
+    → Agrees (validity h n d ms) (has valid d) → Agrees (validity h n d (line_of n at command.Word (Ok (given.Word w)) ∷ ms)) (has (set_with valid at) d)
 word_valid h ms n at d w valid number last moved entered k = by_test (at == d) refl
   where
     few : at ≤ 32
     few = omega (arith, number.1)
 
     Goal : Type 0
-    Goal = Agrees (told_validity h n d (line_of n at command.Word (Ok (given.Word w)) ∷ ms)) (has (set_with valid at) d)
+    Goal = Agrees (validity h n d (line_of n at command.Word (Ok (given.Word w)) ∷ ms)) (has (set_with valid at) d)
 
     by_test : (b : Bool) → (at == d) ≡ b → Goal
     by_test true is =
@@ -265,13 +265,13 @@ word_valid h ms n at d w valid number last moved entered k = by_test (at == d) r
         three_so (last_installed n ms == w) (list_any (registers n d) (since (is_install n w) ms)) (moved_on n ms) (same_so (last_installed n ms) w last)
         (subst (λ e. HasEntered ms n e w) here entered) moved in
         subst (λ v. Agrees v (has (set_with valid at) d))
-        (sym (if_so ((n == n) && (at == d) && validated.joins n d w ms) Valid (told_validity h n d ms)
+        (sym (if_so ((n == n) && (at == d) && validated.joins n d w ms) Valid (validity h n d ms)
         (three_both (n == n) (at == d) (validated.joins n d w ms) (same_two n at d here) joins)))
         (subst (λ e. has (set_with valid at) e ≡ true) here (has_new valid at number.0 few))
     by_test false ban =
         subst (λ v. Agrees v (has (set_with valid at) d))
-        (sym (if_not ((n == n) && (at == d) && validated.joins n d w ms) Valid (told_validity h n d ms) (second_off (n == n) (at == d) (validated.joins n d w ms) ban)))
-        (subst (λ b. Agrees (told_validity h n d ms) b) (sym (has_same valid at d number.0 few (λ e. no_truth (sym ban ∙ same_so at d (sym e))))) k)
+        (sym (if_not ((n == n) && (at == d) && validated.joins n d w ms) Valid (validity h n d ms) (second_off (n == n) (at == d) (validated.joins n d w ms) ban)))
+        (subst (λ b. Agrees (validity h n d ms) b) (sym (has_same valid at d number.0 few (λ e. no_truth (sym ban ∙ same_so at d (sym e))))) k)
 
 not_goes_on : (d : ℕ) (r : JoinResult) → GoesOn ≡ Joined d r → ⊥
 not_goes_on d r is = cc
@@ -284,14 +284,14 @@ seizing_no at d None is = cc
 seizing_no at d (Some r) is = cc
 
 pub admitted_valid : (h : Header) (ms : List Moment) (n at d e : ℕ) (x : UpNode) (disk : NodeRecord) (k : PrCommand) (a : Answer) → disk ≡ record_of x → (f : IsFirst x at k)
-    → progress_after x.tasks a ≡ Joined e end.Joined → UpSo ms n x → Agrees (told_validity h n d ms) (has disk.valid d) ⊎ readying (site (Up x) disk) d
-    → Agrees (told_validity h n d (line_of n at k a ∷ ms)) (has (set_with disk.valid e) d)
+    → progress_after x.tasks a ≡ Joined e end.Joined → UpSo ms n x → Agrees (validity h n d ms) (has disk.valid d) ⊎ readying (site (Up x) disk) d
+    → Agrees (validity h n d (line_of n at k a ∷ ms)) (has (set_with disk.valid e) d)
 admitted_valid h ms n at d e x disk k a same f joined up weak =
     by_work f.task.work f.command f.fits (begins_so x at k f) (sym (progress_so x at k a f) ∙ joined)
     (subst (λ z. WorkSo ms n (session_of x) (installed_of x) z f.task.work) f.device (found_so (TaskSo ms n (session_of x) (installed_of x)) is_queued x.tasks f.task f.found up.tasks))
   where
     Goal : PrCommand → Answer → ℕ → Type 0
-    Goal z b z' = Agrees (told_validity h n d (line_of n at z b ∷ ms)) (has (set_with disk.valid z') d)
+    Goal z b z' = Agrees (validity h n d (line_of n at z b ∷ ms)) (has (set_with disk.valid z') d)
 
     by_join : (j : JoinState) (p : JoinStep) → joining.command_at j p ≡ Some k → WorkFits x at (Joins j) → begins_plainly x.tasks ≡ None
         → progress_in at (Joins (record j { step = joining.next_step j p a })) ≡ Joined e end.Joined → JoinSo ms n (session_of x) (installed_of x) at p → Goal k a e

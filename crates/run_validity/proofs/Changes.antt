@@ -33,7 +33,7 @@ use Rattle.history.specs.Member.{in_collect, last_installed}
 use Rattle.history.specs.Moment.{Moment}
 use Rattle.history.specs.Setting.{coordinator}
 use Rattle.history.specs.Trace.{installed}
-use Rattle.history.specs.Validated.{moved_on}
+use Rattle.history.specs.Validated.{moved_on, validity}
 use Rattle.node_model.specs.Attempts.{is_to_join, joining_from, joining_with}
 use Rattle.node_model.specs.Entries.{unknown_lines}
 use Rattle.node_model.specs.Members.{rested_by}
@@ -57,11 +57,12 @@ use Rattle.run_history.specs.WorldLines.{IsDevice}
 use Rattle.run_seizings.proofs.Changes.{NoCollect, mid}
 use Rattle.run_seizings.proofs.Progress.{if_so, or_left, same_is}
 use Rattle.run_seizings.proofs.Promising.{After, and_both, same_so}
+use Rattle.run_installs.specs.Shown.{InstallSo}
 use Rattle.run_validity.specs.Kept.{JoinSo, MovedSo, NoExcuse, TaskSo, UpSo, WorkSo}
-use Rattle.run_validity.specs.Laws.{Agrees, told_validity}
+use Rattle.run_validity.specs.Laws.{Agrees}
 use Rattle.run_validity.proofs.Acts.{strict}
 use Rattle.run_validity.proofs.Goes.{Goes, HasCollect, IsCollect, line_goes, mild_append, outputs_go}
-use Rattle.run_validity.proofs.Installs.{Brings, install_told, mid_brings}
+use Rattle.run_validity.proofs.Installs.{install_told}
 use Rattle.run_validity.proofs.Mild.{superseded_mild, unknown_mild}
 use Rattle.run_validity.proofs.Plainly.{mid_goes}
 
@@ -105,7 +106,7 @@ promises_go h c n told v w disk x p s same order may fit k =
     (mild_append (superseded_lines p x.attempt) (unknown_lines n x.requests.waiting) (superseded_mild p x.attempt) (unknown_mild n x.requests.waiting))
     (line_goes h n told v w NoExcuse NoExcuse (site (Up x) disk) (After c n x (Promises p)) s (entry.Node n note.Saved) tt (λ j ne is. ne (sym is)) (record {
       valid = λ d is.
-          subst (λ z. Agrees (told_validity h n d s.moments) (has z d) ⊎ ⊥) (ap (λ (r : NodeRecord). r.valid) same ∙ sym (rested_record p x x.attempt)) (k.here.valid d is);
+          subst (λ z. Agrees (validity h n d s.moments) (has z d) ⊎ ⊥) (ap (λ (r : NodeRecord). r.valid) same ∙ sym (rested_record p x x.attempt)) (k.here.valid d is);
       up = rested_up t.moments n p x x.attempt (least (installed_of x) (promised_of x) p order may.1) moved;
     }) k)
 
@@ -124,7 +125,7 @@ leads_go h c n told v w disk x p members b s same order may calm fit k =
     subst (λ r. Goes h n told v w NoExcuse (After c n x (Leads p members)) r) (sym (passing_append n (mid b n) (last_lines c n x (Leads p members)) s))
     (outputs_go h n told v w NoExcuse (After c n x (Leads p members)) (unknown_lines n x.requests.waiting) u fit (unknown_mild n x.requests.waiting)
     (line_goes h n told v w NoExcuse NoExcuse (site (Up x) disk) (After c n x (Leads p members)) t z tt (λ j ne is. ne (sym is ∙ own)) (record {
-      valid = λ d is. subst (λ r. Agrees (told_validity h n d t.moments) (has r d) ⊎ ⊥) (ap (λ (r : NodeRecord). r.valid) same) (l.here.valid d is);
+      valid = λ d is. subst (λ r. Agrees (validity h n d t.moments) (has r d) ⊎ ⊥) (ap (λ (r : NodeRecord). r.valid) same) (l.here.valid d is);
       up = record {
         moved = λ some.
             moved_up u.moments n p (installed_of x) (least (installed_of x) (promised_of x) p order may.0)
@@ -162,12 +163,12 @@ none_tasks ms after n q e r f [] ban k = tt
 none_tasks ms after n q e r f (t ∷ ts) ban k = (none_work ms after n q e r f t.device t.work ban k.0, none_tasks ms after n q e r f ts ban k.1)
 
 installed_so : (h : Header) (n e : ℕ) (told : Delivered) (v w : Nodes) (x y : UpNode) (disk new : NodeRecord) (s : Scene) → e ≡ session_of y → e ≡ installed_of y
-    → ((d : ℕ) → IsDevice h d → Agrees (told_validity h n d s.moments) (has disk.valid d) → Agrees (told_validity h n d (installed n e ∷ s.moments)) (has new.valid d))
+    → ((d : ℕ) → IsDevice h d → Agrees (validity h n d s.moments) (has disk.valid d) → Agrees (validity h n d (installed n e ∷ s.moments)) (has new.valid d))
     → (UpSo s.moments n x → AllByRecursion (TaskSo (installed n e ∷ s.moments) n (session_of y) (installed_of y)) y.tasks) → Goes h n told v w NoExcuse (site (Up x) disk) s
     → Goes h n told v w NoExcuse (site (Up y) new) (telling (entry.Node n (note.Installed e)) s)
 installed_so h n e told v w x y disk new s session here valid tasks k =
     line_goes h n told v w NoExcuse NoExcuse (site (Up x) disk) (site (Up y) new) s (entry.Node n (note.Installed e)) tt (λ j ne is. ne (sym is)) (record {
-      valid = λ d is. inl (valid d is (strict (Agrees (told_validity h n d s.moments) (has disk.valid d)) (k.here.valid d is)));
+      valid = λ d is. inl (valid d is (strict (Agrees (validity h n d s.moments) (has disk.valid d)) (k.here.valid d is)));
       up = record {
         moved = λ some. record {
           stands = λ is. (if_so (n == n) false (moved_on n s.moments) (same_is n), if_so (n == n) e (last_installed n s.moments) (same_is n) ∙ session);
@@ -178,10 +179,10 @@ installed_so h n e told v w x y disk new s session here valid tasks k =
     }) k
 
 pub counts_go : (h : Header) (c : Cluster) (M : Memberships) (n : ℕ) (told : Delivered) (v w : Nodes) (disk : NodeRecord) (x : UpNode) (a : AttemptState) (q : Call) (r : NodeState)
-    (i : Install) (b : Bool) (s : Scene) → length h.devices ≤ most_devices → At c M n told disk x → disk ≡ record_of x → MayChange c n told x (Counts a q r i) → Brings h s.moments i
+    (i : Install) (b : Bool) (s : Scene) → length h.devices ≤ most_devices → At c M n told disk x → disk ≡ record_of x → MayChange c n told x (Counts a q r i) → n ≤ 32 → InstallSo h (passing n (mid b n) s).moments n r i
     → (b ≡ true → NoCollect told) → Goes h n told v w NoExcuse (site (Up x) disk) s
     → Goes h n told v w NoExcuse (After c n x (Counts a q r i)) (passing n (mid b n ++ last_lines c n x (Counts a q r i)) s)
-counts_go h c M n told v w disk x a q r i b s many at same may brings calm k =
+counts_go h c M n told v w disk x a q r i b s many at same may low brings calm k =
     let t : Scene = passing n (mid b n) s in
     let l : Goes h n told v w NoExcuse (site (Up x) disk) t = mid_goes h n told v w x disk s b calm k in
     let y : UpNode = changed c n x (Counts a q r i) in
@@ -195,14 +196,14 @@ counts_go h c M n told v w disk x a q r i b s many at same may brings calm k =
     let after : session_of y ≡ session_of x = session_after c n told x (Counts a q r i) may tt (λ p e. cc) in
     subst (λ z. Goes h n told v w NoExcuse (After c n x (Counts a q r i)) z) (sym (passing_append n (mid b n) (last_lines c n x (Counts a q r i)) s))
     (installed_so h n i.epoch told v w x y disk (record_of y) t (epoch ∙ (own ∙ sym after)) refl
-    (λ d is old. install_told h t.moments n d i.epoch r.me disk.valid (record { valid = r.saved.valid; joined = 0 }) i.readings many is
-    (ap (λ z. (state_of z).saved.valid) (sym may.1) ∙ sym (ap (λ (z : NodeRecord). z.valid) same)) (mid_brings h n i b s brings).reads old)
+    (λ d is old. install_told h t.moments n d disk.valid r i many is low
+    (ap (λ z. (state_of z).saved.valid) (sym may.1) ∙ sym (ap (λ (z : NodeRecord). z.valid) same)) brings old)
     (λ up. joined_tasks c (installed n i.epoch ∷ t.moments) n (session_of y) (installed_of y) i.epoch (installed_with r i).joined [] i.readings tt) l)
 
 pub joins_go : (h : Header) (c : Cluster) (n : ℕ) (told : Delivered) (v w : Nodes) (disk : NodeRecord) (x : UpNode) (r : NodeState) (i : Install) (b : Bool) (s : Scene)
-    → length h.devices ≤ most_devices → disk ≡ record_of x → MayChange c n told x (Installs r i) → Brings h s.moments i → (b ≡ true → NoCollect told) → Goes h n told v w NoExcuse (site (Up x) disk) s
+    → length h.devices ≤ most_devices → disk ≡ record_of x → MayChange c n told x (Installs r i) → n ≤ 32 → InstallSo h (passing n (mid b n) s).moments n r i → (b ≡ true → NoCollect told) → Goes h n told v w NoExcuse (site (Up x) disk) s
     → Goes h n told v w NoExcuse (After c n x (Installs r i)) (passing n (mid b n ++ last_lines c n x (Installs r i)) s)
-joins_go h c n told v w disk x r i b s many same may brings calm k =
+joins_go h c n told v w disk x r i b s many same may low brings calm k =
     let t : Scene = passing n (mid b n) s in
     let l : Goes h n told v w NoExcuse (site (Up x) disk) t = mid_goes h n told v w x disk s b calm k in
     let y : UpNode = changed c n x (Installs r i) in
@@ -212,8 +213,8 @@ joins_go h c n told v w disk x r i b s many same may brings calm k =
     let other : session_of x ≡ installed_of x → ⊥ = λ is. may.4 (ap (λ (z : NodeState). z.saved.installed) (sym seat) ∙ (sym is ∙ sym at)) in
     subst (λ z. Goes h n told v w NoExcuse (After c n x (Installs r i)) z) (sym (passing_append n (mid b n) (last_lines c n x (Installs r i)) s))
     (installed_so h n i.epoch told v w x y disk (record_of y) t (at ∙ sym after) refl
-    (λ d is old. install_told h t.moments n d i.epoch r.me disk.valid (record { valid = r.saved.valid; joined = 0 }) i.readings many is
-    (ap (λ (z : NodeState). z.saved.valid) (sym seat) ∙ sym (ap (λ (z : NodeRecord). z.valid) same)) (mid_brings h n i b s brings).reads old)
+    (λ d is old. install_told h t.moments n d disk.valid r i many is low
+    (ap (λ (z : NodeState). z.saved.valid) (sym seat) ∙ sym (ap (λ (z : NodeRecord). z.valid) same)) brings old)
     (λ up.
     joined_tasks c (installed n i.epoch ∷ t.moments) n (session_of y) (installed_of y) i.epoch (installed_with r i).joined x.tasks i.readings
     (none_tasks t.moments (installed n i.epoch ∷ t.moments) n (session_of x) (installed_of x) (session_of y) (installed_of y) x.tasks other up.tasks)) l)

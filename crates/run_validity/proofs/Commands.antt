@@ -16,7 +16,6 @@ use Rattle.pgr_device.specs.declared.command.PrCommand.{PrCommand}
 use Rattle.seize.specs.Answers.{Answer}
 use Rattle.seize.specs.declared.kind.JoinResult.TheVariants as join
 use Rattle.status_report.specs.declared.node_entry.DownCause.TheVariants as cause
-use Rattle.history.specs.Contact.{AttemptsDiffer}
 use Rattle.node_model.specs.Seats.{coordinator_of, record_of}
 use Rattle.node_model.specs.Devices.{joining_so}
 use Rattle.node_model.specs.Steps.{at_second}
@@ -46,7 +45,7 @@ use Rattle.run_validity.specs.Kept.{NoExcuse, readying}
 use Rattle.run_validity.proofs.Acts.{mild_at}
 use Rattle.run_validity.proofs.Tasks.{IsFirst}
 use Rattle.run_validity.proofs.Courses.{joined_trusts, seized, under_trusts}
-use Rattle.run_validity.proofs.Doings.{Fixed, Ready, admits_goes, also_next, differ_next, rest_go, takes_goes}
+use Rattle.run_validity.proofs.Doings.{Ahead, Fixed, Ready, admits_goes, ahead_next, also_next, rest_go, takes_goes}
 use Rattle.run_validity.proofs.Downs.{Small, lost_goes, small_rest}
 use Rattle.run_validity.proofs.Goes.{Goes, HandSo}
 use Rattle.run_validity.proofs.Steps.{Around, Beside, Strict, all_around, ready_of, step_around}
@@ -74,7 +73,7 @@ first_due x at k f = (
 answers_walk : (h : Header) (c : Cluster) (M : Memberships) (n : ℕ) (v w : Nodes) (disk : NodeRecord) (x : UpNode) (g : Hand) (replies : List Reply) (at : ℕ) (k : PrCommand) (a : Answer)
     (p : Progress) (s : Scene) → Fixed h c n → Ready c M n None (site (Up x) disk) → disk ≡ record_of x → IsFirst x at k → progress_after x.tasks a ≡ p
     → Small h c n None g (site (Up x) disk) (under replies (progress_course c n x at k a p))
-    → AttemptsDiffer (passing n (given_all c n (site (Up x) disk) (under replies (progress_course c n x at k a p))) s).moments → seizings.Goes h n None v w (site (Up x) disk) g s → Goes h n None v w (readying (site (Up x) disk)) (site (Up x) disk) s
+    → Ahead h c n (site (Up x) disk) (under replies (progress_course c n x at k a p)) s → seizings.Goes h n None v w (site (Up x) disk) g s → Goes h n None v w (readying (site (Up x) disk)) (site (Up x) disk) s
     → Goes h n None v w NoExcuse (after_all c n (site (Up x) disk) (under replies (progress_course c n x at k a p)))
     (passing n (given_all c n (site (Up x) disk) (under replies (progress_course c n x at k a p))) s)
 answers_walk h c M n v w disk x g replies at k a GoesOn s fixed r same f is small differ z l =
@@ -131,7 +130,7 @@ answer_step h c n now at k ends a s sized b is time answer hand guard beside fir
     Walked w t y ds = Goes h n None s.nodes w NoExcuse (after_all c n (site (Up y) disk) ds) (passing n (given_all c n (site (Up y) disk) ds) t)
 
     Differs : Scene → UpNode → List Doing → Type 0
-    Differs t y ds = AttemptsDiffer (passing n (given_all c n (site (Up y) disk) ds) t).moments
+    Differs t y ds = Ahead h c n (site (Up y) disk) ds t
 
     by_due : (y : UpNode) (o : Option ℕ) (q : Option PrCommand) (replies : List Reply) (w : Nodes) (t : Scene) → due_device y.tasks ≡ o → next_of y.tasks ≡ q
         → Ready c b.machine n None (site (Up y) disk) → IsFirst y at k → Small h c n None None (site (Up y) disk) (under replies (answered_course c n y a o q))
@@ -147,7 +146,7 @@ answer_step h c n now at k ends a s sized b is time answer hand guard beside fir
 
     by_node : (node : Node) (replies : List Reply) (w : Nodes) (t : Scene) → Ready c b.machine n None (site node disk) → FirstIn at k node
         → Small h c n None None (site node disk) (doings c n now ends replies i node)
-        → AttemptsDiffer (passing n (given_all c n (site node disk) (doings c n now ends replies i node)) t).moments → seizings.Goes h n None s.nodes w (site node disk) None t
+        → Ahead h c n (site node disk) (doings c n now ends replies i node) t → seizings.Goes h n None s.nodes w (site node disk) None t
         → Goes h n None s.nodes w (readying (site node disk)) (site node disk) t
         → Goes h n None s.nodes w NoExcuse (after_all c n (site node disk) (doings c n now ends replies i node)) (passing n (given_all c n (site node disk) (doings c n now ends replies i node)) t)
     by_node Down replies w t r f small differ z l = absurd f
@@ -157,6 +156,6 @@ answer_step h c n now at k ends a s sized b is time answer hand guard beside fir
         by_due y (due_device y.tasks) (next_of y.tasks) replies w t refl refl
         (record { fits = r.fits; holds = r.holds; known = r.known; tied = r.tied; joins = r.joins })
         (record { task = f.task; found = f.found; device = f.device; command = f.command; number = f.number; fits = f.fits; readied = f.readied })
-        (small_rest h c n None None (site (Up x) disk) (Does (Dates now)) rest small) (differ_next c n (site (Up x) disk) (Does (Dates now)) rest t differ)
-        (also_next h c b.machine n None s.nodes w (site (Up x) disk) None (Does (Dates now)) rest t beside.fixed r small differ z)
+        (small_rest h c n None None (site (Up x) disk) (Does (Dates now)) rest small) (ahead_next h c n (site (Up x) disk) (Does (Dates now)) rest t differ)
+        (also_next h c b.machine n None s.nodes w (site (Up x) disk) None (Does (Dates now)) rest t beside.fixed r small differ.differ z)
         (mild_at h n None s.nodes w (readying (site (Up x) disk)) disk x y [] t tt tt refl refl refl l)

@@ -51,15 +51,16 @@ use Rattle.run_seizings.proofs.Doings.{differ_before, doing_goes, rises_so}
 use Rattle.run_seizings.proofs.Goes as seizings
 use Rattle.run_seizings.proofs.Promising.{ChangeMay}
 use Rattle.run_seizings.proofs.Changes.{IsPromise, NoCollect, fit_parts}
+use Rattle.history.specs.Validated.{validity}
+use Rattle.run_installs.specs.Shown.{AllInstall, DoingInstalls}
 use Rattle.run_validity.specs.Kept.{NoExcuse, readying}
-use Rattle.run_validity.specs.Laws.{Agrees, told_validity}
+use Rattle.run_validity.specs.Laws.{Agrees}
 use Rattle.run_validity.proofs.Acts.{act_goes}
 use Rattle.run_validity.proofs.Answers.{NotJoined, admitted_valid, taken_valid}
 use Rattle.run_validity.proofs.Tasks.{IsFirst, line_of, taken_up}
 use Rattle.run_validity.proofs.Changes.{counts_go, joins_go, leads_go, promises_go}
 use Rattle.run_validity.proofs.Plainly.{IsPlain, mid_goes, plain_goes}
 use Rattle.run_validity.proofs.Courses.{AllTrust, DoingTrusts, TrustsAct, TrustsChange}
-use Rattle.run_validity.proofs.Installs.{counts_bring, install_brings}
 use Rattle.run_validity.proofs.Goes.{Goes, line_goes}
 use Rattle.run_validity.proofs.Downs.{DoingLost, Small, gone_goes, lost_goes, own_command, small_rest, up_goes}
 
@@ -94,12 +95,13 @@ does_goes h c n told v w disk x g a s same may so guard trusts fit k = act_goes 
 pub record Fixed (h : Header) (c : Cluster) (n : ℕ) : Type 0 where
   pub id : c.id ≡ h.cluster
   pub low : nat_le n 32 ≡ true
+  pub few : n ≤ 32
   pub many : length h.devices ≤ most_devices
 
 saves_goes : (h : Header) (c : Cluster) (M : Memberships) (n : ℕ) (told : Delivered) (v w : Nodes) (disk : NodeRecord) (x : UpNode) (g : Hand) (ch : Change) (s : Scene) → Fixed h c n
     → At c M n told disk x → disk ≡ record_of x → installed_of x ≤ promised_of x → MayChange c n told x ch → ChangeMay h x ch → SavesSo told ch → TrustsChange ch
-    → AllFit n (gives c n (site (Up x) disk) (Saves ch)) → seizings.Goes h n told v w (site (Up x) disk) g s → Goes h n told v w NoExcuse (site (Up x) disk) s → Goes h n told v w NoExcuse (effect c n (site (Up x) disk) (Saves ch)) (passing n (gives c n (site (Up x) disk) (Saves ch)) s)
-saves_goes h c M n told v w disk x g ch s fixed at same order may guard saves trusts fit z k = by_change ch may guard saves trusts fit
+    → AllFit n (gives c n (site (Up x) disk) (Saves ch)) → DoingInstalls h n s.moments (Saves ch) → Goes h n told v w NoExcuse (site (Up x) disk) s → Goes h n told v w NoExcuse (effect c n (site (Up x) disk) (Saves ch)) (passing n (gives c n (site (Up x) disk) (Saves ch)) s)
+saves_goes h c M n told v w disk x g ch s fixed at same order may guard saves trusts fit z k = by_change ch may guard saves trusts fit z
   where
     calm : (ch : Change) → (IsPromise ch → ⊥) → SavesSo told ch → true ≡ true → NoCollect told
     calm ch other (inl promise) is = absurd (other promise)
@@ -109,20 +111,20 @@ saves_goes h c M n told v w disk x g ch s fixed at same order may guard saves tr
         → Goes h n told v w NoExcuse (effect c n (site (Up x) disk) (Saves ch)) (passing n (gives c n (site (Up x) disk) (Saves ch)) s)
     plainly ch is other m q f = plain_goes h c n told v w disk (record_of (changed c n x ch)) x ch true s same refl m is (calm ch other q) f k
 
-    by_change : (ch : Change) → MayChange c n told x ch → ChangeMay h x ch → SavesSo told ch → TrustsChange ch → AllFit n (gives c n (site (Up x) disk) (Saves ch))
+    by_change : (ch : Change) → MayChange c n told x ch → ChangeMay h x ch → SavesSo told ch → TrustsChange ch → AllFit n (gives c n (site (Up x) disk) (Saves ch)) → DoingInstalls h n s.moments (Saves ch)
         → Goes h n told v w NoExcuse (effect c n (site (Up x) disk) (Saves ch)) (passing n (gives c n (site (Up x) disk) (Saves ch)) s)
-    by_change (Promises p) m e q t f = promises_go h c n told v w disk x p s same order m f k
-    by_change (Leads p members) m e q t f = leads_go h c n told v w disk x p members true s same order m (calm (Leads p members) (λ z. z) q) f k
-    by_change (Counts a j y i) m e q t f = counts_go h c M n told v w disk x a j y i true s fixed.many at same m (counts_bring h c M n told v w disk x g a j y i s fixed.low at m e z) (calm (Counts a j y i) (λ z. z) q) k
-    by_change (Installs y i) m e q t f = joins_go h c n told v w disk x y i true s fixed.many same m (install_brings h s.moments n told i m.1 z.hand) (calm (Installs y i) (λ z. z) q) k
-    by_change (Starts a j y) m e q t f = plainly (Starts a j y) tt (λ z. z) m q f
-    by_change (Sits y p) m e q t f = plainly (Sits y p) tt (λ z. z) m q f
-    by_change (Proposes y p text) m e q t f = plainly (Proposes y p text) tt (λ z. z) m q f
-    by_change (Acks y p j left text) m e q t f = plainly (Acks y p j left text) tt (λ z. z) m q f
-    by_change (Prepares y text) m e q t f = plainly (Prepares y text) tt (λ z. z) m q f
-    by_change (Commits y) m e q t f = plainly (Commits y) tt (λ z. z) m q f
-    by_change (Distrusts d) m e q t f = absurd t
-    by_change (Admits on command a d) m e q t f = absurd t
+    by_change (Promises p) m e q t f z = promises_go h c n told v w disk x p s same order m f k
+    by_change (Leads p members) m e q t f z = leads_go h c n told v w disk x p members true s same order m (calm (Leads p members) (λ z. z) q) f k
+    by_change (Counts a j y i) m e q t f z = counts_go h c M n told v w disk x a j y i true s fixed.many at same m fixed.few z (calm (Counts a j y i) (λ z. z) q) k
+    by_change (Installs y i) m e q t f z = joins_go h c n told v w disk x y i true s fixed.many same m fixed.few z (calm (Installs y i) (λ z. z) q) k
+    by_change (Starts a j y) m e q t f z = plainly (Starts a j y) tt (λ z. z) m q f
+    by_change (Sits y p) m e q t f z = plainly (Sits y p) tt (λ z. z) m q f
+    by_change (Proposes y p text) m e q t f z = plainly (Proposes y p text) tt (λ z. z) m q f
+    by_change (Acks y p j left text) m e q t f z = plainly (Acks y p j left text) tt (λ z. z) m q f
+    by_change (Prepares y text) m e q t f z = plainly (Prepares y text) tt (λ z. z) m q f
+    by_change (Commits y) m e q t f z = plainly (Commits y) tt (λ z. z) m q f
+    by_change (Distrusts d) m e q t f z = absurd t
+    by_change (Admits on command a d) m e q t f z = absurd t
 
 -- what is known of the machine
 pub record Ready (c : Cluster) (M : Memberships) (n : ℕ) (told : Delivered) (x : Site) : Type 0 where
@@ -137,7 +139,7 @@ Done h c n told v w x d s = Goes h n told v w NoExcuse (effect c n x d) (passing
 
 up_done : (h : Header) (c : Cluster) (M : Memberships) (n : ℕ) (told : Delivered) (v w : Nodes) (disk : NodeRecord) (x : UpNode) (g : Hand) (d : Doing) (s : Scene) → Fixed h c n
     → Ready c M n told (site (Up x) disk) → May c n told (site (Up x) disk) d → DoingSo d → DoingMay h n told g (site (Up x) disk) d → DoingTrusts d → DoingLost d
-    → AllFit n (gives c n (site (Up x) disk) d) → seizings.Goes h n told v w (site (Up x) disk) g s → Goes h n told v w NoExcuse (site (Up x) disk) s
+    → AllFit n (gives c n (site (Up x) disk) d) → DoingInstalls h n s.moments d → Goes h n told v w NoExcuse (site (Up x) disk) s
     → Done h c n told v w (site (Up x) disk) d s
 up_done h c M n told v w disk x g Comes_up s fixed r may so guard trusts loses fit z k = absurd may
 up_done h c M n told v w disk x g (Goes_down why) s fixed r may so guard trusts loses fit z k = gone_goes h n told v w disk x why s k
@@ -160,15 +162,15 @@ down_done h c n told v w disk (Loses ch why) s may k = absurd may
 down_done h c n told v w disk (Forgets ch why) s may k = absurd may
 
 doing_done : (h : Header) (c : Cluster) (M : Memberships) (n : ℕ) (told : Delivered) (v w : Nodes) (x : Site) (g : Hand) (d : Doing) (s : Scene) → Fixed h c n
-    → Ready c M n told x → May c n told x d → DoingSo d → DoingMay h n told g x d → DoingTrusts d → DoingLost d → AllFit n (gives c n x d) → seizings.Goes h n told v w x g s
+    → Ready c M n told x → May c n told x d → DoingSo d → DoingMay h n told g x d → DoingTrusts d → DoingLost d → AllFit n (gives c n x d) → DoingInstalls h n s.moments d
     → Goes h n told v w NoExcuse x s → Done h c n told v w x d s
-doing_done h c M n told v w x g d s fixed r may so guard trusts loses fit z k = by_node x.node r may guard fit z k
+doing_done h c M n told v w x g d s fixed r may so guard trusts loses fit z k = by_node x.node r may guard fit k
   where
     by_node : (node : Node) → Ready c M n told (site node x.disk) → May c n told (site node x.disk) d → DoingMay h n told g (site node x.disk) d
-        → AllFit n (gives c n (site node x.disk) d) → seizings.Goes h n told v w (site node x.disk) g s → Goes h n told v w NoExcuse (site node x.disk) s
+        → AllFit n (gives c n (site node x.disk) d) → Goes h n told v w NoExcuse (site node x.disk) s
         → Done h c n told v w (site node x.disk) d s
-    by_node Down b m e f also l = down_done h c n told v w x.disk d s m l
-    by_node (Up y) b m e f also l = up_done h c M n told v w x.disk y g d s fixed b m so e trusts loses f also l
+    by_node Down b m e f l = down_done h c n told v w x.disk d s m l
+    by_node (Up y) b m e f l = up_done h c M n told v w x.disk y g d s fixed b m so e trusts loses f z l
 
 -- ---- one after another
 
@@ -208,8 +210,16 @@ pub differ_next : (c : Cluster) (n : ℕ) (x : Site) (d : Doing) (ds : List Doin
     → AttemptsDiffer (passing n (given_all c n (effect c n x d) ds) (passing n (gives c n x d) s)).moments
 differ_next c n x d ds s differ = subst (λ (t : Scene). AttemptsDiffer t.moments) (passing_append n (gives c n x d) (given_all c n (effect c n x d) ds) s) differ
 
+-- what is ahead: attempts differ, and what is installed tells the seizings
+pub record Ahead (h : Header) (c : Cluster) (n : ℕ) (x : Site) (ds : List Doing) (s : Scene) : Type 0 where
+  pub differ : AttemptsDiffer (passing n (given_all c n x ds) s).moments
+  pub installs : AllInstall h c n x ds s
+
+pub ahead_next : (h : Header) (c : Cluster) (n : ℕ) (x : Site) (d : Doing) (ds : List Doing) (s : Scene) → Ahead h c n x (d ∷ ds) s → Ahead h c n (effect c n x d) ds (passing n (gives c n x d) s)
+ahead_next h c n x d ds s k = record { differ = differ_next c n x d ds s k.differ; installs = k.installs.1 }
+
 pub all_go : (h : Header) (c : Cluster) (M : Memberships) (n : ℕ) (told : Delivered) (v w : Nodes) (x : Site) (g : Hand) (ds : List Doing) (s : Scene) → Fixed h c n → Ready c M n told x
-    → Small h c n told g x ds → AllTrust ds → AttemptsDiffer (passing n (given_all c n x ds) s).moments → seizings.Goes h n told v w x g s → Goes h n told v w NoExcuse x s
+    → Small h c n told g x ds → AllTrust ds → Ahead h c n x ds s → seizings.Goes h n told v w x g s → Goes h n told v w NoExcuse x s
     → Goes h n told v w NoExcuse (after_all c n x ds) (passing n (given_all c n x ds) s)
 all_go h c M n told v w x g [] s fixed r small trusts differ z k = k
 all_go h c M n told v w x g (d ∷ ds) s fixed r small trusts differ z k =
@@ -218,21 +228,21 @@ all_go h c M n told v w x g (d ∷ ds) s fixed r small trusts differ z k =
     let parts : AllFit n first × AllFit n rest = fit_parts n first rest small.fit in
     let next : Next c n told x.disk.promised (effect c n x d) = next_of c M n told x d r small.may.0 in
     let one : Goes h n told v w NoExcuse (effect c n x d) (passing n first s) =
-    doing_done h c M n told v w x g d s fixed r small.may.0 small.so.0 small.guard.0 trusts.0 small.lost.0 parts.0 z k in
+    doing_done h c M n told v w x g d s fixed r small.may.0 small.so.0 small.guard.0 trusts.0 small.lost.0 parts.0 differ.installs.0 k in
     subst (λ t. Goes h n told v w NoExcuse (after_all c n (effect c n x d) ds) t) (sym (passing_append n first rest s))
     (all_go h c next.machine n told v w (effect c n x d) (hand_after g d) ds (passing n first s) fixed next.ready (small_rest h c n told g x d ds small) trusts.1
-    (differ_next c n x d ds s differ) (also_next h c M n told v w x g d ds s fixed r small differ z) one)
+    (ahead_next h c n x d ds s differ) (also_next h c M n told v w x g d ds s fixed r small differ.differ z) one)
 
 -- the rest goes on behind the first
 pub rest_go : (h : Header) (c : Cluster) (M : Memberships) (n : ℕ) (told : Delivered) (v w : Nodes) (x : Site) (g : Hand) (d : Doing) (ds : List Doing) (s : Scene) → Fixed h c n
-    → Ready c M n told x → Small h c n told g x (d ∷ ds) → AllTrust ds → AttemptsDiffer (passing n (given_all c n x (d ∷ ds)) s).moments → seizings.Goes h n told v w x g s
+    → Ready c M n told x → Small h c n told g x (d ∷ ds) → AllTrust ds → Ahead h c n x (d ∷ ds) s → seizings.Goes h n told v w x g s
     → Goes h n told v w NoExcuse (effect c n x d) (passing n (gives c n x d) s)
     → Goes h n told v w NoExcuse (after_all c n x (d ∷ ds)) (passing n (given_all c n x (d ∷ ds)) s)
 rest_go h c M n told v w x g d ds s fixed r small trusts differ z k =
     let next : Next c n told x.disk.promised (effect c n x d) = next_of c M n told x d r small.may.0 in
     subst (λ t. Goes h n told v w NoExcuse (after_all c n (effect c n x d) ds) t) (sym (passing_append n (gives c n x d) (given_all c n (effect c n x d) ds) s))
     (all_go h c next.machine n told v w (effect c n x d) (hand_after g d) ds (passing n (gives c n x d) s) fixed next.ready (small_rest h c n told g x d ds small) trusts
-    (differ_next c n x d ds s differ) (also_next h c M n told v w x g d ds s fixed r small differ z) k)
+    (ahead_next h c n x d ds s differ) (also_next h c M n told v w x g d ds s fixed r small differ.differ z) k)
 
 -- ---- the answer to a command
 
@@ -259,7 +269,7 @@ admits_goes h c n told v w disk x at k a d s same calm f joined l =
     mid_goes h n told v w y new (telling z s) true (λ is. calm)
     (line_goes h n told v w (readying (site (Up x) disk)) NoExcuse (site (Up x) disk) (site (Up y) new) s z tt (λ j ne. own_command j n k ne) (record {
       valid = λ e is.
-          inl (subst (λ r. Agrees (told_validity h n e (line_of n at k a ∷ s.moments)) (has r e)) valid
+          inl (subst (λ r. Agrees (validity h n e (line_of n at k a ∷ s.moments)) (has r e)) valid
           (admitted_valid h s.moments n at e d x disk k a same f joined l.here.up (l.here.valid e is)));
       up = taken_up s.moments n at x y k a f (ap (λ (u : NodeState). u.session) state) (ap (λ (u : NodeState). u.saved.installed) state) refl l.here.up;
     }) l)

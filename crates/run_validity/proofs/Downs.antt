@@ -17,7 +17,7 @@ use Rattle.status_report.specs.declared.update_entry.UpdateEntry.TheVariants as 
 use Rattle.ccr_commit.specs.Entries.{texts_of}
 use Rattle.history.specs.Moment.{Moment}
 use Rattle.history.specs.Trace.{down}
-use Rattle.history.specs.Validated.{Open}
+use Rattle.history.specs.Validated.{Open, validity}
 use Rattle.node_model.specs.Devices.{answer_told}
 use Rattle.node_model.specs.declared.cluster.Cluster.{Cluster}
 use Rattle.node_model.specs.declared.node.Node.TheVariants.{Down, Up}
@@ -37,7 +37,7 @@ use Rattle.run_seizings.proofs.Asked.{AllMay}
 use Rattle.run_seizings.proofs.Changes.{fit_parts}
 use Rattle.run_seizings.proofs.Progress.{if_so, same_is}
 use Rattle.run_validity.specs.Kept.{Excuse, NoExcuse, SiteSo}
-use Rattle.run_validity.specs.Laws.{Agrees, told_validity}
+use Rattle.run_validity.specs.Laws.{Agrees}
 use Rattle.run_validity.proofs.Acts.{strict}
 use Rattle.run_validity.proofs.Goes.{Goes, goes_at, line_goes}
 use Rattle.run_validity.proofs.Stills.{IsAside}
@@ -76,18 +76,18 @@ small_rest h c n told g x d ds k =
 
 -- ---- a node goes down, or comes up
 
-crash_told : (h : Header) (ms : List Moment) (n d : ℕ) (b : Bool) (why : DownCause) → Agrees (told_validity h n d ms) b → Agrees (told_validity h n d (down n why ∷ ms)) b
+crash_told : (h : Header) (ms : List Moment) (n d : ℕ) (b : Bool) (why : DownCause) → Agrees (validity h n d ms) b → Agrees (validity h n d (down n why ∷ ms)) b
 crash_told h ms n d b cause.Crash k = k
-crash_told h ms n d b cause.Stopped k = subst (λ v. Agrees v b) (sym (if_so (n == n) Open (told_validity h n d ms) (same_is n))) tt
-crash_told h ms n d b (cause.Panic panic.Disk) k = subst (λ v. Agrees v b) (sym (if_so (n == n) Open (told_validity h n d ms) (same_is n))) tt
+crash_told h ms n d b cause.Stopped k = subst (λ v. Agrees v b) (sym (if_so (n == n) Open (validity h n d ms) (same_is n))) tt
+crash_told h ms n d b (cause.Panic panic.Disk) k = subst (λ v. Agrees v b) (sym (if_so (n == n) Open (validity h n d ms) (same_is n))) tt
 crash_told h ms n d b (cause.Panic (panic.Fenced e)) k = k
 crash_told h ms n d b (cause.Panic (panic.Excluded q)) k = k
 crash_told h ms n d b (cause.Panic (panic.Stop r)) k = k
 
 -- of a save that was lost nothing is told
-loss_told : (h : Header) (ms : List Moment) (n d : ℕ) (b : Bool) (why : DownCause) → IsLoss why → Agrees (told_validity h n d (down n why ∷ ms)) b
-loss_told h ms n d b cause.Stopped is = subst (λ v. Agrees v b) (sym (if_so (n == n) Open (told_validity h n d ms) (same_is n))) tt
-loss_told h ms n d b (cause.Panic panic.Disk) is = subst (λ v. Agrees v b) (sym (if_so (n == n) Open (told_validity h n d ms) (same_is n))) tt
+loss_told : (h : Header) (ms : List Moment) (n d : ℕ) (b : Bool) (why : DownCause) → IsLoss why → Agrees (validity h n d (down n why ∷ ms)) b
+loss_told h ms n d b cause.Stopped is = subst (λ v. Agrees v b) (sym (if_so (n == n) Open (validity h n d ms) (same_is n))) tt
+loss_told h ms n d b (cause.Panic panic.Disk) is = subst (λ v. Agrees v b) (sym (if_so (n == n) Open (validity h n d ms) (same_is n))) tt
 loss_told h ms n d b cause.Crash is = absurd is
 loss_told h ms n d b (cause.Panic (panic.Fenced e)) is = absurd is
 loss_told h ms n d b (cause.Panic (panic.Excluded q)) is = absurd is
@@ -97,7 +97,7 @@ pub gone_goes : (h : Header) (n : ℕ) (told : Delivered) (v w : Nodes) (disk : 
     → Goes h n told v w NoExcuse (site Down disk) (passing n (gone_line n why) s)
 gone_goes h n told v w disk x why s k =
     line_goes h n told v w NoExcuse NoExcuse (site (Up x) disk) (site Down disk) s (entry.Node n (note.Down why)) tt (λ j ne is. ne (sym is)) (record {
-      valid = λ d is. inl (crash_told h s.moments n d (has disk.valid d) why (strict (Agrees (told_validity h n d s.moments) (has disk.valid d)) (k.here.valid d is)));
+      valid = λ d is. inl (crash_told h s.moments n d (has disk.valid d) why (strict (Agrees (validity h n d s.moments) (has disk.valid d)) (k.here.valid d is)));
       up = tt;
     }) k
 

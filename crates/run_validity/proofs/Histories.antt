@@ -1,6 +1,6 @@
 -- What is told is what the history has, where it is not open.
 use Rattle.std.specs.Prelude.{ℕ, ◌≡◌, ◌⊎◌, ◌==◌, ◌&&◌, Bool, true, false, List, [], ◌∷◌, Option, None, Some, is_some, if◌then◌else◌}
-use Rattle.std.proofs.Common.{refl, inl, inr}
+use Rattle.std.proofs.Common.{refl, sym, subst, inl, inr}
 use Rattle.cl_base.specs.declared.header.Header.{Header}
 use Rattle.cl_base.specs.declared.panic.Panic.TheVariants as panic
 use Rattle.pgr_device.specs.declared.command.PrAnswer.TheVariants as answer
@@ -19,7 +19,7 @@ use Rattle.status_report.specs.declared.node_entry.NodeEntry.TheVariants as note
 use Rattle.history.specs.Moment.{Moment, Part, Said, Told}
 use Rattle.history.specs.Seizing.{Seizing, seizing_of}
 use Rattle.history.specs.Validated.{Validity, Valid, Lapsed, Open, at_install, joins, validity}
-use Rattle.run_validity.specs.Laws.{ToldAsInHistory, told_validity}
+use Rattle.run_validity.specs.Laws.{Agrees, ToldAsInHistory, told_validity}
 
 abbrev Same : Validity → Validity → Type 0
 Same told whole = (told ≡ Open) ⊎ (whole ≡ told)
@@ -75,3 +75,11 @@ told_as_in_history h n d [] = inr refl
 told_as_in_history h n d (Said line ∷ ms) = told_as_in_history h n d ms
 told_as_in_history h n d (Part event ∷ ms) = told_as_in_history h n d ms
 told_as_in_history h n d (Told e ∷ ms) = entry_same h n d e ms (told_as_in_history h n d ms)
+
+-- where a set agrees with what `history` says, it does with what is told
+pub told_agrees : (h : Header) (n d : ℕ) (ms : List Moment) (b : Bool) → Agrees (validity h n d ms) b → Agrees (told_validity h n d ms) b
+told_agrees h n d ms b k = by_cases (told_as_in_history h n d ms)
+  where
+    by_cases : Same (told_validity h n d ms) (validity h n d ms) → Agrees (told_validity h n d ms) b
+    by_cases (inl untold) = subst (λ v. Agrees v b) (sym untold) tt
+    by_cases (inr same) = subst (λ v. Agrees v b) same k

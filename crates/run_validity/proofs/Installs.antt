@@ -1,32 +1,29 @@
--- An install changes no device that was not seized for it.
-use Rattle.std.specs.Prelude.{ℕ, ◌-◌, ◌≡◌, ◌≢◌, ◌<◌, ◌≤◌, ◌==◌, nat_le, All, Bool, true, false, List, [], ◌∷◌, length, None, Some, is_some, if◌then◌else◌}
+-- Of each device an install makes what the lines say: the seizer's own is valid, that of another member stays or lapses by what the seizer read.
+use Rattle.std.specs.Prelude.{zero, suc, ℕ, ◌-◌, ◌^◌, ◌⊎◌, ◌&&◌, ◌||◌, ◌≡◌, ◌≢◌, ◌<◌, ◌≤◌, ◌==◌, nat_le, All, Bool, true, false, List, [], ◌∷◌, length, None, Some, if◌then◌else◌}
 use Rattle.std.specs.List.{AllByRecursion, list_any}
-use Rattle.std.proofs.Common.{refl, sym, ap, subst, ◌∙◌, arith, w32}
-use Rattle.std.proofs.lemmas.Nat.Bits.{bit_at_clear_other}
+use Rattle.std.proofs.Common.{refl, sym, ap, subst, ◌∙◌, arith, inl, inr, w32}
+use Rattle.std.proofs.lemmas.Nat.Bits.{bit_at_clear_other, bit_at_clear_same}
 use Rattle.attempt_laws.proofs.Goes.{chosen_reached, goes_by_call}
 use Rattle.attempt_laws.proofs.Stays.{plan_stays}
-use Rattle.attempt_laws.proofs.Walk.{if_with}
-use Rattle.cl_base.proofs.SetLemmas.{and_bit_value, has_at}
+use Rattle.cl_base.proofs.SetLemmas.{and_bit_value, has_at, has_with, none_of_zero, or_bit_value}
 use Rattle.cl_base.specs.Limits.{most_devices}
 use Rattle.cl_base.specs.Sets.{has, set_with, set_without}
 use Rattle.cl_base.specs.declared.header.Header.{Header}
 use Rattle.cluster_ties.proofs.Commands.{has_same}
-use Rattle.cmm_attempt.proofs.Basics.{if_either}
 use Rattle.cmm_attempt.specs.Attempts.{AttemptState, install_in}
 use Rattle.cmm_attempt.specs.Calls as calls
 use Rattle.cmm_attempt.specs.Calls.{Call, turn}
 use Rattle.cmm_attempt.specs.declared.plan.Plan.{Plan}
-use Rattle.cmm_member.specs.Nodes.{Devices, NodeState, joining_all, joining_one, joins}
+use Rattle.cmm_member.specs.Nodes.{AreOfDevices, Devices, NodeState, devices_after, has_key_of, joining_all, joining_one, joins}
 use Rattle.cmm_member.specs.Records.{NodeRecord}
 use Rattle.membership_machine.specs.State.{Memberships}
-use Rattle.wire.specs.Spelling.{IsDevice as IsNumber}
 use Rattle.wire.specs.declared.lists.Reading.{Reading}
 use Rattle.wire.specs.declared.message.Body.TheVariants as body
 use Rattle.wire.specs.declared.message.Install.{Install}
 use Rattle.history.specs.Moment.{Moment}
 use Rattle.history.specs.Seizing.{is_attempt, seizing_of}
 use Rattle.history.specs.Trace.{installed, saved}
-use Rattle.history.specs.Validated.{Open}
+use Rattle.history.specs.Validated.{Lapsed, Open, Valid, Validity, at_install, validity}
 use Rattle.node_model.specs.Seats.{session_of}
 use Rattle.node_model.specs.declared.cluster.Cluster.{Cluster}
 use Rattle.node_model.specs.declared.node.Node.TheVariants.{Up}
@@ -48,10 +45,14 @@ use Rattle.run_seizings.proofs.Brings.{reads_so}
 use Rattle.run_seizings.proofs.Calls.{attempt_of, call_keeps}
 use Rattle.run_seizings.proofs.Changes.{mid}
 use Rattle.run_seizings.proofs.Goes as seizings
-use Rattle.run_seizings.proofs.Progress.{if_so, same_is}
+use Rattle.run_seizings.proofs.Progress.{if_so, or_left, same_is}
 use Rattle.run_seizings.proofs.Stays.{reads_stay}
 use Rattle.run_seizings.proofs.Turns.{Keeps}
-use Rattle.run_validity.specs.Laws.{Agrees, told_validity}
+use Rattle.machine_base.proofs.Puts.{same_or_not}
+use Rattle.run_readings.proofs.Installs.{installs_as_read}
+use Rattle.run_readings.specs.Laws.{IsSo, told_in}
+use Rattle.run_installs.specs.Shown.{InstallSo}
+use Rattle.run_validity.specs.Laws.{Agrees}
 
 no_truth : false ≡ true → ⊥
 no_truth e = cc
@@ -72,41 +73,135 @@ less_other set d e low high lo hi ne =
 few : (d : ℕ) → d ≤ 16 → d ≤ 32
 few d l = omega (arith, l)
 
--- what was read elsewhere leaves it
-abbrev Lacks : ℕ → List Reading → Type 0
-Lacks d rs = AllByRecursion (λ (r : Reading). IsNumber r.device × (r.device ≢ d)) rs
+before : (k : ℕ) → 1 ≤ k → k ≤ 32 → k - 1 < 32
+before k l m = omega (arith, l, m)
+
+less_same : (set d : ℕ) → 1 ≤ d → d ≤ 32 → has (set_without set d) d ≡ false
+less_same set d low high =
+    ap (λ s. has s d) (sym (and_bit_value set d high)) ∙ (has_at _ d low ∙ ap (λ b. b == 1) (bit_at_clear_same w32 set (d - 1) (before d low high)))
+
+more_same : (set d : ℕ) → 1 ≤ d → d ≤ 32 → has (set_with set d) d ≡ true
+more_same set d low high =
+    ap (λ s. has s d) (sym (or_bit_value set d high)) ∙ (has_with set d low high d ∙ or_left (d == d) (has set d) (same_is d))
+
+-- ---- what an install makes of a device rests on the device alone
 
 turned : (a b : ℕ) → a ≢ b → b ≢ a
 turned a b ne e = ne (sym e)
 
-unread : (me d : ℕ) → 1 ≤ d → d ≤ 32 → (D : Devices) (rs : List Reading) → Lacks d rs → has (joining_all me D rs).valid d ≡ has D.valid d
-unread me d low high D [] k = refl
-unread me d low high D (r ∷ rs) k =
-    unread me d low high (joining_one me D r) rs k.1
-    ∙ if_either (λ (E : Devices). has E.valid d ≡ has D.valid d) (joins me D.valid r) (record { valid = set_with D.valid r.device; joined = set_with D.joined r.device })
-    (record { valid = set_without D.valid r.device; joined = set_without D.joined r.device })
-    (has_same D.valid r.device d k.0.0.0 (few r.device k.0.0.1) (turned r.device d k.0.1))
-    (less_other D.valid r.device d k.0.0.0 (few r.device k.0.0.1) low high (turned r.device d k.0.1))
+-- with the device that was read, or without it
+abbrev joined_by : Bool → Devices → Reading → Devices
+joined_by b D r =
+    if b then record { valid = set_with D.valid r.device; joined = set_with D.joined r.device } else record { valid = set_without D.valid r.device; joined = set_without D.joined r.device }
 
-lacks : (h : Header) (ms : List Moment) (e d : ℕ) (rs : List Reading) → is_some (seizing_of h e d ms) ≡ false → ReadSo h ms e rs → Lacks d rs
-lacks h ms e d [] none k = tt
-lacks h ms e d (r ∷ rs) none k =
-    ((k.0.0, (λ same. no_truth (sym none ∙ subst (λ z. is_some (seizing_of h e z ms) ≡ true) same k.0.1))), lacks h ms e d rs none k.1)
+here_same : (a b : Bool) (D E : Devices) (r : Reading) → 1 ≤ r.device → r.device ≤ 32 → a ≡ b → has (joined_by a D r).valid r.device ≡ has (joined_by b E r).valid r.device
+here_same true true D E r lo hi e = more_same D.valid r.device lo hi ∙ sym (more_same E.valid r.device lo hi)
+here_same false false D E r lo hi e = less_same D.valid r.device lo hi ∙ sym (less_same E.valid r.device lo hi)
+here_same true false D E r lo hi e = absurd (no_truth (sym e))
+here_same false true D E r lo hi e = absurd (no_truth e)
+
+there_same : (b : Bool) (D : Devices) (r : Reading) (d : ℕ) → 1 ≤ d → d ≤ 32 → 1 ≤ r.device → r.device ≤ 32 → r.device ≢ d → has (joined_by b D r).valid d ≡ has D.valid d
+there_same true D r d low high lo hi ne = has_same D.valid r.device d lo hi (turned r.device d ne)
+there_same false D r d low high lo hi ne = less_other D.valid r.device d lo hi low high (turned r.device d ne)
+
+one_same : (me d : ℕ) (D E : Devices) (r : Reading) → 1 ≤ d → d ≤ 32 → 1 ≤ r.device → r.device ≤ 32 → has D.valid d ≡ has E.valid d
+    → has (joining_one me D r).valid d ≡ has (joining_one me E r).valid d
+one_same me d D E r low high lo hi same = by_device (same_or_not r.device d)
+  where
+    by_device : (r.device ≡ d) ⊎ (r.device ≢ d) → has (joining_one me D r).valid d ≡ has (joining_one me E r).valid d
+    by_device (inl is) =
+        subst (λ z. has (joining_one me D r).valid z ≡ has (joining_one me E r).valid z) is
+        (here_same (joins me D.valid r) (joins me E.valid r) D E r lo hi
+        (ap (λ b. (r.seizer == me) || (has_key_of me r.keys && b)) (subst (λ z. has D.valid z ≡ has E.valid z) (sym is) same)))
+    by_device (inr ne) =
+        there_same (joins me D.valid r) D r d low high lo hi ne ∙ (same ∙ sym (there_same (joins me E.valid r) E r d low high lo hi ne))
+
+all_same : (me d : ℕ) (D E : Devices) (rs : List Reading) → 1 ≤ d → d ≤ 32 → AreOfDevices rs → has D.valid d ≡ has E.valid d
+    → has (joining_all me D rs).valid d ≡ has (joining_all me E rs).valid d
+all_same me d D E [] low high apart same = same
+all_same me d D E (r ∷ rs) low high apart same =
+    all_same me d (joining_one me D r) (joining_one me E r) rs low high apart.3 (one_same me d D E r low high apart.0 (few r.device apart.1) same)
 
 -- ---- the line of an install
 
-pub install_told : (h : Header) (ms : List Moment) (n d e me : ℕ) (old : ℕ) (D : Devices) (rs : List Reading) → length h.devices ≤ most_devices → IsDevice h d → D.valid ≡ old → ReadSo h ms e rs
-    → Agrees (told_validity h n d ms) (has old d) → Agrees (told_validity h n d (installed n e ∷ ms)) (has (joining_all me D rs).valid d)
-install_told h ms n d e me old D rs many is same reads k =
-    subst (λ v. Agrees v (has (joining_all me D rs).valid d))
-    (sym (if_so (n == n) (if is_some (seizing_of h e d ms) then Open else told_validity h n d ms) (told_validity h n d ms) (same_is n)))
-    (if_with (λ v. Agrees v (has (joining_all me D rs).valid d)) (is_some (seizing_of h e d ms)) (is_some (seizing_of h e d ms)) Open (told_validity h n d ms) refl (λ some. tt)
-    (λ none.
-    subst (λ b. Agrees (told_validity h n d ms) b)
-    (sym (unread me d is.0 (within (length h.devices) is.1 many) D rs (lacks h ms e d rs none reads) ∙ ap (λ s. has s d) same)) k))
+agrees_so : (v : Validity) (b : Bool) → IsSo v b → Agrees v b
+agrees_so Valid b k = k
+agrees_so Lapsed b k = k
+agrees_so Open b k = k
+
+so_agrees : (v : Validity) (b : Bool) → Agrees v b → IsSo v b
+so_agrees Valid b k = k
+so_agrees Lapsed b k = k
+so_agrees Open b k = k
+
+-- the set of all devices has each
+none_low : 1 ≤ 0 → ⊥
+none_low l = omega (arith, l)
+
+too_high : (k : ℕ) → suc (suc (suc (suc (suc (suc (suc (suc (suc (suc (suc (suc (suc (suc (suc (suc (suc (k))))))))))))))))) ≤ 16 → ⊥
+too_high k l = omega (arith, l)
+
+full : (d : ℕ) → 1 ≤ d → d ≤ 16 → has 65535 d ≡ true
+unfolding has
+full zero low high = absurd (none_low low)
+full (suc zero) low high = refl
+full (suc (suc zero)) low high = refl
+full (suc (suc (suc zero))) low high = refl
+full (suc (suc (suc (suc zero)))) low high = refl
+full (suc (suc (suc (suc (suc zero))))) low high = refl
+full (suc (suc (suc (suc (suc (suc zero)))))) low high = refl
+full (suc (suc (suc (suc (suc (suc (suc zero))))))) low high = refl
+full (suc (suc (suc (suc (suc (suc (suc (suc zero)))))))) low high = refl
+full (suc (suc (suc (suc (suc (suc (suc (suc (suc zero))))))))) low high = refl
+full (suc (suc (suc (suc (suc (suc (suc (suc (suc (suc zero)))))))))) low high = refl
+full (suc (suc (suc (suc (suc (suc (suc (suc (suc (suc (suc zero))))))))))) low high = refl
+full (suc (suc (suc (suc (suc (suc (suc (suc (suc (suc (suc (suc zero)))))))))))) low high = refl
+full (suc (suc (suc (suc (suc (suc (suc (suc (suc (suc (suc (suc (suc zero))))))))))))) low high = refl
+full (suc (suc (suc (suc (suc (suc (suc (suc (suc (suc (suc (suc (suc (suc zero)))))))))))))) low high = refl
+full (suc (suc (suc (suc (suc (suc (suc (suc (suc (suc (suc (suc (suc (suc (suc zero))))))))))))))) low high = refl
+full (suc (suc (suc (suc (suc (suc (suc (suc (suc (suc (suc (suc (suc (suc (suc (suc zero)))))))))))))))) low high = refl
+full (suc (suc (suc (suc (suc (suc (suc (suc (suc (suc (suc (suc (suc (suc (suc (suc (suc k))))))))))))))))) low high = absurd (too_high k high)
+
+-- a set of devices that has a device or not
+some_set : Bool → ℕ
+some_set true = 65535
+some_set false = 0
+
+pub install_told : (h : Header) (ms : List Moment) (n d : ℕ) (old : ℕ) (r : NodeState) (i : Install) → length h.devices ≤ most_devices → IsDevice h d → n ≤ 32 → r.saved.valid ≡ old
+    → InstallSo h ms n r i → Agrees (validity h n d ms) (has old d) → Agrees (validity h n d (installed n i.epoch ∷ ms)) (has (devices_after r i).valid d)
+unfolding some_set
+install_told h ms n d old r i many is low same so k =
+    let b : Bool = has r.saved.valid d in
+    let s : NodeState = record r { saved = record r.saved { valid = some_set b } } in
+    subst (λ v. Agrees v (has (devices_after r i).valid d))
+    (sym (if_so (n == n) (at_install h n (seizing_of h i.epoch d ms) (validity h n d ms)) (validity h n d ms) (same_is n)))
+    (subst (λ o. Agrees (at_install h n o (validity h n d ms)) (has (devices_after r i).valid d)) (so.told d)
+    (agrees_so _ _ (subst (λ z. IsSo (at_install h n (told_in i.readings d) (validity h n d ms)) z)
+    (all_same r.me d (record { valid = some_set b; joined = 0 }) (record { valid = r.saved.valid; joined = 0 }) i.readings is.0 high so.apart (some_has b))
+    (subst (λ z. IsSo (at_install h z (told_in i.readings d) (validity h n d ms)) (has (devices_after s i).valid d)) so.me
+    (installs_as_read h ms s i d (validity h n d ms) (some_narrow b) so.apart (subst (λ z. z ≤ 32) (sym so.me) low) so.read
+    (subst (λ z. IsSo (validity h n d ms) z) (sym (some_has b))
+    (so_agrees (validity h n d ms) b (subst (λ z. Agrees (validity h n d ms) (has z d)) (sym same) k))))))))
   where
-    within : (m : ℕ) → d ≤ m → m ≤ most_devices → d ≤ 32
-    within m l q = omega (arith, l, q)
+    high : d ≤ 32
+    high = within (length h.devices) is.1 many
+      where
+        within : (m : ℕ) → d ≤ m → m ≤ most_devices → d ≤ 32
+        within m l q = omega (arith, l, q)
+
+    top : d ≤ 16
+    top = within (length h.devices) is.1 many
+      where
+        within : (m : ℕ) → d ≤ m → m ≤ most_devices → d ≤ 16
+        within m l q = omega (arith, l, q)
+
+    some_narrow : (b : Bool) → some_set b < 2 ^ 16
+    some_narrow true = omega arith
+    some_narrow false = omega arith
+
+    some_has : (b : Bool) → has (some_set b) d ≡ b
+    some_has true = full d is.0 top
+    some_has false = none_of_zero d
 
 -- ---- what it brings was seized for it
 

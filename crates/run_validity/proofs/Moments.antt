@@ -60,8 +60,9 @@ use Rattle.run_seizings.proofs.Moments as lines
 use Rattle.run_seizings.proofs.Moments.{answer_fits, due_low, due_own, plain_fits, plain_no, plain_sent}
 use Rattle.run_seizings.proofs.Promising.{and_both, same_so}
 use Rattle.run_seizings.proofs.Steps.{Ground, OwnKeysOnly, answer_may, ground_of, plain_may}
+use Rattle.run_installs.proofs.Stepping.{Standing, arrives_install, commands_install, takes_install, writes_install}
 use Rattle.run_validity.specs.Kept.{NoExcuse, SiteSo, readying}
-use Rattle.run_validity.specs.Laws.{ShowsValidity}
+use Rattle.run_validity.specs.Laws.{ShowsWhole}
 use Rattle.run_validity.proofs.Courses.{IsTrusting}
 use Rattle.run_validity.proofs.Doings.{Fixed}
 use Rattle.run_validity.proofs.Dues.{first_in}
@@ -72,7 +73,7 @@ use Rattle.run_validity.proofs.Stills.{Still, entered_more, site_stays, still}
 
 -- ---- what is said and told
 
-moment_strict : (h : Header) (s : Scene) (l : Links) (x : Moment) → ((n : ℕ) → Still h s.moments n x) → ShowsValidity h s.moments x → Strict h s → Strict h (adding x (with_links s l))
+moment_strict : (h : Header) (s : Scene) (l : Links) (x : Moment) → ((n : ℕ) → Still h s.moments n x) → ShowsWhole h s.moments x → Strict h s → Strict h (adding x (with_links s l))
 moment_strict h s l x same shown k = record { sites = λ n. site_stays h s.moments x n NoExcuse (site_of s.nodes n) (same n) (k.sites n); shown = (shown, k.shown) }
 
 pub said_strict : (h : Header) (s : Scene) (e : Event) → Strict h s → Strict h (adding (Said (line.Event e)) s)
@@ -85,7 +86,7 @@ part_strict h s e k =
     moment_strict h s s.links (Part e) (λ n. record { valid = λ d. refl; moved = refl; last = refl; entered = λ d q is. entered_more s.moments n d q (Part e) refl is }) tt k
 
 -- a line that is told of no node's step
-pub told_strict : (h : Header) (s : Scene) (l : Links) (e : Entry) → ((n : ℕ) → Still h s.moments n (Told e)) → ShowsValidity h s.moments (Told e) → Strict h s
+pub told_strict : (h : Header) (s : Scene) (l : Links) (e : Entry) → ((n : ℕ) → Still h s.moments n (Told e)) → ShowsWhole h s.moments (Told e) → Strict h s
     → Strict h (telling e (with_links s l))
 told_strict h s l e same shown k = moment_strict h s l (Told e) same shown k
 
@@ -168,12 +169,13 @@ pub record Known (h : Header) (s : Scene) : Type 0 where
   pub whole : IsWhole (first_cluster h) s
   pub seizing : IsSeizing h s
   pub many : length h.devices ≤ most_devices
+  pub standing : Standing h s
 
 sized_of : (h : Header) (s : Scene) → Known h s → Sized (first_cluster h)
 sized_of h s b = record { fits = b.whole.cluster.fits; small = b.whole.cluster.small }
 
 fixed_of : (h : Header) (s : Scene) (n : ℕ) → Known h s → n ≤ 32 → Fixed h (first_cluster h) n
-fixed_of h s n b low = record { id = refl; low = low_number n low; many = b.many }
+fixed_of h s n b low = record { id = refl; low = low_number n low; few = low; many = b.many }
 
 -- attempts differ once it has happened
 abbrev pub Differs : Header → Scene → Happening → Type 0
@@ -187,7 +189,7 @@ takes_strict h s n now ends i may b differ trusts k =
     trusting_step h c n now ends i s (sized_of h s b) (ground_of c s b.stage) may.0 may.2 (plain_sent s.nodes i may.1) (plain_fits i may.1)
     (plain_hand s.moments n i may.1 may.3) trusts
     (plain_may h c n now ends (s.nodes.node n) (s.nodes.disk n).kept i (plain_no i may.1) may.2 (b.stage.fits.nodes n))
-    (record { fixed = fixed_of h s n b may.0.1; seizing = b.seizing; hand = lines.plain_hand h s.moments n i may.1 may.3; differ = differ }) k
+    (record { fixed = fixed_of h s n b may.0.1; seizing = b.seizing; hand = lines.plain_hand h s.moments n i may.1 may.3; differ = differ; installs = takes_install h s n now ends i b.standing may differ }) k
 
 pub arrives_strict : (h : Header) (s : Scene) (number : ℕ) (x : Packet) (m : Message) (now : ℕ) (ends : method.Outcome)
     → MayHappen (first_cluster h) s (Arrives number x m now ends) → Known h s → Differs h s (Arrives number x m now ends) → Strict h s → Strict h (happened (first_cluster h) s (Arrives number x m now ends))
@@ -202,6 +204,7 @@ arrives_strict h s number x m now ends may b differ k =
       seizing = lines.delivered_seizes h s number x.from x.to b.seizing;
       hand = letters.arrived_hand h s.moments s.links number x m may.0 may.1 b.seizing.carried;
       differ = differ;
+      installs = arrives_install h s number x m now ends b.standing may differ;
     })
     (delivered_strict h s number x.from x.to k)
 
@@ -240,6 +243,7 @@ writes_strict h s n d value now ends may b differ k =
       seizing = (lines.left_at h c s n d (command.Write value) device (ground_of c s b.stage) b.seizing).seizing;
       hand = ap arrived (left_moments s n d (command.Write value) device) ∙ may.3;
       differ = differ;
+      installs = writes_install h s n d value now ends b.standing may differ;
     })
     (left_strict h s n d (command.Write value) device k)
 
@@ -250,7 +254,7 @@ readies_around h s n now ends may b differ k =
     let c : Cluster = first_cluster h in
     readying_step h c n now ends s (sized_of h s b) (ground_of c s b.stage) may.0 may.2 (b.whole.sites n).valid (nobody s.moments n may.3)
     (plain_may h c n now ends (s.nodes.node n) (s.nodes.disk n).kept input.CommandDue tt may.2 (b.stage.fits.nodes n))
-    (record { fixed = fixed_of h s n b may.0.1; seizing = b.seizing; hand = may.3; differ = differ }) k
+    (record { fixed = fixed_of h s n b may.0.1; seizing = b.seizing; hand = may.3; differ = differ; installs = takes_install h s n now ends input.CommandDue b.standing may differ }) k
 
 pub commands_strict : (h : Header) (s : Scene) (n d : ℕ) (q : PrCommand) (now : ℕ) (ends : method.Outcome) → MayHappen (first_cluster h) s (Commands n d q now ends) → Known h s
     → Differs h s (Commands n d q now ends) → Around h s n (readying (site_of s.nodes n)) → Strict h (happened (first_cluster h) s (Commands n d q now ends))
@@ -275,6 +279,7 @@ commands_strict h s n d q now ends may b differ k =
       seizing = (lines.left_at h c s n d q device (ground_of c s b.stage) b.seizing).seizing;
       hand = ap arrived (left_moments s n d q device) ∙ may.4;
       differ = differ;
+      installs = commands_install h s n d q now ends b.standing may differ;
     })
     (subst (λ (v : Nodes). FirstIn d q (v.node n)) (sym nodes)
     (first_in c b.whole.machine n d q (s.nodes.disk n).kept (s.nodes.node n) (in_order (setting_of c) b.whole.machine b.whole.reached) (b.whole.sites n) (b.stage.fits.nodes n) may.1 may.2))

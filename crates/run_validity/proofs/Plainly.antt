@@ -13,7 +13,7 @@ use Rattle.status_report.specs.declared.node_entry.NodeEntry.TheVariants as note
 use Rattle.history.specs.Member.{in_collect}
 use Rattle.history.specs.Moment.{Moment}
 use Rattle.history.specs.Trace.{saved}
-use Rattle.history.specs.Validated.{moved_on}
+use Rattle.history.specs.Validated.{moved_on, validity}
 use Rattle.node_model.specs.Attempts.{base_lines, starting_as}
 use Rattle.node_model.specs.Seats.{installed_of, record_of, session_of, state_of, with_state}
 use Rattle.node_model.specs.declared.cluster.Cluster.{Cluster}
@@ -31,7 +31,7 @@ use Rattle.run_history.proofs.Walk.{passing_append}
 use Rattle.run_history.specs.Scenes.{Scene, passing}
 use Rattle.run_seizings.proofs.Changes.{NoCollect, fit_parts, mid}
 use Rattle.run_validity.specs.Kept.{NoExcuse, SiteSo}
-use Rattle.run_validity.specs.Laws.{Agrees, told_validity}
+use Rattle.run_validity.specs.Laws.{Agrees}
 use Rattle.run_validity.proofs.Acts.{up_same}
 use Rattle.run_validity.proofs.Goes.{AreMild, Goes, goes_at, line_goes, mild_append, outputs_go}
 use Rattle.run_validity.proofs.Mild.{adopted_mild, bases_mild}
@@ -142,7 +142,7 @@ plain_lines c n x (Admits on command a d) is = absurd is
 site_same : (h : Header) (ms : List Moment) (n : ℕ) (x y : UpNode) (disk new : NodeRecord) → new.valid ≡ disk.valid → session_of y ≡ session_of x → installed_of y ≡ installed_of x
     → y.tasks ≡ x.tasks → SiteSo h ms n NoExcuse (site (Up x) disk) → SiteSo h ms n NoExcuse (site (Up y) new)
 site_same h ms n x y disk new valid session here tasks k = record {
-  valid = λ d is. subst (λ s. Agrees (told_validity h n d ms) (has s d) ⊎ ⊥) (sym valid) (k.valid d is);
+  valid = λ d is. subst (λ s. Agrees (validity h n d ms) (has s d) ⊎ ⊥) (sym valid) (k.valid d is);
   up = up_same ms n x y session here tasks k.up;
 }
 

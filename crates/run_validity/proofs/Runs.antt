@@ -1,12 +1,19 @@
 -- Each run.
-use Rattle.std.specs.Prelude.{ℕ, ◌^◌, ◌≤◌, ◌<◌, List, [], ◌∷◌, length}
+use Rattle.std.specs.Prelude.{ℕ, ◌^◌, ◌≤◌, ◌<◌, List, [], ◌∷◌, Option, Some, length}
 use Rattle.std.proofs.Common.{refl, sym, subst, inl}
 use Rattle.cl_base.specs.Limits.{most_devices}
 use Rattle.cl_base.specs.Sets.{has}
 use Rattle.cl_base.specs.declared.header.Header.{Header}
 use Rattle.cmm_member.specs.Records.{NodeRecord}
 use Rattle.membership_machine.specs.State.{Memberships}
-use Rattle.history.specs.Validated.{Validity}
+use Rattle.history.specs.Validated.{Validity, validity}
+use Rattle.history.specs.Letters.{says}
+use Rattle.history.specs.Moment.{Moment}
+use Rattle.history.specs.Order.{Always}
+use Rattle.history.specs.Trace.{sent}
+use Rattle.node_model.specs.Seats.{record_of}
+use Rattle.wire.specs.declared.message.Body.{Body}
+use Rattle.wire.specs.declared.message.Body.TheVariants as body
 use Rattle.node_model.specs.declared.cluster.Cluster.{Cluster}
 use Rattle.node_model.specs.declared.node.Node.{Node}
 use Rattle.node_model.specs.declared.node.Node.TheVariants.{Down, Up}
@@ -27,10 +34,12 @@ use Rattle.run_history.specs.Wholes.{IsWhole}
 use Rattle.run_history.specs.WorldLines.{AreDisks}
 use Rattle.run_seizings.specs.Sites.{IsSeizing}
 use Rattle.run_seizings.proofs.Runs.{run_seizes}
+use Rattle.run_installs.proofs.Stepping.{standing_at}
 use Rattle.run_validity.specs.Kept.{NoExcuse, SiteSo}
-use Rattle.run_validity.specs.Laws.{Agrees, InMemory, IsReadied, PromisesShowValidity, ValidityOfEachRun, told_validity}
+use Rattle.run_validity.specs.Laws.{Agrees, InMemory, IsReadied, IsShown, PromisesShowValidity, PromisesShowWholeValidity, ShowsIn, ShowsValidity, ShowsWhole, ShowsWholeIn, ValidityOfEachRun, WholeValidityOfEachRun, told_validity}
 use Rattle.run_validity.proofs.Acts.{strict}
 use Rattle.run_validity.proofs.First.{first_told}
+use Rattle.run_validity.proofs.Histories.{told_agrees}
 use Rattle.run_validity.proofs.Moments.{Known}
 use Rattle.run_validity.proofs.Steps.{Strict}
 use Rattle.run_validity.proofs.Wants.{Kept, KeptBy, step_so}
@@ -48,6 +57,7 @@ known_at h cells s few small r =
       whole = subst (IsWhole (first_cluster h)) r.is (runs_are_whole h cells r.happenings cuts few small r.may).scene;
       seizing = subst (IsSeizing h) r.is (run_seizes h cells r.happenings few small r.may).seizing;
       many = few;
+      standing = standing_at h cells s few small r;
     }
 
 -- what is reached, with what is due
@@ -95,17 +105,44 @@ in_memory : (c : Cluster) (M : Memberships) (n d : ℕ) (disk : NodeRecord) (tol
 in_memory c M n d disk told Down tied k = tt
 in_memory c M n d disk told (Up x) tied k = subst (λ (r : NodeRecord). Agrees told (has r.valid d)) (sees c M n disk x.attempt x.seat tied.0).disk_so k
 
-pub validity_of_each_run : ValidityOfEachRun
-validity_of_each_run h cells xs last few small disks may shaped n d is ban =
+pub whole_validity_of_each_run : WholeValidityOfEachRun
+whole_validity_of_each_run h cells xs last few small disks may shaped n d is ban =
     let s : Scene = all_happened (first_cluster h) (first_scene h cells) xs in
     let z : Comes_to h cells s last.wants = comes_to h cells xs last few small disks may shaped in
     let b : Stage (first_cluster h) s = stage_at h cells s few small z.reached in
-    let told : Agrees (told_validity h n d s.moments) (has (s.nodes.disk n).kept.valid d) =
-    strict (Agrees (told_validity h n d s.moments) (has (s.nodes.disk n).kept.valid d)) ((strict_site h s n last.wants ban z.kept.so).valid d is) in
+    let told : Agrees (validity h n d s.moments) (has (s.nodes.disk n).kept.valid d) =
+    strict (Agrees (validity h n d s.moments) (has (s.nodes.disk n).kept.valid d)) ((strict_site h s n last.wants ban z.kept.so).valid d is) in
     record {
       disk = told;
-      memory = in_memory (first_cluster h) b.machine n d (s.nodes.disk n).kept (told_validity h n d s.moments) (s.nodes.node n) (b.stands n).tied told;
+      memory = in_memory (first_cluster h) b.machine n d (s.nodes.disk n).kept (validity h n d s.moments) (s.nodes.node n) (b.stands n).tied told;
     }
 
+pub promises_show_whole_validity : PromisesShowWholeValidity
+promises_show_whole_validity h cells xs few small disks may shaped = (comes_to h cells xs nothing few small disks may shaped).kept.so.shown
+
+-- ---- where it is told
+
+told_memory : (h : Header) (ms : List Moment) (n d : ℕ) (node : Node) → InMemory (validity h n d ms) d node → InMemory (told_validity h n d ms) d node
+told_memory h ms n d Down k = tt
+told_memory h ms n d (Up x) k = told_agrees h n d ms (has (record_of x).valid d) k
+
+pub validity_of_each_run : ValidityOfEachRun
+validity_of_each_run h cells xs last few small disks may shaped n d is ban =
+    let s : Scene = all_happened (first_cluster h) (first_scene h cells) xs in
+    let z : IsShown h s n d = whole_validity_of_each_run h cells xs last few small disks may shaped n d is ban in
+    record { disk = told_agrees h n d s.moments (has (s.nodes.disk n).kept.valid d) z.disk; memory = told_memory h s.moments n d (s.nodes.node n) z.memory }
+
+shown_told : (h : Header) (ms : List Moment) (n : ℕ) (o : Option Body) → ShowsWholeIn h ms n o → ShowsIn h ms n o
+shown_told h ms n (Some (body.Promise epoch newest members valid flagged committed pending)) k = λ d is. told_agrees h n d ms (has valid d) (k d is)
+shown_told h ms n _ k = tt
+
+moment_told : (h : Header) (ms : List Moment) (x : Moment) → ShowsWhole h ms x → ShowsValidity h ms x
+moment_told h ms (sent p n to called bytes) k = shown_told h ms n (says bytes) k
+moment_told h ms _ k = tt
+
+all_told : (h : Header) (ms : List Moment) → Always (ShowsWhole h) ms → Always (ShowsValidity h) ms
+all_told h [] k = tt
+all_told h (x ∷ ms) k = (moment_told h ms x k.0, all_told h ms k.1)
+
 pub promises_show_validity_in_each_run : PromisesShowValidity
-promises_show_validity_in_each_run h cells xs few small disks may shaped = (comes_to h cells xs nothing few small disks may shaped).kept.so.shown
+promises_show_validity_in_each_run h cells xs few small disks may shaped = all_told h _ (promises_show_whole_validity h cells xs few small disks may shaped)

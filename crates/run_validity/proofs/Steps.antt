@@ -58,12 +58,14 @@ use Rattle.run_seizings.specs.Sites.{InHand, IsSeizing}
 use Rattle.run_seizings.proofs.Asked.{AllMay}
 use Rattle.run_seizings.proofs.Goes as seizings
 use Rattle.run_seizings.proofs.Steps.{Ground}
+use Rattle.history.specs.Validated.{validity}
+use Rattle.run_installs.proofs.Stepping.{StepInstalls}
 use Rattle.run_validity.specs.Kept.{Excuse, NoExcuse, SiteSo, readying}
-use Rattle.run_validity.specs.Laws.{Agrees, ShowsValidity, told_validity}
+use Rattle.run_validity.specs.Laws.{Agrees, ShowsWhole}
 use Rattle.run_validity.proofs.Acts.{mild_at, strict, up_same}
 use Rattle.run_validity.proofs.Plainly.{saved_still}
 use Rattle.run_validity.proofs.Courses.{IsTrusting, doings_trust}
-use Rattle.run_validity.proofs.Doings.{Fixed, Ready, all_go}
+use Rattle.run_validity.proofs.Doings.{Ahead, Fixed, Ready, all_go}
 use Rattle.run_validity.proofs.Downs.{Small, all_lost, lost_goes, small_rest}
 use Rattle.run_validity.proofs.Goes.{Goes, HandSo, goes_at, line_goes}
 use Rattle.run_validity.proofs.Stills.{site_stays}
@@ -73,15 +75,15 @@ use Rattle.run_validity.proofs.Stills.{site_stays}
 pub record Around (h : Header) (s : Scene) (n : ℕ) (e : Excuse) : Type 0 where
   pub here : SiteSo h s.moments n e (site_of s.nodes n)
   pub there : (k : ℕ) → k ≢ n → SiteSo h s.moments k NoExcuse (site_of s.nodes k)
-  pub shown : Always (ShowsValidity h) s.moments
+  pub shown : Always (ShowsWhole h) s.moments
 
 -- .. and without any
 pub record Strict (h : Header) (s : Scene) : Type 0 where
   pub sites : (n : ℕ) → SiteSo h s.moments n NoExcuse (site_of s.nodes n)
-  pub shown : Always (ShowsValidity h) s.moments
+  pub shown : Always (ShowsWhole h) s.moments
 
 pub excused : (h : Header) (ms : List Moment) (n : ℕ) (e : Excuse) (x : Site) → SiteSo h ms n NoExcuse x → SiteSo h ms n e x
-excused h ms n e x k = record { valid = λ d is. inl (strict (Agrees (told_validity h n d ms) (has x.disk.valid d)) (k.valid d is)); up = k.up }
+excused h ms n e x k = record { valid = λ d is. inl (strict (Agrees (validity h n d ms) (has x.disk.valid d)) (k.valid d is)); up = k.up }
 
 pub around : (h : Header) (s : Scene) (n : ℕ) (e : Excuse) → Strict h s → Around h s n e
 around h s n e k = record { here = excused h s.moments n e (site_of s.nodes n) (k.sites n); there = λ j ne. k.sites j; shown = k.shown }
@@ -104,18 +106,19 @@ ready_of c v n i sized b was = record {
   joins = (b.stands n).joins;
 }
 
--- what goes beside: its seizings, and that attempts differ
+-- what goes beside: its seizings, that attempts differ, and that what is installed tells the seizings
 pub record Beside (h : Header) (c : Cluster) (n now : ℕ) (ends : method.Outcome) (i : Input) (s : Scene) : Type 0 where
   pub fixed : Fixed h c n
   pub seizing : IsSeizing h s
   pub hand : InHand h s.moments n (delivered_by i)
   pub differ : AttemptsDiffer (taking c n now ends i s).moments
+  pub installs : StepInstalls h c n now ends i s
 
 -- the walk through the small steps of it
 abbrev Walk : Header → Cluster → ℕ → ℕ → method.Outcome → Input → Nodes → Excuse → (Site → Excuse) → Type 0
 Walk h c n now ends i v e f = (replies : List Reply) (w : Nodes) (t : Scene)
     → Small h c n (delivered_by i) None (site_of v n) (doings c n now ends replies i (v.node n))
-    → AttemptsDiffer (passing n (given_all c n (site_of v n) (doings c n now ends replies i (v.node n))) t).moments
+    → Ahead h c n (site_of v n) (doings c n now ends replies i (v.node n)) t
     → seizings.Goes h n (delivered_by i) v w (site_of v n) None t → Goes h n (delivered_by i) v w e (site_of v n) t
     → Goes h n (delivered_by i) v w (f (after_all c n (site_of v n) (doings c n now ends replies i (v.node n)))) (after_all c n (site_of v n) (doings c n now ends replies i (v.node n)))
     (passing n (given_all c n (site_of v n) (doings c n now ends replies i (v.node n))) t)
@@ -143,7 +146,10 @@ step_around h c n now ends i s e f sized b is time was answer hand guard beside 
       lost = all_lost told small (doings_apart c n now ends cut.replies i (v.node n) cut.losses);
       fit = subst (λ os. AllFit n os) (sym cut.comes.given) (all_spelled n o.given is widths.given);
     })
-    (subst (λ os. AttemptsDiffer (passing n os t).moments) (sym cut.comes.given) beside.differ)
+    (record {
+      differ = subst (λ os. AttemptsDiffer (passing n os t).moments) (sym cut.comes.given) beside.differ;
+      installs = beside.installs cut.replies cut.comes.given;
+    })
     (record {
       here = beside.seizing.sites n;
       there = λ j ne. beside.seizing.sites j;
@@ -197,16 +203,16 @@ distrusts_goes h c n v w disk x d s same few number begins k =
     let valid : set_without disk.valid d ≡ new.valid = ap (λ (r : NodeRecord). set_without r.valid d) same ∙ sym (ap (λ (u : NodeState). u.saved.valid) state) in
     line_goes h n None v w NoExcuse (readying (site (Up y) new)) (site (Up x) disk) (site (Up y) new) s (entry.Node n note.Saved) tt (λ j ne is. ne (sym is)) (record {
       valid = λ e is.
-          subst (λ r. Agrees (told_validity h n e s.moments) (has r e) ⊎ ((begins_plainly x.tasks ≡ Some e) × (has r e ≡ false))) valid
-          (by_device e (same_or_not e d) (strict (Agrees (told_validity h n e s.moments) (has disk.valid e)) (k.here.valid e is)));
+          subst (λ r. Agrees (validity h n e s.moments) (has r e) ⊎ ((begins_plainly x.tasks ≡ Some e) × (has r e ≡ false))) valid
+          (by_device e (same_or_not e d) (strict (Agrees (validity h n e s.moments) (has disk.valid e)) (k.here.valid e is)));
       up = up_same (telling (entry.Node n note.Saved) s).moments n x y (ap (λ (u : NodeState). u.session) state) (ap (λ (u : NodeState). u.saved.installed) state) refl
           (site_stays h s.moments _ n NoExcuse (site (Up x) disk) (saved_still h s.moments n (k.hand.calm tt)) k.here).up;
     }) k
   where
-    by_device : (e : ℕ) → (e ≡ d) ⊎ (e ≢ d) → Agrees (told_validity h n e s.moments) (has disk.valid e)
-        → Agrees (told_validity h n e s.moments) (has (set_without disk.valid d) e) ⊎ ((begins_plainly x.tasks ≡ Some e) × (has (set_without disk.valid d) e ≡ false))
+    by_device : (e : ℕ) → (e ≡ d) ⊎ (e ≢ d) → Agrees (validity h n e s.moments) (has disk.valid e)
+        → Agrees (validity h n e s.moments) (has (set_without disk.valid d) e) ⊎ ((begins_plainly x.tasks ≡ Some e) × (has (set_without disk.valid d) e ≡ false))
     by_device e (inl is) old = inr (begins ∙ ap Some (sym is), ap (λ z. has (set_without disk.valid d) z) is ∙ less_here disk.valid d few number)
-    by_device e (inr ne) old = inl (subst (λ b. Agrees (told_validity h n e s.moments) b) (sym (less_there disk.valid d e few number ne)) old)
+    by_device e (inr ne) old = inl (subst (λ b. Agrees (validity h n e s.moments) b) (sym (less_there disk.valid d e few number ne)) old)
 
 readies_walk : (h : Header) (c : Cluster) (n : ℕ) (v w : Nodes) (disk : NodeRecord) (x : UpNode) (g : Hand) (replies : List Reply) (o : Option ℕ) (s : Scene) → disk ≡ record_of x
     → IsDevices disk.valid → begins_plainly x.tasks ≡ o → Small h c n None g (site (Up x) disk) (under replies (distrusting_course x o))

@@ -1,5 +1,5 @@
 -- Which moments leave what is told of a node: which devices are valid to it, whether it moved on, and how far its joinings are.
-use Rattle.std.specs.Prelude.{ℕ, ◌≡◌, ◌≢◌, ◌⊎◌, ◌==◌, ◌&&◌, ◌||◌, Bool, true, false, List, [], ◌∷◌, is_some, if◌then◌else◌}
+use Rattle.std.specs.Prelude.{ℕ, ◌≡◌, ◌≢◌, ◌⊎◌, ◌==◌, ◌&&◌, ◌||◌, Bool, true, false, List, [], ◌∷◌}
 use Rattle.std.specs.List.{AllByRecursion, list_any}
 use Rattle.std.proofs.Common.{refl, sym, ap, subst, ◌∙◌}
 use Rattle.cl_base.specs.Sets.{has}
@@ -30,7 +30,7 @@ use Rattle.history.specs.Moment.{Moment, Told}
 use Rattle.history.specs.Order.{since}
 use Rattle.history.specs.Seizing.{is_install, seizing_of}
 use Rattle.history.specs.Setting.{coordinator}
-use Rattle.history.specs.Validated.{Valid, Lapsed, Open, joins, moved_on, registers}
+use Rattle.history.specs.Validated.{at_install, Lapsed, Open, Valid, joins, moved_on, registers, validity}
 use Rattle.node_model.specs.Seats.{installed_of, session_of}
 use Rattle.node_model.specs.declared.node.Node.{Node}
 use Rattle.node_model.specs.declared.node.Node.TheVariants.{Down, Up}
@@ -38,10 +38,10 @@ use Rattle.node_model.specs.declared.node.UpNode.{UpNode}
 use Rattle.refinement.specs.Doings.{Site}
 use Rattle.run_seizings.proofs.Progress.{if_not, not_same, or_right}
 use Rattle.run_validity.specs.Kept.{Excuse, HasEntered, JoinSo, MovedSo, SiteSo, TaskSo, UpIn, UpSo, WorkSo}
-use Rattle.run_validity.specs.Laws.{Agrees, told_validity}
+use Rattle.run_validity.specs.Laws.{Agrees}
 
 pub record Still (h : Header) (ms : List Moment) (n : ℕ) (x : Moment) : Type 0 where
-  pub valid : (d : ℕ) → told_validity h n d (x ∷ ms) ≡ told_validity h n d ms
+  pub valid : (d : ℕ) → validity h n d (x ∷ ms) ≡ validity h n d ms
   pub moved : moved_on n (x ∷ ms) ≡ moved_on n ms
   pub last : last_installed n (x ∷ ms) ≡ last_installed n ms
   pub entered : (d q : ℕ) → HasEntered ms n d q → HasEntered (x ∷ ms) n d q
@@ -93,9 +93,9 @@ entered_more ms n d q x ban is =
     ∙ or_right (registers n d x) (list_any (registers n d) (since (is_install n q) ms)) is
 
 other_word : (h : Header) (ms : List Moment) (n d m x : ℕ) (a : DeviceAnswer) → (m == n) ≡ false
-    → told_validity h n d (Told (entry.Device (device_entry.Command m x command.Word a)) ∷ ms) ≡ told_validity h n d ms
+    → validity h n d (Told (entry.Device (device_entry.Command m x command.Word a)) ∷ ms) ≡ validity h n d ms
 other_word h ms n d m x (Given (answer.Word w)) ne =
-    if_not ((m == n) && (x == d) && joins n d w ms) Valid (told_validity h n d ms) (three_not (m == n) (x == d) (joins n d w ms) ne)
+    if_not ((m == n) && (x == d) && joins n d w ms) Valid (validity h n d ms) (three_not (m == n) (x == d) (joins n d w ms) ne)
 other_word h ms n d m x (Given (answer.Keys keys)) ne = refl
 other_word h ms n d m x (Given answer.Good) ne = refl
 other_word h ms n d m x (Given answer.Conflict) ne = refl
@@ -108,9 +108,9 @@ other_word h ms n d m x Failed ne = refl
 
 -- a command that tells nothing of it, or another node's
 other_command : (h : Header) (ms : List Moment) (n d m x : ℕ) (c : PrCommand) (a : DeviceAnswer) → IsAside n m c
-    → told_validity h n d (Told (entry.Device (device_entry.Command m x c a)) ∷ ms) ≡ told_validity h n d ms
+    → validity h n d (Told (entry.Device (device_entry.Command m x c a)) ∷ ms) ≡ validity h n d ms
 other_command h ms n d m x (command.Ignore new) a is =
-    if_not ((m == n) && (x == d)) Lapsed (told_validity h n d ms) (two_not (m == n) (x == d) (not_same m n is))
+    if_not ((m == n) && (x == d)) Lapsed (validity h n d ms) (two_not (m == n) (x == d) (not_same m n is))
 other_command h ms n d m x command.Word a is = other_word h ms n d m x a (not_same m n is)
 other_command h ms n d m x command.Keys a is = refl
 other_command h ms n d m x (command.Reserve kind key) a is = refl
@@ -124,10 +124,10 @@ other_command h ms n d m x (command.Write value) a is = refl
 other_command h ms n d m x (command.Swap expect new) a is = refl
 
 still_down : (h : Header) (ms : List Moment) (n d m : ℕ) (why : DownCause) → (m == n) ≡ false
-    → told_validity h n d (Told (entry.Node m (node_entry.Down why)) ∷ ms) ≡ told_validity h n d ms
+    → validity h n d (Told (entry.Node m (node_entry.Down why)) ∷ ms) ≡ validity h n d ms
 still_down h ms n d m cause.Crash ne = refl
-still_down h ms n d m cause.Stopped ne = if_not (m == n) Open (told_validity h n d ms) ne
-still_down h ms n d m (cause.Panic panic.Disk) ne = if_not (m == n) Open (told_validity h n d ms) ne
+still_down h ms n d m cause.Stopped ne = if_not (m == n) Open (validity h n d ms) ne
+still_down h ms n d m (cause.Panic panic.Disk) ne = if_not (m == n) Open (validity h n d ms) ne
 still_down h ms n d m (cause.Panic (panic.Fenced e)) ne = refl
 still_down h ms n d m (cause.Panic (panic.Excluded q)) ne = refl
 still_down h ms n d m (cause.Panic (panic.Stop r)) ne = refl
@@ -147,7 +147,7 @@ still_node h ms n m node_entry.Saved is = record {
   entered = λ d q k. entered_more ms n d q (Told (entry.Node m node_entry.Saved)) refl k;
 }
 still_node h ms n m (node_entry.Installed e) is = record {
-  valid = λ d. if_not (m == n) (if is_some (seizing_of h e d ms) then Open else told_validity h n d ms) (told_validity h n d ms) (not_same m n is);
+  valid = λ d. if_not (m == n) (at_install h n (seizing_of h e d ms) (validity h n d ms)) (validity h n d ms) (not_same m n is);
   moved = if_not (m == n) false (moved_on n ms) (not_same m n is);
   last = if_not (m == n) e (last_installed n ms) (not_same m n is);
   entered = λ d q k. entered_more ms n d q (Told (entry.Node m (node_entry.Installed e))) (two_not (m == n) (e == q) (not_same m n is)) k;

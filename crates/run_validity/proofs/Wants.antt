@@ -45,8 +45,9 @@ use Rattle.run_history.specs.Rounds.{Progress}
 use Rattle.run_history.specs.Shapes.{Comes, Due, IsDue, IsThis, Opens, Want, asking, booting, brings, coming_to, commanding, due_after, if_up, left, of_oldest, of_packet, opened, probing, still, taking_this, writing}
 use Rattle.run_history.specs.Shapes as want
 use Rattle.run_history.specs.Stages.{site_of}
+use Rattle.history.specs.Validated.{validity}
 use Rattle.run_validity.specs.Kept.{Begins as Begins_at, readying}
-use Rattle.run_validity.specs.Laws.{Agrees, told_validity}
+use Rattle.run_validity.specs.Laws.{Agrees}
 use Rattle.run_validity.proofs.Courses.{IsTrusting}
 use Rattle.run_validity.proofs.Moments.{Differs, Known, armed_strict, arrives_strict, commands_strict, delivered_strict, part_strict, readies_around, repeated_strict, said_strict, takes_strict, told_strict, writes_strict}
 use Rattle.run_validity.proofs.Steps.{Around, Strict, all_around, around}
@@ -200,8 +201,8 @@ readied_kept h s n k =
     if_with (Kept h s) (is_some (due_at (Some (s.nodes.node n)))) (is_some (due_at (Some (s.nodes.node n)))) (want.Command n ∷ []) [] refl (λ is. record { wants_so = refl; so = k })
     (λ none. record { wants_so = tt; so = all_around h s n (record { here = record { valid = λ d is. by_excuse d none (k.here.valid d is); up = k.here.up }; there = k.there; shown = k.shown }) })
   where
-    by_excuse : (d : ℕ) → is_some (due_at (Some (s.nodes.node n))) ≡ false → Agrees (told_validity h n d s.moments) (has (s.nodes.disk n).kept.valid d) ⊎ readying (site_of s.nodes n) d
-        → Agrees (told_validity h n d s.moments) (has (s.nodes.disk n).kept.valid d) ⊎ ⊥
+    by_excuse : (d : ℕ) → is_some (due_at (Some (s.nodes.node n))) ≡ false → Agrees (validity h n d s.moments) (has (s.nodes.disk n).kept.valid d) ⊎ readying (site_of s.nodes n) d
+        → Agrees (validity h n d s.moments) (has (s.nodes.disk n).kept.valid d) ⊎ ⊥
     by_excuse d none (inl told) = inl told
     by_excuse d none (inr e) = absurd (no_truth (sym none ∙ begins_due d (s.nodes.node n) e.0))
 

@@ -13,14 +13,14 @@ use Rattle.history.specs.Member.{last_installed}
 use Rattle.history.specs.Moment.{Moment}
 use Rattle.history.specs.Order.{since}
 use Rattle.history.specs.Seizing.{is_install}
-use Rattle.history.specs.Validated.{moved_on, registers}
+use Rattle.history.specs.Validated.{moved_on, registers, validity}
 use Rattle.node_model.specs.Seats.{installed_of, session_of}
 use Rattle.node_model.specs.declared.node.Node.{Node}
 use Rattle.node_model.specs.declared.node.Node.TheVariants.{Down, Up}
 use Rattle.node_model.specs.declared.node.UpNode.{UpNode}
 use Rattle.refinement.specs.Doings.{Site}
 use Rattle.run_history.specs.WorldLines.{IsDevice}
-use Rattle.run_validity.specs.Laws.{Agrees, told_validity}
+use Rattle.run_validity.specs.Laws.{Agrees}
 
 -- ---- a node that is up
 
@@ -63,7 +63,7 @@ abbrev pub NoExcuse : Excuse
 NoExcuse d = ⊥
 
 pub record SiteSo (h : Header) (moments : List Moment) (n : ℕ) (excuse : Excuse) (x : Site) : Type 0 where
-  pub valid : (d : ℕ) → IsDevice h d → Agrees (told_validity h n d moments) (has x.disk.valid d) ⊎ excuse d
+  pub valid : (d : ℕ) → IsDevice h d → Agrees (validity h n d moments) (has x.disk.valid d) ⊎ excuse d
   pub up : UpIn moments n x.node
 
 -- it has saved that the device is not valid, before the `ignore` of its first task

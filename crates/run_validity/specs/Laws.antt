@@ -72,6 +72,33 @@ ValidityOfEachRun = (h : Header) (cells : ℕ) (hs : List Happening) (last : Due
     → MayAllHappen (first_cluster h) (first_scene h cells) hs → ShapedFrom (first_cluster h) (first_scene h cells) nothing hs last
     → (n d : ℕ) → IsDevice h d → (IsReadied n last.wants → ⊥) → IsTold h (all_happened (first_cluster h) (first_scene h cells) hs) n d
 
+-- ---- the whole of it
+
+-- the record of node n has device d among its valid ones as `history` says: on its disk, and in memory while it is up
+pub record IsShown (h : Header) (s : Scene) (n d : ℕ) : Type 0 where
+  pub disk : Agrees (validity h n d s.moments) (has (s.nodes.disk n).kept.valid d)
+  pub memory : InMemory (validity h n d s.moments) d (s.nodes.node n)
+
+-- At each point of a run, save between the save before an `ignore` and that command, this is so of the record.
+abbrev pub WholeValidityOfEachRun : Type 0
+WholeValidityOfEachRun = (h : Header) (cells : ℕ) (hs : List Happening) (last : Due) → length h.devices ≤ most_devices → h.cluster < 2 ^ 32 → AreDisks h
+    → MayAllHappen (first_cluster h) (first_scene h cells) hs → ShapedFrom (first_cluster h) (first_scene h cells) nothing hs last
+    → (n d : ℕ) → IsDevice h d → (IsReadied n last.wants → ⊥) → IsShown h (all_happened (first_cluster h) (first_scene h cells) hs) n d
+
+abbrev pub ShowsWholeIn : Header → List Moment → ℕ → Option Body → Type 0
+ShowsWholeIn h before n (Some (body.Promise epoch newest members valid flagged committed pending)) = (d : ℕ) → IsDevice h d → Agrees (validity h n d before) (has valid d)
+ShowsWholeIn h before n _ = Unit {0}
+
+-- a Promise shows which devices are valid to its sender, as `history` says
+abbrev pub ShowsWhole : Header → List Moment → Moment → Type 0
+ShowsWhole h before (sent p n to called bytes) = ShowsWholeIn h before n (says bytes)
+ShowsWhole h before _ = Unit {0}
+
+abbrev pub PromisesShowWholeValidity : Type 0
+PromisesShowWholeValidity = (h : Header) (cells : ℕ) (hs : List Happening) → length h.devices ≤ most_devices → h.cluster < 2 ^ 32 → AreDisks h
+    → MayAllHappen (first_cluster h) (first_scene h cells) hs
+    → IsShaped (first_cluster h) (first_scene h cells) hs → Always (ShowsWhole h) (all_happened (first_cluster h) (first_scene h cells) hs).moments
+
 -- ---- Promises
 
 abbrev pub ShowsIn : Header → List Moment → ℕ → Option Body → Type 0

@@ -1,0 +1,3 @@
+pub mod Laws
+-- what only the proofs need
+pub mod Shown
