@@ -38,7 +38,6 @@ use Rattle.run_queues.proofs.Disks.{disk_lines_of_each_run}
 use Rattle.run_readings.proofs.Runs as readings
 use Rattle.run_taken.proofs.Laws as taken
 use Rattle.run_valid.proofs.Runs as valid
-use Rattle.run_valid.proofs.Told.{installs_tell_seizings}
 use Rattle.run_views.proofs.Runs as views
 use Rattle.run_writes.proofs.Runs.{writes_of_each_run}
 use Rattle.run_rounds.specs.Laws.{AsksSome}
@@ -48,14 +47,19 @@ use Rattle.run_messages.proofs.Spelling.{spelled_of_each_run}
 use Rattle.run_records.proofs.Runs.{installed_base_of_each_run, newest_base_of_each_run, newest_of_each_run, records_of_each_run}
 use Rattle.run_requests.proofs.Laws.{updates_of_each_run}
 use Rattle.run_seizings.proofs.Runs.{held_of_each_run, known_held_of_each_run}
-use Rattle.run_validity.proofs.Runs.{promises_show_validity_in_each_run}
+use Rattle.run_validity.proofs.Runs.{promises_show_whole_validity}
+use Rattle.run_installs.proofs.Runs.{installs_tell_all_seizings}
+use Rattle.run_panics.proofs.Runs.{exclusions_are_told_in_each_run}
+use Rattle.run_saves.proofs.Runs.{letter_stops_of_each_run}
+use Rattle.run_fits.proofs.Lines.{events_are_of, no_disk_fails_by_lines}
+use Rattle.run_fits.specs.Laws.{IsOfHeader}
 use Rattle.history_setting.specs.Settings.{setting_of}
 use Rattle.history_setting.proofs.Votes.{setting_votes_of_each_run}
 use Rattle.world_model.specs.First.{first_cluster, first_world}
 use Rattle.world_model.specs.Lines.{line_on}
 use Rattle.world_model.specs.Worlds.{Play, WorldState, play}
 use Rattle.run_history.specs.Happenings.{all_happened}
-use Rattle.run_history.specs.Telling.{IsTold, lines_upon}
+use Rattle.run_history.specs.Telling.{IsInHeader, IsTold, lines_upon}
 use Rattle.run_history.specs.Scenes.{first_scene}
 use Rattle.run_history.proofs.Told.{worlds_are_told}
 use Rattle.replay.specs.declared.task.Task.{Task}
@@ -94,9 +98,9 @@ disks_in : (devices : List HeaderDevice) → AllByRecursion (λ (d : HeaderDevic
 disks_in [] are = tt
 disks_in (d ∷ devices) are = (disk_of d.kind are.0, disks_in devices are.1)
 
-told_trace : (h : Header) (events : List Event) (text : List ℕ) (p : Play) → IsHeader h → LacksServers h → AllByRecursion AsksSome (lines_upon [] events) → text ≡ p.text → IsTold h 65536 [] events p
+told_trace : (h : Header) (events : List Event) (text : List ℕ) (p : Play) → IsHeader h → LacksServers h → AllByRecursion AsksSome (lines_upon [] events) → AllByRecursion (IsInHeader h) events → text ≡ p.text → IsTold h 65536 [] events p
     → IsTrace h events text
-told_trace h events text p header disks asks is told =
+told_trace h events text p header disks asks named is told =
     let links = links_of_each_run h 65536 told.happenings told.may in
     let built : AreDisks h = disks_in h.devices disks in
     let devices = devices_of_each_run h 65536 told.happenings header.devices built told.may in
@@ -197,10 +201,10 @@ told_trace h events text p header disks asks is told =
       counted = counts.counted_of_each_run h 65536 told.happenings header.devices header.cluster_high told.may;
       lacking = counts.lacking_of_each_run h 65536 told.happenings header.devices header.cluster_high told.may;
       one_seizer = valid.one_seizer_in_each_run h 65536 told.happenings header.devices header.cluster_high told.may;
-      installs_told = installs_tell_seizings h 65536 told.happenings header.devices header.cluster_high told.may;
+      installs_told = installs_tell_all_seizings h 65536 told.happenings header.devices header.cluster_high told.may;
       seizeds = readings.seizeds_say_what_was_read h 65536 told.happenings header.devices header.cluster_high told.may;
       readings = readings.readings_are_of_seizers h 65536 told.happenings header.devices header.cluster_high told.may;
-      valid_shown = promises_show_validity_in_each_run h 65536 told.happenings header.devices header.cluster_high built told.may told.shaped;
+      valid_shown = promises_show_whole_validity h 65536 told.happenings header.devices header.cluster_high built told.may told.shaped;
       answers_once = once;
       numbered = commands.commands_are_numbered_in_each_run h 65536 told.happenings header.devices header.cluster_high told.may;
       commands = taken.commands_are_taken_in_each_run h 65536 told.happenings header.devices header.cluster_high told.may told.shaped;
@@ -212,12 +216,18 @@ told_trace h events text p header disks asks is told =
       stops = downs.stops_of_each_run h 65536 told.happenings header.devices header.cluster_high told.may;
       stops_come = downs.stops_come_in_each_run h 65536 told.happenings header.devices header.cluster_high told.may;
       no_stop_due = downs.no_stop_is_due h 65536 told.happenings header.devices header.cluster_high told.may;
+      stops_ruled = letter_stops_of_each_run h 65536 told.happenings header.devices header.cluster_high told.may (setting_of h);
+      told_excluded = exclusions_are_told_in_each_run h 65536 told.happenings header.devices header.cluster_high told.may;
+      no_disk_fails =
+          no_disk_fails_by_lines h 65536 told.happenings (few_nodes h.version h.nodes header.nodes_high) header.devices header.cluster_high told.may told.shaped
+          (subst (λ (ls : List Line). AllByRecursion (IsOfHeader h) ls) (sym told.said) (events_are_of h events [] named tt));
     }
 
 pub trace_of : (agents : List AgentState) (h : Header) (events : List Event) (text : List ℕ) → IsHeader h → LacksServers h → AreAllowed h first_so_far events
     → text ≡ texts_of (first_world h 65536 agents) events → IsTrace h events text
 trace_of agents h events text header disks allowed is =
-    told_trace h events text (lines_on events (play (first_world h 65536 agents) [])) header disks (all_ask h first_so_far events [] allowed tt) (is ∙ sym (texts_are events (first_world h 65536 agents) []))
+    told_trace h events text (lines_on events (play (first_world h 65536 agents) [])) header disks (all_ask h first_so_far events [] allowed tt)
+    (all_in_header h first_so_far events allowed) (is ∙ sym (texts_are events (first_world h 65536 agents) []))
     (worlds_are_told h 65536 agents [] events (few_nodes h.version h.nodes header.nodes_high) header.devices header.cluster_high (all_named h first_so_far events allowed)
     (all_in_header h first_so_far events allowed))
 

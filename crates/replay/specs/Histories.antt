@@ -32,8 +32,12 @@ use Rattle.run_commands.specs.Own.{OwnAnswersFit}
 use Rattle.run_endings.specs.Laws.{EndsInTick, EndsUnderWay, HasPromises, HasWaited, IsSuperseded, NamesMember}
 use Rattle.run_downs.specs.Laws.{BootIsSaid, CrashIsSaid, FencedByWrite, SavesInEvent, StopComes, StopsAtStop}
 use Rattle.run_history.specs.Telling.{lines_upon}
-use Rattle.run_valid.specs.Laws.{OneSeizer, TellsSeizings}
-use Rattle.run_validity.specs.Laws.{ShowsValidity}
+use Rattle.run_fits.specs.Laws.{NoDiskFails}
+use Rattle.run_installs.specs.Laws.{TellsAllSeizings}
+use Rattle.run_panics.specs.Laws.{PanicsExcluded}
+use Rattle.run_saves.specs.Laws.{StopsByRule}
+use Rattle.run_valid.specs.Laws.{OneSeizer}
+use Rattle.run_validity.specs.Laws.{ShowsWhole}
 use Rattle.run_history.specs.Scenes.{text_of}
 use Rattle.run_lines.specs.Laws.{IsAnswered}
 use Rattle.run_writes.specs.Laws.{IsWritten}
@@ -123,8 +127,8 @@ pub record IsTrace (h : Header) (events : List Event) (text : List ℕ) : Type 0
   pub seizeds : Always (SaysWhatWasRead h) moments
   pub readings : Always (BringsWhatWasRead h) moments
   pub one_seizer : OneSeizer h moments
-  pub installs_told : Always (TellsSeizings h) moments
-  pub valid_shown : Always (ShowsValidity h) moments
+  pub installs_told : Always (TellsAllSeizings h) moments
+  pub valid_shown : Always (ShowsWhole h) moments
   pub holds : length (lines_of moments) < 2 ^ 63 → Holds (setting_of h) moments
   pub answers_once : length (lines_of moments) < 2 ^ 63 → AnswersOnce moments
   pub numbered : length (lines_of moments) < 2 ^ 63 → CommandsAreNumbered moments
@@ -137,6 +141,9 @@ pub record IsTrace (h : Header) (events : List Event) (text : List ℕ) : Type 0
   pub stops : Always StopsAtStop moments
   pub stops_come : Always StopComes moments
   pub no_stop_due : stop_due moments ≡ None
+  pub stops_ruled : Always (StopsByRule (setting_of h)) moments
+  pub told_excluded : Always PanicsExcluded moments
+  pub no_disk_fails : length moments < 2 ^ 63 → Always NoDiskFails moments
 
 -- each event is one that the header and the events before it allow, and its seconds have 64 bits
 abbrev pub AreAllowed : Header → SoFar → List Event → Type 0
