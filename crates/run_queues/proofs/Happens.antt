@@ -19,6 +19,7 @@ use Rattle.history.specs.Contact.{AttemptsDiffer}
 use Rattle.history.specs.Letters.{arrived}
 use Rattle.history.specs.Moment.{Said}
 use Rattle.history.specs.Setting.{Setting}
+use Rattle.history.specs.Validated.{validity}
 use Rattle.node_model.specs.declared.cluster.Cluster.{Cluster}
 use Rattle.node_model.specs.declared.input.Input.{Input}
 use Rattle.node_model.specs.declared.input.Input.TheVariants as input
@@ -46,7 +47,7 @@ use Rattle.run_seizings.proofs.Moments.{answer_fits, due_low, due_own, plain_fit
 use Rattle.run_seizings.proofs.Steps.{Ground, OwnKeysOnly, answer_may, ground_of, plain_may}
 use Rattle.run_seizings.specs.Sites.{IsSeizing}
 use Rattle.run_queues.proofs.Paths.{path_so}
-use Rattle.run_validity.specs.Laws.{InMemory, told_validity}
+use Rattle.run_validity.specs.Laws.{InMemory}
 use Rattle.run_queues.proofs.Acts.{AsksBody}
 use Rattle.run_queues.proofs.Asking.{request_goes}
 use Rattle.run_queues.proofs.Doings.{Placed}
@@ -74,7 +75,7 @@ Differs S s x = AttemptsDiffer (happened (first_cluster S.header) s x).moments
 
 -- where a packet comes, its receiver holds valid what is told so
 abbrev pub ValidAt : Setting → Scene → Happening → Type 0
-ValidAt S s (Arrives number x m now ends) = (d : ℕ) → IsDevice S.header d → InMemory (told_validity S.header x.to d s.moments) d (s.nodes.node x.to)
+ValidAt S s (Arrives number x m now ends) = (d : ℕ) → IsDevice S.header d → InMemory (validity S.header x.to d s.moments) d (s.nodes.node x.to)
 ValidAt S s x = Unit {0}
 
 -- ---- steps of nodes

@@ -30,7 +30,7 @@ use Rattle.history.specs.Names.{Name, named, same_name}
 use Rattle.history.specs.Queue as told
 use Rattle.history.specs.Setting.{Setting}
 use Rattle.history.specs.Trace.{delivered}
-use Rattle.history.specs.Validated.{Validity, Valid, Lapsed, Open, is_valid}
+use Rattle.history.specs.Validated.{Validity, Valid, Lapsed, Open, is_valid, validity}
 use Rattle.node_model.specs.Members.{is_foreign_seizing, is_strange}
 use Rattle.node_model.specs.Seats.{record_of}
 use Rattle.node_model.specs.declared.cluster.Cluster.{Cluster}
@@ -53,7 +53,7 @@ use Rattle.run_seizings.proofs.Promising.{and_both, same_so}
 use Rattle.run_seizings.specs.Sites.{Brought, IsSeizing, Posted, UpIn}
 use Rattle.run_seizings.specs.Seized.{StandsSo}
 use Rattle.run_validity.proofs.Goes.{HandSo, IsCollect}
-use Rattle.run_validity.specs.Laws.{Agrees, InMemory, told_validity}
+use Rattle.run_validity.specs.Laws.{Agrees, InMemory}
 use Rattle.run_queues.specs.Kept.{NodeSo, Pending}
 use Rattle.run_queues.specs.Told.{brought, is_plain, is_spelled, sought, told_tasks}
 use Rattle.run_queues.proofs.Acts.{AsksBody, AsksIn}
@@ -300,18 +300,18 @@ native_device h n members d many native =
     high k j is = grind arith
 
 asked_node : (S : Setting) (s : Scene) (number : ℕ) (x : Packet) (m : Message) (r : IsRequest m.body) (node : Node) → length S.header.devices ≤ most_devices
-    → Comes S s.moments x.to number r.kind r.epoch r.members r.device → ((d : ℕ) → IsDevice S.header d → InMemory (told_validity S.header x.to d s.moments) d node)
+    → Comes S s.moments x.to number r.kind r.epoch r.members r.device → ((d : ℕ) → IsDevice S.header d → InMemory (validity S.header x.to d s.moments) d node)
     → UpIn S.header s.moments x.to node → NodeSo S s.moments x.to None node
     → NodeSo S (delivered number x.from x.to ∷ s.moments) x.to (pending_in (first_cluster S.header) x.to node r.kind r.epoch r.members r.device) node
 asked_node S s number x m r Down many comes valid beside k = tt
 asked_node S s number x m r (Up y) many comes valid beside k =
     asked_up S (first_cluster S.header) s.moments x.to number x.from r.epoch r.members r.device r.kind y refl comes
     (λ vote native trusted.
-    trusted_valid (told_validity S.header x.to r.device s.moments) (has (record_of y).valid r.device) trusted
+    trusted_valid (validity S.header x.to r.device s.moments) (has (record_of y).valid r.device) trusted
     (valid r.device (native_device S.header x.to r.members r.device many native))) beside k
 
 pub asked_around : (S : Setting) (s : Scene) (number : ℕ) (x : Packet) (m : Message) (r : IsRequest m.body) → length S.header.devices ≤ most_devices
-    → packet_of s.links.packets number ≡ Some x → whole_of x.bytes ≡ Some m → ((d : ℕ) → IsDevice S.header d → InMemory (told_validity S.header x.to d s.moments) d (s.nodes.node x.to))
+    → packet_of s.links.packets number ≡ Some x → whole_of x.bytes ≡ Some m → ((d : ℕ) → IsDevice S.header d → InMemory (validity S.header x.to d s.moments) d (s.nodes.node x.to))
     → IsSeizing S.header s → Strict S s
     → Around S (telling (entry.Packet (packet.Delivered number x.from x.to)) (removed s number)) x.to
     (pending_in (first_cluster S.header) x.to (s.nodes.node x.to) r.kind r.epoch r.members r.device)

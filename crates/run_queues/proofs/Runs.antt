@@ -43,9 +43,8 @@ use Rattle.run_history.specs.Wholes.{IsWhole}
 use Rattle.run_history.specs.WorldLines.{AreDisks, IsDevice}
 use Rattle.run_seizings.specs.Sites.{IsSeizing}
 use Rattle.run_seizings.proofs.Runs.{run_seizes}
-use Rattle.run_validity.specs.Laws.{Agrees, InMemory, told_validity}
+use Rattle.run_validity.specs.Laws.{Agrees, InMemory}
 use Rattle.run_installs.proofs.Stepping.{standing_at}
-use Rattle.run_validity.proofs.Histories.{told_agrees}
 use Rattle.run_validity.proofs.Acts.{strict}
 use Rattle.run_validity.proofs.First.{first_told}
 use Rattle.run_validity.proofs.Moments as validity
@@ -89,11 +88,10 @@ in_memory c M n d disk told Down tied k = tt
 in_memory c M n d disk told (Up x) tied k = subst (λ (r : NodeRecord). Agrees told (has r.valid d)) (sees c M n disk x.attempt x.seat tied.0).disk_so k
 
 strict_memory : (S : Setting) (s : Scene) (n : ℕ) → Known S s → validity_at.Strict S.header s → (d : ℕ) → IsDevice S.header d
-    → InMemory (told_validity S.header n d s.moments) d (s.nodes.node n)
+    → InMemory (validity_in S.header n d s.moments) d (s.nodes.node n)
 strict_memory S s n b k d is =
-    in_memory (first_cluster S.header) b.stage.machine n d (s.nodes.disk n).kept (told_validity S.header n d s.moments) (s.nodes.node n) (b.stage.stands n).tied
-    (told_agrees S.header n d s.moments (has (s.nodes.disk n).kept.valid d)
-    (strict (Agrees (validity_in S.header n d s.moments) (has (s.nodes.disk n).kept.valid d)) ((k.sites n).valid d is)))
+    in_memory (first_cluster S.header) b.stage.machine n d (s.nodes.disk n).kept (validity_in S.header n d s.moments) (s.nodes.node n) (b.stage.stands n).tied
+    (strict (Agrees (validity_in S.header n d s.moments) (has (s.nodes.disk n).kept.valid d)) ((k.sites n).valid d is))
 
 arrives_valid : (S : Setting) (s : Scene) (wants : List Want) (rounds : Option Progress) (number : ℕ) (x : Packet) (m : Message) (now : ℕ) (ends : method.Outcome)
     → Comes s wants rounds (Arrives number x m now ends) → Known S s → Kept S.header s wants → ValidAt S s (Arrives number x m now ends)

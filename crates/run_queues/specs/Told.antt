@@ -14,9 +14,8 @@ use Rattle.history.specs.Queue.{Task, answer_told, is_write, moved, requested, t
 use Rattle.history.specs.Seizing.{acts_for, is_number, seizing_of}
 use Rattle.history.specs.Setting.{Setting, all_to, coordinator, paths_of}
 use Rattle.history.specs.Trace.{up, down, saved, installed, attempt, ended_votes, ended_excluded, ended_foreign, delivered, device}
-use Rattle.history.specs.Validated.{is_valid}
+use Rattle.history.specs.Validated.{is_valid, validity}
 use Rattle.node_model.specs.Members.{is_foreign_seizing}
-use Rattle.run_validity.specs.Laws.{told_validity}
 use Rattle.world_model.specs.First.{first_cluster}
 
 -- ---- its own seizings
@@ -43,7 +42,7 @@ acts_in n (Some e) before = acts_for n e before
 
 -- a quorum device is seized by the key that the record of n calls valid
 abbrev pub is_trusted : Setting → ℕ → ℕ → List Moment → Bool
-is_trusted S n d before = is_valid (told_validity S.header n d before)
+is_trusted S n d before = is_valid (validity S.header n d before)
 
 abbrev pub is_plain : Setting → ℕ → Letter → List Moment → Bool
 is_plain S n l before = is_spelled S n (number_of l) (says l.bytes)
