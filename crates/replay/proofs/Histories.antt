@@ -47,7 +47,7 @@ use Rattle.run_messages.proofs.Spelling.{spelled_of_each_run}
 use Rattle.run_records.proofs.Runs.{installed_base_of_each_run, newest_base_of_each_run, newest_of_each_run, records_of_each_run}
 use Rattle.run_requests.proofs.Laws.{updates_of_each_run}
 use Rattle.run_seizings.proofs.Runs.{held_of_each_run, known_held_of_each_run}
-use Rattle.run_validity.proofs.Runs.{promises_show_whole_validity}
+use Rattle.run_validity.proofs.Runs.{promises_show_validity_in_each_run}
 use Rattle.run_installs.proofs.Runs.{installs_tell_all_seizings}
 use Rattle.run_panics.proofs.Runs.{exclusions_are_told_in_each_run}
 use Rattle.run_saves.proofs.Runs.{letter_stops_of_each_run}
@@ -204,7 +204,7 @@ told_trace h events text p header disks asks named is told =
       installs_told = installs_tell_all_seizings h 65536 told.happenings header.devices header.cluster_high told.may;
       seizeds = readings.seizeds_say_what_was_read h 65536 told.happenings header.devices header.cluster_high told.may;
       readings = readings.readings_are_of_seizers h 65536 told.happenings header.devices header.cluster_high told.may;
-      valid_shown = promises_show_whole_validity h 65536 told.happenings header.devices header.cluster_high built told.may told.shaped;
+      valid_shown = promises_show_validity_in_each_run h 65536 told.happenings header.devices header.cluster_high built told.may told.shaped;
       answers_once = once;
       numbered = commands.commands_are_numbered_in_each_run h 65536 told.happenings header.devices header.cluster_high told.may;
       commands = taken.commands_are_taken_in_each_run h 65536 told.happenings header.devices header.cluster_high told.may told.shaped;

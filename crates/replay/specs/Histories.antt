@@ -37,7 +37,7 @@ use Rattle.run_installs.specs.Laws.{TellsAllSeizings}
 use Rattle.run_panics.specs.Laws.{PanicsExcluded}
 use Rattle.run_saves.specs.Laws.{StopsByRule}
 use Rattle.run_valid.specs.Laws.{OneSeizer}
-use Rattle.run_validity.specs.Laws.{ShowsWhole}
+use Rattle.run_validity.specs.Laws.{ShowsValidity}
 use Rattle.run_history.specs.Scenes.{text_of}
 use Rattle.run_lines.specs.Laws.{IsAnswered}
 use Rattle.run_writes.specs.Laws.{IsWritten}
@@ -128,7 +128,7 @@ pub record IsTrace (h : Header) (events : List Event) (text : List ℕ) : Type 0
   pub readings : Always (BringsWhatWasRead h) moments
   pub one_seizer : OneSeizer h moments
   pub installs_told : Always (TellsAllSeizings h) moments
-  pub valid_shown : Always (ShowsWhole h) moments
+  pub valid_shown : Always (ShowsValidity h) moments
   pub holds : length (lines_of moments) < 2 ^ 63 → Holds (setting_of h) moments
   pub answers_once : length (lines_of moments) < 2 ^ 63 → AnswersOnce moments
   pub numbered : length (lines_of moments) < 2 ^ 63 → CommandsAreNumbered moments

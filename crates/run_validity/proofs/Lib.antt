@@ -15,6 +15,5 @@ pub mod Dues
 pub mod Commands
 pub mod First
 pub mod Moments
-pub mod Histories
 pub mod Wants
 pub mod Runs

@@ -36,10 +36,9 @@ use Rattle.run_seizings.specs.Sites.{IsSeizing}
 use Rattle.run_seizings.proofs.Runs.{run_seizes}
 use Rattle.run_installs.proofs.Stepping.{standing_at}
 use Rattle.run_validity.specs.Kept.{NoExcuse, SiteSo}
-use Rattle.run_validity.specs.Laws.{Agrees, InMemory, IsReadied, IsShown, PromisesShowValidity, PromisesShowWholeValidity, ShowsIn, ShowsValidity, ShowsWhole, ShowsWholeIn, ValidityOfEachRun, WholeValidityOfEachRun, told_validity}
+use Rattle.run_validity.specs.Laws.{Agrees, InMemory, IsReadied, IsTold, PromisesShowValidity, ShowsIn, ShowsValidity, ValidityOfEachRun}
 use Rattle.run_validity.proofs.Acts.{strict}
 use Rattle.run_validity.proofs.First.{first_told}
-use Rattle.run_validity.proofs.Histories.{told_agrees}
 use Rattle.run_validity.proofs.Moments.{Known}
 use Rattle.run_validity.proofs.Steps.{Strict}
 use Rattle.run_validity.proofs.Wants.{Kept, KeptBy, step_so}
@@ -105,8 +104,8 @@ in_memory : (c : Cluster) (M : Memberships) (n d : ℕ) (disk : NodeRecord) (tol
 in_memory c M n d disk told Down tied k = tt
 in_memory c M n d disk told (Up x) tied k = subst (λ (r : NodeRecord). Agrees told (has r.valid d)) (sees c M n disk x.attempt x.seat tied.0).disk_so k
 
-pub whole_validity_of_each_run : WholeValidityOfEachRun
-whole_validity_of_each_run h cells xs last few small disks may shaped n d is ban =
+pub validity_of_each_run : ValidityOfEachRun
+validity_of_each_run h cells xs last few small disks may shaped n d is ban =
     let s : Scene = all_happened (first_cluster h) (first_scene h cells) xs in
     let z : Comes_to h cells s last.wants = comes_to h cells xs last few small disks may shaped in
     let b : Stage (first_cluster h) s = stage_at h cells s few small z.reached in
@@ -117,32 +116,5 @@ whole_validity_of_each_run h cells xs last few small disks may shaped n d is ban
       memory = in_memory (first_cluster h) b.machine n d (s.nodes.disk n).kept (validity h n d s.moments) (s.nodes.node n) (b.stands n).tied told;
     }
 
-pub promises_show_whole_validity : PromisesShowWholeValidity
-promises_show_whole_validity h cells xs few small disks may shaped = (comes_to h cells xs nothing few small disks may shaped).kept.so.shown
-
--- ---- where it is told
-
-told_memory : (h : Header) (ms : List Moment) (n d : ℕ) (node : Node) → InMemory (validity h n d ms) d node → InMemory (told_validity h n d ms) d node
-told_memory h ms n d Down k = tt
-told_memory h ms n d (Up x) k = told_agrees h n d ms (has (record_of x).valid d) k
-
-pub validity_of_each_run : ValidityOfEachRun
-validity_of_each_run h cells xs last few small disks may shaped n d is ban =
-    let s : Scene = all_happened (first_cluster h) (first_scene h cells) xs in
-    let z : IsShown h s n d = whole_validity_of_each_run h cells xs last few small disks may shaped n d is ban in
-    record { disk = told_agrees h n d s.moments (has (s.nodes.disk n).kept.valid d) z.disk; memory = told_memory h s.moments n d (s.nodes.node n) z.memory }
-
-shown_told : (h : Header) (ms : List Moment) (n : ℕ) (o : Option Body) → ShowsWholeIn h ms n o → ShowsIn h ms n o
-shown_told h ms n (Some (body.Promise epoch newest members valid flagged committed pending)) k = λ d is. told_agrees h n d ms (has valid d) (k d is)
-shown_told h ms n _ k = tt
-
-moment_told : (h : Header) (ms : List Moment) (x : Moment) → ShowsWhole h ms x → ShowsValidity h ms x
-moment_told h ms (sent p n to called bytes) k = shown_told h ms n (says bytes) k
-moment_told h ms _ k = tt
-
-all_told : (h : Header) (ms : List Moment) → Always (ShowsWhole h) ms → Always (ShowsValidity h) ms
-all_told h [] k = tt
-all_told h (x ∷ ms) k = (moment_told h ms x k.0, all_told h ms k.1)
-
 pub promises_show_validity_in_each_run : PromisesShowValidity
-promises_show_validity_in_each_run h cells xs few small disks may shaped = all_told h _ (promises_show_whole_validity h cells xs few small disks may shaped)
+promises_show_validity_in_each_run h cells xs few small disks may shaped = (comes_to h cells xs nothing few small disks may shaped).kept.so.shown

@@ -6,33 +6,16 @@
 //! Each function here is a law. It has no body, and its contract is proved of every header and everything that happens.
 #![tactic(auto)]
 
-ghost use Rattle.run_validity.specs.Laws.{PromisesShowValidity, PromisesShowWholeValidity, ToldAsInHistory, ValidityOfEachRun, WholeValidityOfEachRun};
-
-/// What is told so is what `history` says, wherever it is not open.
-pub fn told_as_in_history()
-    ensures { ToldAsInHistory }
-{}
-
-/// The record of a node has a device among its valid ones where the lines say so, and has it not where they say that it lapsed: on its disk, and in
-/// memory while it is up; but for the moment between the save before an `ignore` and that command. What an install brings of a device that a member
-/// seized for it is left open.
-pub fn validity_of_each_run()
-    ensures { ValidityOfEachRun }
-{}
-
-/// A Promise shows a device as valid where the lines say so of its sender, and not where they say that it lapsed.
-pub fn promises_show_validity_in_each_run()
-    ensures { PromisesShowValidity }
-{}
+ghost use Rattle.run_validity.specs.Laws.{PromisesShowValidity, ValidityOfEachRun};
 
 /// The record of a node has a device among its valid ones where `history` says so, and has it not where `history` says that it lapsed: on its disk, and
 /// in memory while it is up; but for the moment between the save before an `ignore` and that command. So of a device that a member seized for an
 /// install: the seizer's own is valid, that of another member stays what it was where the seizer saw its key, and lapses where it did not.
-pub fn whole_validity_of_each_run()
-    ensures { WholeValidityOfEachRun }
+pub fn validity_of_each_run()
+    ensures { ValidityOfEachRun }
 {}
 
 /// A Promise shows a device as valid where `history` says so of its sender, and not where `history` says that it lapsed.
-pub fn promises_show_whole_validity()
-    ensures { PromisesShowWholeValidity }
+pub fn promises_show_validity_in_each_run()
+    ensures { PromisesShowValidity }
 {}
