@@ -32,7 +32,7 @@ use Rattle.run_history.specs.Scenes.{Scene, passing}
 use Rattle.run_seizings.proofs.Acts.{ActMay}
 use Rattle.history.specs.Validated.{validity}
 use Rattle.run_validity.specs.Kept.{Excuse, MovedSo, NoExcuse, SiteSo, TaskSo, UpSo}
-use Rattle.run_validity.specs.Laws.{Agrees, ShowsWholeIn}
+use Rattle.run_validity.specs.Laws.{Agrees, ShowsIn}
 use Rattle.run_validity.proofs.Goes.{AreMild, Goes, goes_at, outputs_go, posting_goes}
 use Rattle.run_validity.proofs.Mild.{ended_mild, minors_mild, spread_mild, tick_mild, write_mild}
 
@@ -71,7 +71,7 @@ valid_in (body.Promise p newest members valid flagged committed pending) = valid
 valid_in _ = 0
 
 write_shows : (h : Header) (ms : List Moment) (n : ℕ) (x : UpNode) (disk : NodeRecord) (b : Body) → disk ≡ record_of x → MayWrite x b → SiteSo h ms n NoExcuse (site (Up x) disk)
-    → ShowsWholeIn h ms n (Some b)
+    → ShowsIn h ms n (Some b)
 write_shows h ms n x disk (body.Promise p newest members valid flagged committed pending) same may k = λ d is.
     subst (λ s. Agrees (validity h n d ms) (has s d)) (sym (ap valid_in may.2 ∙ sym (ap (λ (r : NodeRecord). r.valid) same)))
     (strict (Agrees (validity h n d ms) (has disk.valid d)) (k.valid d is))

@@ -40,7 +40,7 @@ use Rattle.world_model.specs.Sends.{is_sent, name_of}
 use Rattle.run_history.specs.Scenes.{Scene, dropped_so, passing, posting, sent_as, telling, with_links}
 use Rattle.run_seizings.proofs.Changes.{NoCollect}
 use Rattle.run_validity.specs.Kept.{Excuse, NoExcuse, SiteSo}
-use Rattle.run_validity.specs.Laws.{ShowsWholeIn, ShowsWhole}
+use Rattle.run_validity.specs.Laws.{ShowsIn, ShowsValidity}
 use Rattle.run_validity.proofs.Stills.{StillFor, site_stays, still}
 
 -- ---- what is delivered
@@ -69,7 +69,7 @@ pub record Goes (h : Header) (n : ℕ) (told : Delivered) (v w : Nodes) (excuse 
   pub there : (k : ℕ) → k ≢ n → SiteSo h s.moments k NoExcuse (site (v.node k) (v.disk k).kept)
   pub hand : HandSo s.moments n told
   pub nodes : s.nodes ≡ w
-  pub shown : Always (ShowsWhole h) s.moments
+  pub shown : Always (ShowsValidity h) s.moments
 
 -- the node has gone on, in memory
 pub goes_at : (h : Header) (n : ℕ) (told : Delivered) (v w : Nodes) (e f : Excuse) (x y : Site) (s : Scene) → SiteSo h s.moments n f y → Goes h n told v w e x s
@@ -90,7 +90,7 @@ PlainEntry _ = Unit {0}
 
 pub record Plain (h : Header) (ms : List Moment) (e : Entry) : Type 0 where
   pub here : arrived (Told e ∷ ms) ≡ arrived ms
-  pub shown : ShowsWhole h ms (Told e)
+  pub shown : ShowsValidity h ms (Told e)
 
 pub plain_so : (h : Header) (ms : List Moment) (e : Entry) → PlainEntry e → Plain h ms e
 plain_so h ms (entry.Packet (packet.Lost p)) is = record { here = refl; shown = tt }
@@ -213,12 +213,12 @@ mild_goes h n told v w e x s z is k =
 
 -- ---- messages
 
-shown_again : (h : Header) (ms : List Moment) (n : ℕ) (m : Message) → Fits m → ShowsWholeIn h ms n (Some m.body) → ShowsWholeIn h ms n (says (spelling m))
+shown_again : (h : Header) (ms : List Moment) (n : ℕ) (m : Message) → Fits m → ShowsIn h ms n (Some m.body) → ShowsIn h ms n (says (spelling m))
 shown_again h ms n m fits k =
-    subst (λ (o : Option Body). ShowsWholeIn h ms n o) (sym (ap (λ o. option_map (λ (z : Message). z.body) o) (whole_again m fits))) k
+    subst (λ (o : Option Body). ShowsIn h ms n o) (sym (ap (λ o. option_map (λ (z : Message). z.body) o) (whole_again m fits))) k
 
 sent_goes : (h : Header) (n : ℕ) (told : Delivered) (v w : Nodes) (e : Excuse) (x : Site) (s : Scene) (to : ℕ) (m : Message) → Fits m
-    → ShowsWholeIn h s.moments n (Some m.body) → Goes h n told v w e x s
+    → ShowsIn h s.moments n (Some m.body) → Goes h n told v w e x s
     → Goes h n told v w e x (telling (entry.Packet (packet.Sent s.links.next n to (name_of m.body) (spelling m))) (with_links s (sending s.links n to (spelling m)).after))
 sent_goes h n told v w e x s to m fits shows k =
     let z : Entry = entry.Packet (packet.Sent s.links.next n to (name_of m.body) (spelling m)) in
@@ -239,7 +239,7 @@ dropped_goes h n told v w e x s None k = k
 dropped_goes h n told v w e x s (Some drop) k = mild_goes h n told v w e x s (entry.Packet (packet.Dropped drop.0 drop.1)) tt k
 
 pub posting_goes : (h : Header) (n : ℕ) (told : Delivered) (v w : Nodes) (e : Excuse) (x : Site) (s : Scene) (to : ℕ) (b : Body)
-    → SpelledIfShort (record { sender = n; body = b }) → ShowsWholeIn h s.moments n (Some b) → Goes h n told v w e x s
+    → SpelledIfShort (record { sender = n; body = b }) → ShowsIn h s.moments n (Some b) → Goes h n told v w e x s
     → Goes h n told v w e x (posting n to (record { sender = n; body = b }) s)
 posting_goes h n told v w e x s to b fits shows k =
     let m : Message = record { sender = n; body = b } in
@@ -253,7 +253,7 @@ abbrev pub IsNoPromise : Body → Type 0
 IsNoPromise (body.Promise epoch newest members valid flagged committed pending) = ⊥
 IsNoPromise _ = Unit {0}
 
-pub shows_none : (h : Header) (ms : List Moment) (n : ℕ) (b : Body) → IsNoPromise b → ShowsWholeIn h ms n (Some b)
+pub shows_none : (h : Header) (ms : List Moment) (n : ℕ) (b : Body) → IsNoPromise b → ShowsIn h ms n (Some b)
 shows_none h ms n (body.Promise epoch newest members valid flagged committed pending) is = absurd is
 shows_none h ms n _ is = tt
 

@@ -62,7 +62,7 @@ use Rattle.run_seizings.proofs.Promising.{and_both, same_so}
 use Rattle.run_seizings.proofs.Steps.{Ground, OwnKeysOnly, answer_may, ground_of, plain_may}
 use Rattle.run_installs.proofs.Stepping.{Standing, arrives_install, commands_install, takes_install, writes_install}
 use Rattle.run_validity.specs.Kept.{NoExcuse, SiteSo, readying}
-use Rattle.run_validity.specs.Laws.{ShowsWhole}
+use Rattle.run_validity.specs.Laws.{ShowsValidity}
 use Rattle.run_validity.proofs.Courses.{IsTrusting}
 use Rattle.run_validity.proofs.Doings.{Fixed}
 use Rattle.run_validity.proofs.Dues.{first_in}
@@ -73,7 +73,7 @@ use Rattle.run_validity.proofs.Stills.{Still, entered_more, site_stays, still}
 
 -- ---- what is said and told
 
-moment_strict : (h : Header) (s : Scene) (l : Links) (x : Moment) → ((n : ℕ) → Still h s.moments n x) → ShowsWhole h s.moments x → Strict h s → Strict h (adding x (with_links s l))
+moment_strict : (h : Header) (s : Scene) (l : Links) (x : Moment) → ((n : ℕ) → Still h s.moments n x) → ShowsValidity h s.moments x → Strict h s → Strict h (adding x (with_links s l))
 moment_strict h s l x same shown k = record { sites = λ n. site_stays h s.moments x n NoExcuse (site_of s.nodes n) (same n) (k.sites n); shown = (shown, k.shown) }
 
 pub said_strict : (h : Header) (s : Scene) (e : Event) → Strict h s → Strict h (adding (Said (line.Event e)) s)
@@ -86,7 +86,7 @@ part_strict h s e k =
     moment_strict h s s.links (Part e) (λ n. record { valid = λ d. refl; moved = refl; last = refl; entered = λ d q is. entered_more s.moments n d q (Part e) refl is }) tt k
 
 -- a line that is told of no node's step
-pub told_strict : (h : Header) (s : Scene) (l : Links) (e : Entry) → ((n : ℕ) → Still h s.moments n (Told e)) → ShowsWhole h s.moments (Told e) → Strict h s
+pub told_strict : (h : Header) (s : Scene) (l : Links) (e : Entry) → ((n : ℕ) → Still h s.moments n (Told e)) → ShowsValidity h s.moments (Told e) → Strict h s
     → Strict h (telling e (with_links s l))
 told_strict h s l e same shown k = moment_strict h s l (Told e) same shown k
 

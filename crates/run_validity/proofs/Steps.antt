@@ -61,7 +61,7 @@ use Rattle.run_seizings.proofs.Steps.{Ground}
 use Rattle.history.specs.Validated.{validity}
 use Rattle.run_installs.proofs.Stepping.{StepInstalls}
 use Rattle.run_validity.specs.Kept.{Excuse, NoExcuse, SiteSo, readying}
-use Rattle.run_validity.specs.Laws.{Agrees, ShowsWhole}
+use Rattle.run_validity.specs.Laws.{Agrees, ShowsValidity}
 use Rattle.run_validity.proofs.Acts.{mild_at, strict, up_same}
 use Rattle.run_validity.proofs.Plainly.{saved_still}
 use Rattle.run_validity.proofs.Courses.{IsTrusting, doings_trust}
@@ -75,12 +75,12 @@ use Rattle.run_validity.proofs.Stills.{site_stays}
 pub record Around (h : Header) (s : Scene) (n : ℕ) (e : Excuse) : Type 0 where
   pub here : SiteSo h s.moments n e (site_of s.nodes n)
   pub there : (k : ℕ) → k ≢ n → SiteSo h s.moments k NoExcuse (site_of s.nodes k)
-  pub shown : Always (ShowsWhole h) s.moments
+  pub shown : Always (ShowsValidity h) s.moments
 
 -- .. and without any
 pub record Strict (h : Header) (s : Scene) : Type 0 where
   pub sites : (n : ℕ) → SiteSo h s.moments n NoExcuse (site_of s.nodes n)
-  pub shown : Always (ShowsWhole h) s.moments
+  pub shown : Always (ShowsValidity h) s.moments
 
 pub excused : (h : Header) (ms : List Moment) (n : ℕ) (e : Excuse) (x : Site) → SiteSo h ms n NoExcuse x → SiteSo h ms n e x
 excused h ms n e x k = record { valid = λ d is. inl (strict (Agrees (validity h n d ms) (has x.disk.valid d)) (k.valid d is)); up = k.up }
