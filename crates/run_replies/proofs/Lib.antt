@@ -1,0 +1,13 @@
+pub mod Attempting
+pub mod Requesting
+pub mod Given
+pub mod Courses
+pub mod Under
+pub mod Nodes
+pub mod Sending
+pub mod Plain
+pub mod Walk
+pub mod Holding
+pub mod Answering
+pub mod Others
+pub mod Runs
