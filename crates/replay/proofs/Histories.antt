@@ -30,15 +30,15 @@ use Rattle.run_commands.proofs.Laws as commands
 use Rattle.run_answers.proofs.Answered.{answered_of_each_run}
 use Rattle.run_downs.proofs.Runs as downs
 use Rattle.run_endings.proofs.Runs as endings
-use Rattle.run_counts.proofs.Runs as counts
+use Rattle.run_outcomes.proofs.counts.Runs as counts
 use Rattle.run_lines.proofs.Runs.{lines_of_each_run}
-use Rattle.run_exclusions.proofs.Runs.{exclusions_of_each_run}
-use Rattle.run_owed.proofs.Runs as owed
-use Rattle.run_queues.proofs.Disks.{disk_lines_of_each_run}
-use Rattle.run_readings.proofs.Runs as readings
+use Rattle.run_outcomes.proofs.exclusions.Runs.{exclusions_of_each_run}
+use Rattle.run_owed.proofs.prepares.Runs as owed
+use Rattle.run_devices.proofs.queues.Disks.{disk_lines_of_each_run}
+use Rattle.run_devices.proofs.readings.Runs as readings
 use Rattle.run_taken.proofs.Laws as taken
-use Rattle.run_valid.proofs.Runs as valid
-use Rattle.run_views.proofs.Runs as views
+use Rattle.run_devices.proofs.valid.Runs as valid
+use Rattle.run_packets.proofs.views.Runs as views
 use Rattle.run_writes.proofs.Runs.{writes_of_each_run}
 use Rattle.run_rounds.specs.Laws.{AsksSome}
 use Rattle.run_rounds.proofs.Runs.{parts_of_each_run}
@@ -47,10 +47,10 @@ use Rattle.run_messages.proofs.Spelling.{spelled_of_each_run}
 use Rattle.run_records.proofs.Runs.{installed_base_of_each_run, newest_base_of_each_run, newest_of_each_run, records_of_each_run}
 use Rattle.run_requests.proofs.Laws.{updates_of_each_run}
 use Rattle.run_seizings.proofs.Runs.{held_of_each_run, known_held_of_each_run}
-use Rattle.run_validity.proofs.Runs.{promises_show_validity_in_each_run}
-use Rattle.run_installs.proofs.Runs.{installs_tell_all_seizings}
-use Rattle.run_panics.proofs.Runs.{exclusions_are_told_in_each_run}
-use Rattle.run_saves.proofs.Runs.{letter_stops_of_each_run}
+use Rattle.run_devices.proofs.validity.Runs.{promises_show_validity_in_each_run}
+use Rattle.run_devices.proofs.installs.Runs.{installs_tell_all_seizings}
+use Rattle.run_outcomes.proofs.panics.Runs.{exclusions_are_told_in_each_run}
+use Rattle.run_outcomes.proofs.saves.Runs.{letter_stops_of_each_run}
 use Rattle.run_fits.proofs.Lines.{events_are_of, no_disk_fails_by_lines}
 use Rattle.run_fits.specs.Laws.{IsOfHeader}
 use Rattle.history_setting.specs.Settings.{setting_of}

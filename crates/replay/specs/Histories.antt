@@ -33,22 +33,22 @@ use Rattle.run_endings.specs.Laws.{EndsInTick, EndsUnderWay, HasPromises, HasWai
 use Rattle.run_downs.specs.Laws.{BootIsSaid, CrashIsSaid, FencedByWrite, SavesInEvent, StopComes, StopsAtStop}
 use Rattle.run_history.specs.Telling.{lines_upon}
 use Rattle.run_fits.specs.Laws.{NoDiskFails}
-use Rattle.run_installs.specs.Laws.{TellsAllSeizings}
-use Rattle.run_panics.specs.Laws.{PanicsExcluded}
-use Rattle.run_saves.specs.Laws.{StopsByRule}
-use Rattle.run_valid.specs.Laws.{OneSeizer}
-use Rattle.run_validity.specs.Laws.{ShowsValidity}
+use Rattle.run_devices.specs.installs.Laws.{TellsAllSeizings}
+use Rattle.run_outcomes.specs.panics.Laws.{PanicsExcluded}
+use Rattle.run_outcomes.specs.saves.Laws.{StopsByRule}
+use Rattle.run_devices.specs.valid.Laws.{OneSeizer}
+use Rattle.run_devices.specs.validity.Laws.{ShowsValidity}
 use Rattle.run_history.specs.Scenes.{text_of}
 use Rattle.run_lines.specs.Laws.{IsAnswered}
 use Rattle.run_writes.specs.Laws.{IsWritten}
 use Rattle.run_rounds.specs.Parts.{PartsInOrder, shown}
-use Rattle.run_counts.specs.Laws.{EndsForeign, EndsNeeding, EndsShort, NamesLacking}
-use Rattle.run_exclusions.specs.Laws.{EndsExcluded}
-use Rattle.run_owed.specs.Laws.{HasPrepares, IsOfOne}
-use Rattle.run_queues.specs.Laws.{IsDone}
-use Rattle.run_readings.specs.Laws.{BringsWhatWasRead, SaysWhatWasRead}
+use Rattle.run_outcomes.specs.counts.Laws.{EndsForeign, EndsNeeding, EndsShort, NamesLacking}
+use Rattle.run_outcomes.specs.exclusions.Laws.{EndsExcluded}
+use Rattle.run_owed.specs.prepares.Laws.{HasPrepares, IsOfOne}
+use Rattle.run_devices.specs.queues.Laws.{IsDone}
+use Rattle.run_devices.specs.readings.Laws.{BringsWhatWasRead, SaysWhatWasRead}
 use Rattle.run_taken.specs.Laws.{ClientIsAnswered}
-use Rattle.run_views.specs.Laws.{BeginsNotAlone}
+use Rattle.run_packets.specs.views.Laws.{BeginsNotAlone}
 use Rattle.replay.specs.Sessions.{first_so_far}
 use Rattle.replay.specs.Outcomes.{pieces}
 use Rattle.replay.specs.Replays.{OfCluster, OfDevice, Schedule, entries, schedule_of, texts_of}

@@ -32,8 +32,8 @@ use Rattle.run_attempts.proofs.Views.{change_same}
 use Rattle.run_history.proofs.Changes.{At, at_attempt}
 use Rattle.run_history.proofs.LineAttempts.{turn_names}
 use Rattle.run_history.specs.Names.{AttemptNames, IsListed}
-use Rattle.run_native.proofs.Writes.{install_members}
-use Rattle.run_native.specs.Named.{InNodes}
+use Rattle.run_packets.proofs.native.Writes.{install_members}
+use Rattle.run_packets.specs.native.Named.{InNodes}
 use Rattle.seize.specs.Seizing as seizing
 use Rattle.wire.specs.declared.lists.Reading.{Reading}
 use Rattle.wire.specs.declared.message.Body.TheVariants as body

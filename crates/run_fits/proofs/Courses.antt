@@ -47,7 +47,7 @@ use Rattle.run_history.proofs.Lists.{found}
 use Rattle.run_history.proofs.Ordinary.{ActsSo, ChangesSo, IsOrdinary, IsOwnFall, Knows}
 use Rattle.run_history.proofs.Requests.{client_is, command_is, report_is}
 use Rattle.run_history.specs.Names.{AreListed, IsListed, TaskOf, UpNames}
-use Rattle.run_native.specs.Named.{InNodes}
+use Rattle.run_packets.specs.native.Named.{InNodes}
 use Rattle.seize.specs.Answers.{Answer}
 use Rattle.seize.specs.Joining as joining
 use Rattle.seize.specs.Seizing as seizing
@@ -183,9 +183,11 @@ tick_known : (c : Cluster) (n : ℕ) (ends : Outcome) (x : UpNode) → n ≤ 32 
 tick_known c n ends x low K names view =
     let y : UpNode = later c x in
     let rest : Course = joined c n y (cuts.governing_course c n ends x y) (λ z. cuts.ticked_course c n z z.attempt) in
-    let all : IsOrdinary (IsListed c) (Acts Ticks rest) = tick_is (IsListed c) c n ends x K names in
-    (view, due_known c (IsDue c (configured_at c x) (membership_of x.seat)) (λ z p members is. is.view) n y rest (tick_so c n ends x)
-    (low_staid c n y (cuts.governing_course c n ends x y) (λ z. cuts.ticked_course c n z z.attempt) (governing_staid c n ends x y) (λ z. low_ticked c n z z.attempt low)) all.1)
+    let all : IsOrdinary (IsListed c) (Acts Ticks rest) = tick_is (IsListed c) c n ends x K names in (
+      view,
+      due_known c (IsDue c (configured_at c x) (membership_of x.seat)) (λ z p members is. is.view) n y rest (tick_so c n ends x)
+          (low_staid c n y (cuts.governing_course c n ends x y) (λ z. cuts.ticked_course c n z z.attempt) (governing_staid c n ends x y) (λ z. low_ticked c n z z.attempt low)) all.1,
+    )
 
 -- ---- the answer of a device
 

@@ -22,8 +22,8 @@ use Rattle.refinement.specs.Runs.Move.{Takes as Takes_in}
 use Rattle.run_history.specs.Happenings.{Arrives, Begins, Commands, Happening, Loses, Misses, Notes, Refuses, Repeats, Speaks, Strays, Takes, Writes, all_happened, armed_by, commanded, commanded_at, given_by, happened, removed, taking}
 use Rattle.run_history.specs.Scenes.{Scene, adding, dropped_so, first_scene, passing, posting, sent_as, telling, with_links}
 use Rattle.run_history.specs.Telling.{IsInHeader, lines_upon}
-use Rattle.run_native.proofs.Boots.{boots_are_of_the_header}
-use Rattle.run_native.specs.Laws.{SpeaksInHeader}
+use Rattle.run_packets.proofs.native.Boots.{boots_are_of_the_header}
+use Rattle.run_packets.specs.native.Laws.{SpeaksInHeader}
 use Rattle.schedule_text.specs.declared.event.Event.{Event}
 use Rattle.schedule_text.specs.declared.event.Event.TheVariants as event
 use Rattle.schedule_text.specs.declared.line.Line.{Line}

@@ -36,10 +36,10 @@ use Rattle.run_history.specs.Happenings.{Arrives, Begins, Commanded, Commands, H
 use Rattle.run_history.specs.Scenes.{Scene, adding, dropped_so, first_scene, telling, with_links}
 use Rattle.run_history.specs.WorldLines.{IsDevice}
 use Rattle.run_messages.proofs.Reaching.{IsReached, IsSmall, stage_of}
-use Rattle.run_native.proofs.Moves.{among_named}
-use Rattle.run_native.proofs.Runs.{Known, first_named, happening_named, whole_at}
-use Rattle.run_native.specs.Laws.{BootsInHeader}
-use Rattle.run_native.specs.Named.{HandNamed, RunNamed, SceneNamed}
+use Rattle.run_packets.proofs.native.Moves.{among_named}
+use Rattle.run_packets.proofs.native.Runs.{Known, first_named, happening_named, whole_at}
+use Rattle.run_packets.specs.native.Laws.{BootsInHeader}
+use Rattle.run_packets.specs.native.Named.{HandNamed, RunNamed, SceneNamed}
 use Rattle.run_records.proofs.Sizes.{header_sized}
 use Rattle.schedule_text.specs.declared.event.Event.{Event}
 use Rattle.schedule_text.specs.declared.event.Event.TheVariants as event
@@ -121,12 +121,12 @@ arms_fit c v n calls choice ms f = record {
     records = arm_all (λ k (d : DiskState). RecordIn c k d.kept) v n calls choice (f.grown.records n) f.grown.records;
   };
   disks = λ few. (
-    let k : Disks v ms = f.disks few in
-    record {
-      saves = arm_all (λ j (d : DiskState). d.saves ≤ length ms) v n calls choice (k.saves n) k.saves;
-      mounted = arm_all (λ j (d : DiskState). IfUp (λ x. d.mounted ≡ true) (v.node j)) v n calls choice (k.mounted n) k.mounted;
-      none = k.none;
-    });
+      let k : Disks v ms = f.disks few in
+      record {
+        saves = arm_all (λ j (d : DiskState). d.saves ≤ length ms) v n calls choice (k.saves n) k.saves;
+        mounted = arm_all (λ j (d : DiskState). IfUp (λ x. d.mounted ≡ true) (v.node j)) v n calls choice (k.mounted n) k.mounted;
+        none = k.none;
+      });
 }
 
 armed_fits : (c : Cluster) (e : Event) (s : Scene) → Fitting c s.nodes s.moments → Fitting c (armed_by c e s).nodes (armed_by c e s).moments

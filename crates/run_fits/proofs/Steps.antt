@@ -50,8 +50,8 @@ use Rattle.refinement.specs.Ties.{AllTold, Delivered, Known, MessageTold, NodeTi
 use Rattle.refinement.specs.Whole.{IsTrue, Stands}
 use Rattle.run_history.specs.Names.{AreListed, IsListed, NodeNames}
 use Rattle.run_history.proofs.Known.{AllName}
-use Rattle.run_native.proofs.Beats.{later_named}
-use Rattle.run_native.specs.Named.{AttemptNamed, BodyNamed, HandNamed, InNodes, NodeNamed, RunNamed}
+use Rattle.run_packets.proofs.native.Beats.{later_named}
+use Rattle.run_packets.specs.native.Named.{AttemptNamed, BodyNamed, HandNamed, InNodes, NodeNamed, RunNamed}
 use Rattle.run_records.proofs.Steps.{put_all}
 use Rattle.status_report.specs.declared.entry.Entry.TheVariants as entry
 use Rattle.status_report.specs.declared.node_entry.NodeEntry.TheVariants as note
@@ -91,9 +91,11 @@ not_false true h = refl
 not_false false h = sym h
 
 brought_in : (c : Cluster) (n : ℕ) (x : UpNode) (b : Body) → is_foreign c n x b ≡ false → BodyNamed c b → BroughtIn c b
-brought_in c n x (body.Install i) e named =
-    (named.0, not_false (list_all (is_known_reading c) i.readings)
-    (or_second (not (has i.members n) || is_strange c i.members || is_bad_log c i.committed i.pending) (not (list_all (is_known_reading c) i.readings)) e))
+brought_in c n x (body.Install i) e named = (
+  named.0,
+  not_false (list_all (is_known_reading c) i.readings)
+      (or_second (not (has i.members n) || is_strange c i.members || is_bad_log c i.committed i.pending) (not (list_all (is_known_reading c) i.readings)) e),
+)
 brought_in c n x _ e named = tt
 
 -- the packet, where it is not foreign; a foreign one changes nothing

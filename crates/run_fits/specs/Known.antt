@@ -20,7 +20,7 @@ use Rattle.refinement.specs.Doings.Doing.{Comes_up, Does, Forgets, Goes_down, Lo
 use Rattle.refinement.specs.Ties.{Delivered}
 use Rattle.run_history.specs.Names.{AttemptNames, IsListed}
 use Rattle.run_history.proofs.Ordinary.{GivesAside}
-use Rattle.run_native.specs.Named.{InNodes}
+use Rattle.run_packets.specs.native.Named.{InNodes}
 use Rattle.status_report.specs.declared.node_entry.DownCause.{DownCause}
 use Rattle.status_report.specs.declared.node_entry.DownCause.TheVariants as cause
 use Rattle.wire.specs.declared.message.Body.{Body}

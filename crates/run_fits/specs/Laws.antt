@@ -10,7 +10,7 @@ use Rattle.run_history.specs.Happenings.{Happening, MayAllHappen, all_happened}
 use Rattle.run_history.specs.Scenes.{first_scene}
 use Rattle.run_history.specs.Shapes.{IsShaped}
 use Rattle.run_history.specs.Telling.{IsInHeader}
-use Rattle.run_native.specs.Laws.{BootsInHeader}
+use Rattle.run_packets.specs.native.Laws.{BootsInHeader}
 use Rattle.schedule_text.specs.declared.line.Line.{Line}
 use Rattle.schedule_text.specs.declared.line.Line.TheVariants as line
 use Rattle.world_model.specs.First.{first_cluster}

@@ -1,13 +1,3 @@
-pub mod Lines
-pub mod Attempting
-pub mod Requesting
-pub mod Courses
-pub mod Offices
-pub mod Sending
-pub mod Doings
-pub mod Numbers
-pub mod Passing
-pub mod Adds
-pub mod Alike
-pub mod Steps
-pub mod Runs
+pub mod prepares
+pub mod repeats
+pub mod replies

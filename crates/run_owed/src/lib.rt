@@ -1,11 +1,16 @@
-//! What is owed in each event, in each run of the simulated world: of the messages that `history` says are owed, the Prepares of a proposal; and that all
-//! doings in one event are one node's.
+//! What is owed in each event, in each run of the simulated world: of the messages that `history` says are owed.
+//!
+//! - `prepares`: the Prepares of a proposal; and that all doings in one event are one node's.
+//! - `repeats`: the Prepares that lack their Prepared go again.
+//! - `replies`: Orders are answered.
 //!
 //! Each function here is a law. It has no body, and its contract is proved of every header, every list of lines, everything that happens and
 //! all agents.
 #![tactic(auto)]
 
-ghost use Rattle.run_owed.specs.Laws.{OneNodeOfEachRun, PreparesOfEachRun};
+ghost use Rattle.run_owed.specs.prepares.Laws.{OneNodeOfEachRun, PreparesOfEachRun};
+ghost use Rattle.run_owed.specs.repeats.Laws.{PreparesAgainOfEachRun};
+ghost use Rattle.run_owed.specs.replies.Laws.{OrdersAreAnsweredInEachRun};
 
 /// All entries of an event are the doings of one node, or nobody's: a node tells of attempts and memberships that it coordinates, and of no others.
 pub fn one_node_of_each_run()
@@ -16,4 +21,16 @@ pub fn one_node_of_each_run()
 /// said of an event behind which no packet number is left.
 pub fn prepares_of_each_run()
     ensures { PreparesOfEachRun }
+{}
+
+/// At each fourth tick of a president that is a member still, each Prepare that lacks its Prepared is sent again, unless the president goes down there.
+/// Nothing is said of an event behind which no packet number is left.
+pub fn prepares_again_of_each_run()
+    ensures { PreparesAgainOfEachRun }
+{}
+
+/// An Order of a fellow member is answered by Done in the event in which it is delivered, unless the node goes down there. Nothing is said of an
+/// event behind which no packet number is left.
+pub fn orders_are_answered_in_each_run()
+    ensures { OrdersAreAnsweredInEachRun }
 {}

@@ -1,4 +1,4 @@
-use Rattle.run_owed.proofs.Runs as proof
+use Rattle.run_owed.proofs.prepares.Runs as proof
 use Rattle.run_owed.proofs.one_node_of_each_run.Goals as goal
 
 pub returns : goal.returns

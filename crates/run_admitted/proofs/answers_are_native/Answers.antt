@@ -1,5 +1,0 @@
-use Rattle.run_admitted.proofs.Runs as proof
-use Rattle.run_admitted.proofs.answers_are_native.Goals as goal
-
-pub returns : goal.returns
-returns c = proof.answers_are_native c.told_cycles_have_names.ensures.names

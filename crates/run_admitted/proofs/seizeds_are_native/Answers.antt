@@ -1,5 +1,0 @@
-use Rattle.run_admitted.proofs.Runs as proof
-use Rattle.run_admitted.proofs.seizeds_are_native.Goals as goal
-
-pub returns : goal.returns
-returns c = proof.seizeds_are_native

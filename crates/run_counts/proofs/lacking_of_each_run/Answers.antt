@@ -1,5 +1,0 @@
-use Rattle.run_counts.proofs.Runs as proof
-use Rattle.run_counts.proofs.lacking_of_each_run.Goals as goal
-
-pub returns : goal.returns
-returns c = proof.lacking_of_each_run

@@ -1,5 +1,0 @@
-use Rattle.run_counts.proofs.Runs as proof
-use Rattle.run_counts.proofs.needed_of_each_run.Goals as goal
-
-pub returns : goal.returns
-returns c = proof.needed_of_each_run

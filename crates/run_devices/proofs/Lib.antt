@@ -1,0 +1,5 @@
+pub mod readings
+pub mod valid
+pub mod installs
+pub mod validity
+pub mod queues

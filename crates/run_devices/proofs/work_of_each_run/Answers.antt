@@ -1,0 +1,5 @@
+use Rattle.run_devices.proofs.queues.Runs as proof
+use Rattle.run_devices.proofs.work_of_each_run.Goals as goal
+
+pub returns : goal.returns
+returns c = proof.work_of_each_run

@@ -1,0 +1,75 @@
+-- What each thing that happens keeps of a node and its lines.
+use Rattle.std.specs.Prelude.{ℕ, ◌≡◌, ◌≢◌, ◌<◌, ◌⊎◌, true, false, List, Some}
+use Rattle.std.specs.List.{AllByRecursion, list_any}
+use Rattle.cl_base.specs.Sets.{has}
+use Rattle.cl_base.specs.declared.header.Header.{Header}
+use Rattle.device_queue.specs.declared.task.Task.{Task}
+use Rattle.device_queue.specs.declared.task.Work.{Work}
+use Rattle.device_queue.specs.declared.task.Work.TheVariants.{Seizing as Seizes, Joining as Joins}
+use Rattle.device_queue.specs.Queue.{begins_plainly}
+use Rattle.seize.specs.declared.step.JoinStep.{JoinStep}
+use Rattle.seize.specs.declared.step.JoinStep.TheVariants as join
+use Rattle.history.specs.Member.{last_installed}
+use Rattle.history.specs.Moment.{Moment}
+use Rattle.history.specs.Order.{since}
+use Rattle.history.specs.Seizing.{is_install}
+use Rattle.history.specs.Validated.{moved_on, registers, validity}
+use Rattle.node_model.specs.Seats.{installed_of, session_of}
+use Rattle.node_model.specs.declared.node.Node.{Node}
+use Rattle.node_model.specs.declared.node.Node.TheVariants.{Down, Up}
+use Rattle.node_model.specs.declared.node.UpNode.{UpNode}
+use Rattle.refinement.specs.Doings.{Site}
+use Rattle.run_history.specs.WorldLines.{IsDevice}
+use Rattle.run_devices.specs.validity.Laws.{Agrees}
+
+-- ---- a node that is up
+
+-- in session q, with e installed last: once it has installed its session it has not moved on, and before that it has
+pub record MovedSo (moments : List Moment) (n q e : ℕ) : Type 0 where
+  pub stands : e ≡ q → (moved_on n moments ≡ false) × (last_installed n moments ≡ q)
+  pub moved : e ≢ q → moved_on n moments ≡ true
+
+-- it registered on the device since it installed q
+abbrev pub HasEntered : List Moment → ℕ → ℕ → ℕ → Type 0
+HasEntered moments n d q = list_any (registers n d) (since (is_install n q) moments) ≡ true
+
+-- a joining that reads the word next
+abbrev pub JoinSo : List Moment → ℕ → ℕ → ℕ → ℕ → JoinStep → Type 0
+JoinSo moments n q e d join.ReadWord = (q ≡ e) × HasEntered moments n d q
+JoinSo moments n q e d _ = Unit {0}
+
+abbrev pub WorkSo : List Moment → ℕ → ℕ → ℕ → ℕ → Work → Type 0
+WorkSo moments n q e d (Seizes s) = Unit {0}
+WorkSo moments n q e d (Joins j) = JoinSo moments n q e d j.step
+
+abbrev pub TaskSo : List Moment → ℕ → ℕ → ℕ → Task → Type 0
+TaskSo moments n q e t = WorkSo moments n q e t.device t.work
+
+pub record UpSo (moments : List Moment) (n : ℕ) (x : UpNode) : Type 0 where
+  pub moved : 0 < session_of x → MovedSo moments n (session_of x) (installed_of x)
+  pub tasks : AllByRecursion (TaskSo moments n (session_of x) (installed_of x)) x.tasks
+
+abbrev pub UpIn : List Moment → ℕ → Node → Type 0
+UpIn moments n Down = Unit {0}
+UpIn moments n (Up x) = UpSo moments n x
+
+-- ---- with its disk
+
+-- Its record is as the lines tell, or this excuses it.
+abbrev pub Excuse : Type 1
+Excuse = ℕ → Type 0
+
+abbrev pub NoExcuse : Excuse
+NoExcuse d = ⊥
+
+pub record SiteSo (h : Header) (moments : List Moment) (n : ℕ) (excuse : Excuse) (x : Site) : Type 0 where
+  pub valid : (d : ℕ) → IsDevice h d → Agrees (validity h n d moments) (has x.disk.valid d) ⊎ excuse d
+  pub up : UpIn moments n x.node
+
+-- it has saved that the device is not valid, before the `ignore` of its first task
+abbrev pub Begins : ℕ → Node → Type 0
+Begins d Down = ⊥
+Begins d (Up x) = begins_plainly x.tasks ≡ Some d
+
+abbrev pub readying : Site → Excuse
+readying x d = Begins d x.node × (has x.disk.valid d ≡ false)

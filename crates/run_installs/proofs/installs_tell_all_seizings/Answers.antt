@@ -1,5 +1,0 @@
-use Rattle.run_installs.proofs.Runs as proof
-use Rattle.run_installs.proofs.installs_tell_all_seizings.Goals as goal
-
-pub returns : goal.returns
-returns c = proof.installs_tell_all_seizings

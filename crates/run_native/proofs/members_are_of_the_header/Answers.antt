@@ -1,5 +1,0 @@
-use Rattle.run_native.proofs.Runs as proof
-use Rattle.run_native.proofs.members_are_of_the_header.Goals as goal
-
-pub returns : goal.returns
-returns c = proof.members_are_of_the_header

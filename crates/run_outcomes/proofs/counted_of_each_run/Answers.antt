@@ -1,0 +1,5 @@
+use Rattle.run_outcomes.proofs.counts.Runs as proof
+use Rattle.run_outcomes.proofs.counted_of_each_run.Goals as goal
+
+pub returns : goal.returns
+returns c = proof.counted_of_each_run

@@ -1,0 +1,197 @@
+-- A step of a node, from scene to scene.
+use Rattle.std.specs.Prelude.{ℕ, ◌≡◌, ◌≢◌, ◌<◌, ◌^◌, ◌++◌, All, Bool, true, false, List, [], ◌∷◌, Option, None}
+use Rattle.std.proofs.Common.{refl, sym, subst}
+use Rattle.cl_base.specs.declared.method.Outcome as method
+use Rattle.cmm_attempt.proofs.Basics.{false_true}
+use Rattle.cmm_attempt.specs.Calls.{IsDevice}
+use Rattle.machine_base.proofs.Puts.{put_cases, put_here, put_there}
+use Rattle.membership_machine.specs.Invariant.{Holds}
+use Rattle.membership_machine.specs.State.{Memberships}
+use Rattle.node_model.specs.Steps.{Outcome, stepped}
+use Rattle.node_model.specs.declared.cluster.Cluster.{Cluster}
+use Rattle.node_model.specs.declared.input.Input.{Input}
+use Rattle.node_model.specs.declared.output.Output.{Output}
+use Rattle.node_model.specs.declared.output.Output.TheVariants.{Sends, Tells}
+use Rattle.record_disk.specs.Disks.{DiskState}
+use Rattle.refinement.proofs.Acts.{does_one}
+use Rattle.refinement.proofs.Disks.{disks_keep_rules}
+use Rattle.refinement.proofs.EveryRun.{is_true}
+use Rattle.refinement.proofs.Facts.{known_by, step_may}
+use Rattle.refinement.proofs.Handlers.{delivered_by}
+use Rattle.refinement.proofs.Ties.{known_stays, node_stays}
+use Rattle.refinement.specs.Cuts.{doings}
+use Rattle.refinement.specs.Doings.{Doing, Site, after_all, effect, given_all, gives, site}
+use Rattle.refinement.specs.Events.{of_doing}
+use Rattle.refinement.specs.Guards.{MayAll}
+use Rattle.refinement.specs.Runs.{AnswersFit, Nodes, WasSent, moved}
+use Rattle.refinement.specs.Runs.Move.{Takes as Takes_in}
+use Rattle.refinement.specs.Steps.{disk_rules}
+use Rattle.refinement.specs.Ties.{Delivered, GoesOn, Known, SiteTied, setting_of}
+use Rattle.refinement.specs.Whole.{IsTrue}
+use Rattle.refinement.specs.Worlds.{AllFit}
+use Rattle.run_attempts.proofs.Tried.{Grows, passing_grows}
+use Rattle.run_outcomes.proofs.counts.Courses.{doings_fit}
+use Rattle.run_outcomes.specs.counts.Ends as ends
+use Rattle.run_outcomes.specs.counts.Ends.{Last, last_after}
+use Rattle.run_outcomes.specs.exclusions.Sites as exclusions
+use Rattle.run_outcomes.specs.exclusions.Sites.{HandSo, LastTied, SiteSo}
+use Rattle.run_outcomes.proofs.exclusions.Doings as leaving
+use Rattle.run_outcomes.proofs.exclusions.Ends.{doing_tied}
+use Rattle.run_outcomes.proofs.exclusions.Steps.{AllWent}
+use Rattle.run_outcomes.proofs.exclusions.Told.{hand_grows, site_grows}
+use Rattle.run_history.proofs.ContactCourses.{doings_led}
+use Rattle.run_history.proofs.ContactWidths.{StepFits, all_spelled, move_fits}
+use Rattle.run_history.proofs.Courses.{doings_so}
+use Rattle.run_history.proofs.Doings.{IsLed, doing_led, doing_walks}
+use Rattle.run_history.proofs.Idle.{passing_nodes}
+use Rattle.run_history.proofs.Walk.{Walks, passing_append}
+use Rattle.run_history.specs.Causes.{Hand}
+use Rattle.run_history.specs.Happenings.{taking}
+use Rattle.run_history.specs.Led.{AllLed, led_doing}
+use Rattle.run_history.specs.Marks.{AllSo}
+use Rattle.run_history.specs.Scenes.{Scene, passing}
+use Rattle.run_history.specs.Stages.{Sized, Stage, site_of}
+use Rattle.run_messages.proofs.Doings.{first_good, then_good}
+use Rattle.run_messages.proofs.Reaching.{taking_good}
+use Rattle.run_messages.specs.Outputs.{AreGood}
+use Rattle.run_records.proofs.Apart.{doings_apart}
+use Rattle.run_records.proofs.Courses.{doings_told}
+use Rattle.run_records.proofs.Doings as records
+use Rattle.run_records.proofs.Replies.{CutSo, steps_are_cut_so}
+use Rattle.run_records.proofs.Steps.{put_all}
+use Rattle.run_records.specs.Answers.{AllTold as AllTold_in}
+use Rattle.run_records.specs.Kept.{Goes, HandKept, KnownScene}
+use Rattle.run_records.specs.Losses.{AllApart}
+use Rattle.wire.specs.Spelling.{IsNode}
+use Rattle.run_outcomes.specs.panics.Notices.{AllSaid, Notice, notice_after}
+use Rattle.run_outcomes.specs.panics.Sites.{AllJudged, IsPast, LastNamed, NoticeSo}
+use Rattle.run_outcomes.proofs.panics.Courses.{doings_said}
+use Rattle.run_outcomes.proofs.panics.Doings.{Went, doing_went, sites_with}
+use Rattle.run_outcomes.proofs.panics.Named.{doing_named}
+use Rattle.run_outcomes.proofs.panics.Told.{Onward, all_onward}
+
+fit_parts : (n : ℕ) (os more : List Output) → AllFit n (os ++ more) → AllFit n os × AllFit n more
+fit_parts n [] more h = (tt, h)
+fit_parts n (Tells e ∷ os) more h = fit_parts n os more h
+fit_parts n (Sends to b ∷ os) more h =
+    let rest : AllFit n os × AllFit n more = fit_parts n os more h.2 in
+    ((h.0, h.1, rest.0), rest.1)
+
+-- ---- small steps one after another
+
+-- what is known of them besides: where all nodes are, what they have installed, and what has been told
+record Here (c : Cluster) (M : Memberships) (n : ℕ) (told : Delivered) (v : Nodes) (x : Site) (last : Last) (notice : Option Notice) (s : Scene) : Type 0 where
+  ties : (k : ℕ) → k ≢ n → SiteTied c M k (site_of v k)
+  latest : LastTied M last
+  named : LastNamed last
+  hand : HandSo s.moments told
+  left_out : exclusions.AllJudged s.moments
+  here : SiteSo s.moments n x
+  there : (k : ℕ) → k ≢ n → SiteSo s.moments k (site_of v k)
+  judged : AllJudged (sites_with v n x) s.moments
+  notice_so : NoticeSo (sites_with v n x) s.moments n notice
+
+all_went : (c : Cluster) (M : Memberships) (n : ℕ) (told : Delivered) (v w : Nodes) (x : Site) (small : List Doing) (led : Bool) (last : Last) (notice : Option Notice) (s : Scene) → All IsDevice c.attached → Holds (setting_of c) M → Known M told
+    → SiteTied c M n x → MayAll c n told x small → AllSo small → AllLed n told led small → (led ≡ true → IsLed n x.node) → AllFit n (given_all c n x small) → AreGood n (given_all c n x small) → AllTold_in c n told x small → AllApart told small
+    → ends.AllFit c n last x small → AllSaid c n told notice x small → Walks n told v w M x s → Goes n told v M x s → Here c M n told v x last notice s → AllJudged (sites_with v n (after_all c n x small)) (passing n (given_all c n x small) s).moments
+all_went c M n told v w x [] led last notice s fits i known tied may so leads own widths good tells apart ending says h mine k = k.judged
+all_went c M n told v w x (d ∷ small) led last notice s fits i known tied may so leads own widths good tells apart ending says h mine k =
+    let first : List Output = gives c n x d in
+    let y : Site = effect c n x d in
+    let rest : List Output = given_all c n y small in
+    let t : Scene = passing n first s in
+    let parts : AllFit n first × AllFit n rest = fit_parts n first rest widths in
+    let g : GoesOn c M n y first (of_doing n d) = does_one c M n told x d fits i known tied may.0 in
+    let one : Walks n told v w g.machine y t = doing_walks c M n told v w g.machine x led d s i known tied may.0 so.0 leads.0 own parts.0 g.grows g.run h in
+    let two : Goes n told v g.machine y t = records.doing_goes c M n told v g.machine x d s i known tied h.here may.0 so.0 tells.0 apart.0 parts.0 g.grows g.tied g.holds mine in
+    let three : LastTied g.machine (last_after last d) = doing_tied c M g.machine n told x.node x.disk d last i tied may.0 g.run k.latest in
+    let four : LastNamed (last_after last d) = doing_named c M n told x.node x.disk d last tied may.0 k.named in
+    let five : leaving.Went n y s.moments t.moments =
+    leaving.doing_went c M g.machine n told v x.node x.disk d last s (record { holds = i; tied = tied; latest = k.latest; differ = h.laws.once; notes = h.here; goes = mine; hand = k.hand; judged = k.left_out; here = k.here }) g.grows g.tied
+    (first_good n first rest good) one.laws.once may.0 ending.0 so.0 tells.0 in
+    let six : Went n v y (notice_after d) t.moments =
+    doing_went c M n told v x.node x.disk d last notice s
+    (record { holds = i; tied = tied; ties = k.ties; latest = k.latest; named = k.named; notes = h.here; hand = mine.hand; here = k.here; there = k.there; judged = k.judged; notice_so = k.notice_so })
+    (first_good n first rest good) may.0 ending.0 so.0 apart.0 says.0 in
+    let grown : Grows s.moments t.moments = (passing_grows n first s one.laws.once).1 in
+    let more : Here c g.machine n told v y (last_after last d) (notice_after d) t =
+    record {
+      ties = λ j ne. node_stays c M g.machine j (v.disk j).kept (v.node j) i g.grows (g.others j ne) (k.ties j ne);
+      latest = three;
+      named = four;
+      hand = hand_grows s.moments t.moments told grown k.hand;
+      left_out = five.judged;
+      here = five.site_so;
+      there = λ j ne. site_grows s.moments t.moments j (site_of v j) grown (five.others j ne) (k.there j ne);
+      judged = six.judged;
+      notice_so = six.notice_so;
+    } in
+    subst (λ (z : Scene). AllJudged (sites_with v n (after_all c n y small)) z.moments) (sym (passing_append n first rest s))
+    (all_went c g.machine n told v w y small (led_doing led d) (last_after last d) (notice_after d) t fits g.holds (known_stays c M g.machine told i g.grows known) g.tied may.1 so.1 leads.1
+    (doing_led c M n told x led d i known tied may.0 leads.0 own) parts.1 (then_good n first rest good) tells.1 apart.1 ending.1 says.1 one two more)
+
+-- ---- a step
+
+-- node n replaced by what it is
+same_sites : (v : Nodes) (n : ℕ) → Onward (site_of v) (sites_with v n (site_of v n))
+same_sites v n k e past = put_cases (λ j z. IsPast (site_of v j) e → IsPast z e) (site_of v) n (site_of v n) (λ h. h) (λ j ne h. h) k past
+
+step_went : (c : Cluster) (n now : ℕ) (outcome : method.Outcome) (i : Input) (s : Scene) → Sized c → IsNode n → now < 2 ^ 64 → WasSent s.nodes i → AnswersFit i → Hand s.moments n (delivered_by i) → HandKept s.moments n (delivered_by i) → KnownScene c s
+    → Stage c (taking c n now outcome i s) → HandSo s.moments (delivered_by i) → AllWent s.nodes s.moments → AllJudged (site_of s.nodes) s.moments
+    → (let o : Outcome DiskState = stepped disk_rules c n now outcome (s.nodes.node n) (s.nodes.disk n) i in
+    AllJudged (sites_with s.nodes n (site o.after o.disk.kept)) (passing n o.given (record s { nodes = moved c s.nodes (Takes_in n now outcome i) })).moments)
+step_went c n now outcome i s sized is time was answer hand mine a after so left_out judged =
+    let b : Stage c s = a.stage in
+    let v : Nodes = s.nodes in
+    let M : Memberships = b.machine in
+    let w : Nodes = moved c v (Takes_in n now outcome i) in
+    let o : Outcome DiskState = stepped disk_rules c n now outcome (v.node n) (v.disk n) i in
+    let cut : CutSo disk_rules c n now outcome (v.node n) (v.disk n) i [] o = steps_are_cut_so disk_rules disks_keep_rules c n now outcome (v.node n) (v.disk n) i in
+    let told : Delivered = delivered_by i in
+    let truth : IsTrue M i = is_true M v i was b.sent in
+    let x : Site = site_of v n in
+    let small : List Doing = doings c n now outcome cut.replies i (v.node n) in
+    let may : MayAll c n told x small =
+    step_may c M n now outcome (v.node n) (v.disk n).kept i cut.replies is.1 sized.fits.devices.attached b.holds (b.stands n).tied (b.stands n).joins in
+    let widths : StepFits c n o = move_fits c sized.fits v n now outcome i (is.0, is.1, was, answer) time b.fits in
+    let t : Scene = record s { nodes = w } in
+    let first : Walks n told v w M x t = record { laws = b.laws; tried = b.tried; started = b.started; here = b.notes n; there = λ k ne. b.notes k; flying = b.flying; hand = hand; nodes = refl } in
+    let second : Goes n told v M x t = record { sound = a.sound; judged = a.judged; bytes = a.bytes; here = a.at n; there = λ k ne. a.at k; hand = mine } in
+    let third : Here c M n told v x None None t =
+    record {
+      ties = λ k ne. (b.stands k).tied;
+      latest = tt;
+      named = tt;
+      hand = so;
+      left_out = left_out.judged;
+      here = left_out.sites n;
+      there = λ k ne. left_out.sites k;
+      judged = all_onward (site_of v) (sites_with v n x) s.moments (same_sites v n) judged;
+      notice_so = tt;
+    } in
+    let all : AllJudged (sites_with v n (after_all c n x small)) (passing n (given_all c n x small) t).moments =
+    all_went c M n told v w x small false None None t sized.fits.devices.attached b.holds (known_by M i truth) (b.stands n).tied may (doings_so c n now outcome cut.replies i (v.node n)) (doings_led c n now outcome cut.replies i (v.node n))
+    (λ no. absurd (false_true no)) (subst (λ os. AllFit n os) (sym cut.comes.given) (all_spelled n o.given is widths.given)) (subst (AreGood n) (sym cut.comes.given) (taking_good c s n now outcome i after))
+    (doings_told c n now outcome cut.replies i (v.disk n).kept (v.node n)) (doings_apart c n now outcome cut.replies i (v.node n) cut.losses) (doings_fit c n now outcome cut.replies i (v.disk n).kept (v.node n))
+    (doings_said c n now outcome cut.replies i (v.disk n).kept (v.node n) cut.losses) first second third in
+    subst (λ (z : Site). AllJudged (sites_with v n z) (passing n o.given t).moments) cut.comes.left (subst (λ os. AllJudged (sites_with v n (after_all c n x small)) (passing n os t).moments) cut.comes.given all)
+
+-- ---- all nodes
+
+-- the nodes after the step, and node n replaced by what it has come to
+next_sites : (c : Cluster) (n now : ℕ) (outcome : method.Outcome) (i : Input) (v : Nodes) → (let o : Outcome DiskState = stepped disk_rules c n now outcome (v.node n) (v.disk n) i in
+    Onward (sites_with v n (site o.after o.disk.kept)) (site_of (moved c v (Takes_in n now outcome i))))
+next_sites c n now outcome i v k e past =
+    let o : Outcome DiskState = stepped disk_rules c n now outcome (v.node n) (v.disk n) i in
+    put_all (λ j node disk. IsPast (sites_with v n (site o.after o.disk.kept) j) e → IsPast (site node disk) e) v n o.after o.disk
+    (λ h. subst (λ z. IsPast z e) (put_here (site_of v) n (site o.after o.disk.kept)) h)
+    (λ j ne h. subst (λ z. IsPast z e) (put_there (site_of v) n (site o.after o.disk.kept) j ne) h) k past
+
+pub taking_judged : (c : Cluster) (n now : ℕ) (outcome : method.Outcome) (i : Input) (s : Scene) → Sized c → IsNode n → now < 2 ^ 64 → WasSent s.nodes i → AnswersFit i → Hand s.moments n (delivered_by i) → HandKept s.moments n (delivered_by i)
+    → KnownScene c s → Stage c (taking c n now outcome i s) → HandSo s.moments (delivered_by i) → AllWent s.nodes s.moments → AllJudged (site_of s.nodes) s.moments → AllJudged (site_of (taking c n now outcome i s).nodes) (taking c n now outcome i s).moments
+taking_judged c n now outcome i s sized is time was answer hand mine a after so left_out judged =
+    let t : Scene = record s { nodes = moved c s.nodes (Takes_in n now outcome i) } in
+    let o : Outcome DiskState = stepped disk_rules c n now outcome (s.nodes.node n) (s.nodes.disk n) i in
+    subst (λ w. AllJudged (site_of w) (passing n o.given t).moments) (sym (passing_nodes n o.given t))
+    (all_onward (sites_with s.nodes n (site o.after o.disk.kept)) (site_of t.nodes) (passing n o.given t).moments (next_sites c n now outcome i s.nodes)
+    (step_went c n now outcome i s sized is time was answer hand mine a after so left_out judged))

@@ -1,0 +1,221 @@
+-- Each thing that happens, and each run.
+use Rattle.schedule_text.specs.declared.event.StopChoice.{StopChoice}
+use Rattle.world_model.specs.Lines.{left_by}
+use Rattle.record_disk.specs.Disks.{DiskState, armed}
+use Rattle.machine_base.specs.Put.{put}
+use Rattle.machine_base.proofs.Puts.{put_here, put_there, same_or_not}
+use Rattle.run_history.proofs.DevicesRun.{devices_of_each_run}
+use Rattle.run_history.specs.WorldLines.{IsAtDevices}
+use Rattle.run_outcomes.specs.results.Paths.{IsPathed}
+use Rattle.run_outcomes.proofs.counts.Runs.{lacking_of_each_run}
+use Rattle.run_outcomes.proofs.results.Named.{all_named}
+use Rattle.run_outcomes.proofs.results.Pathed.{run_pathed, whole_at}
+use Rattle.std.specs.Prelude.{List, None, Option, Some, [], length, slice_get, ℕ, ◌-◌, ◌≡◌, ◌≤◌, ◌∷◌, ◌≢◌, ◌⊎◌}
+use Rattle.std.specs.List.{AllByRecursion}
+use Rattle.std.proofs.Common.{inl, inr, refl, subst, sym, arith}
+use Rattle.cl_base.specs.declared.header.Header.{Header}
+use Rattle.cl_base.specs.declared.packet.DropCause.{DropCause}
+use Rattle.cl_base.specs.declared.packet.DropCause.TheVariants as drop
+use Rattle.device_queue.specs.Queue.{next_of}
+use Rattle.history.specs.Contact.{AttemptsDiffer, IsNew}
+use Rattle.history.specs.Moment.{Moment, Part, Said, Told}
+use Rattle.interconnect.specs.Links as links
+use Rattle.interconnect.specs.Links.{Links, Packet, removing, sending}
+use Rattle.node_model.specs.declared.cluster.Cluster.{Cluster}
+use Rattle.node_model.specs.declared.input.Input.{Input}
+use Rattle.node_model.specs.declared.input.Input.TheVariants as input
+use Rattle.node_model.specs.declared.node.Node.{Node}
+use Rattle.node_model.specs.declared.node.Node.TheVariants.{Down, Up}
+use Rattle.pgr_device.specs.Device.{Device}
+use Rattle.pgr_device.specs.declared.command.PrCommand.{PrCommand}
+use Rattle.pgr_device.specs.declared.command.PrCommand.TheVariants as command
+use Rattle.refinement.proofs.Handlers.{delivered_by}
+use Rattle.refinement.specs.Runs.{IsAmong, Letter, Nodes}
+use Rattle.run_history.proofs.Heard.{low_number}
+use Rattle.run_history.specs.Happenings.{Commanded, Happening, IsPlain, MayHappen, all_happened, armed_by, commanded, commanded_at, happened, removed}
+use Rattle.run_history.specs.Happenings.Happening.{Arrives, Begins, Commands, Loses, Misses, Notes, Refuses, Repeats, Speaks, Strays, Takes, Writes}
+use Rattle.run_history.specs.Scenes.{Scene, adding, dropped_so, first_scene, telling, with_links}
+use Rattle.run_history.specs.Stages.{Sized, Stage}
+use Rattle.run_history.specs.Wholes.{IsWhole}
+use Rattle.run_messages.proofs.Reaching.{IsReached, IsSmall, holds_of_each, stage_of}
+use Rattle.run_devices.proofs.readings.Letters.{arrived_hand}
+use Rattle.run_devices.proofs.readings.Runs.{run_reads}
+use Rattle.run_devices.specs.readings.Readings.{StandsSo}
+use Rattle.run_devices.specs.readings.Sites.{IsReading}
+use Rattle.run_records.proofs.Sizes.{header_sized}
+use Rattle.run_seizings.proofs.Moments.{due_low, due_own, plain_no, plain_sent}
+use Rattle.run_seizings.proofs.Steps.{Ground, OwnKeysOnly, ground_of}
+use Rattle.schedule_text.specs.declared.event.Event.{Event}
+use Rattle.schedule_text.specs.declared.event.Event.TheVariants as event
+use Rattle.schedule_text.specs.declared.line.Line.TheVariants as line
+use Rattle.seize.specs.Answers.{Answer}
+use Rattle.status_report.specs.declared.device_entry.DeviceEntry.TheVariants as device_entry
+use Rattle.status_report.specs.declared.entry.Entry.TheVariants as entry
+use Rattle.status_report.specs.declared.packet_entry.PacketEntry.TheVariants as packet
+use Rattle.wire.specs.declared.message.Body.{Body}
+use Rattle.wire.specs.declared.message.Body.TheVariants as body
+use Rattle.world_model.specs.First.{first_cluster}
+use Rattle.run_outcomes.proofs.results.Answers.{NodeDue, answer_comes}
+use Rattle.run_outcomes.proofs.results.Dues.{NodeHigh, due_high}
+use Rattle.run_outcomes.proofs.results.Stays.{Spares, letters_grow, letters_stay, node_stays}
+use Rattle.run_outcomes.proofs.results.Steps.{plain_comes, step_shown}
+use Rattle.run_outcomes.specs.results.Laws.{ResultsOfEachRun}
+use Rattle.run_outcomes.specs.results.Shown.{AsksOf, EndsShown, HandShown, IsShown, LetterShown, SaysShown, installed_in}
+
+-- ---- one moment more, and other links
+
+more_shown : (h : Header) (s : Scene) (l : Links) (x : Moment) → IsNew s.moments x → ((n : ℕ) → Spares n x) → EndsShown h s.moments x → IsShown h s → IsShown h (adding x (with_links s l))
+more_shown h s l x new spares ends k = record {
+  nodes = λ n. node_stays h s.moments x n (s.nodes.node n) new (spares n) (k.nodes n);
+  sent = letters_stay h (installed_in s.nodes) s.moments x s.nodes.sent new k.sent;
+  lines = (ends, k.lines);
+}
+
+dropped_shown : (h : Header) (s : Scene) (o : Option (ℕ × DropCause)) → IsShown h s → IsShown h (dropped_so o s)
+dropped_shown h s None k = k
+dropped_shown h s (Some d) k = more_shown h s s.links (Told (entry.Packet (packet.Dropped d.0 d.1))) tt (λ n. tt) tt k
+
+same_most : (a : ℕ) → a ≤ a
+same_most a = omega arith
+
+-- what is armed in the disk of a node leaves what it has installed
+armed_most : (v : Nodes) (n calls : ℕ) (choice : StopChoice) (k : ℕ) → (v.disk k).kept.installed ≤ (put v.disk n (armed (v.disk n) calls (left_by choice)) k).kept.installed
+armed_most v n calls choice k = by_node (same_or_not k n)
+  where
+    by_node : (k ≡ n) ⊎ (k ≢ n) → (v.disk k).kept.installed ≤ (put v.disk n (armed (v.disk n) calls (left_by choice)) k).kept.installed
+    by_node (inl same) =
+        subst (λ j. (v.disk j).kept.installed ≤ (put v.disk n (armed (v.disk n) calls (left_by choice)) j).kept.installed) (sym same)
+        (subst (λ (d : DiskState). (v.disk n).kept.installed ≤ d.kept.installed) (sym (put_here v.disk n (armed (v.disk n) calls (left_by choice)))) (same_most (v.disk n).kept.installed))
+    by_node (inr ne) =
+        subst (λ (d : DiskState). (v.disk k).kept.installed ≤ d.kept.installed) (sym (put_there v.disk n (armed (v.disk n) calls (left_by choice)) k ne)) (same_most (v.disk k).kept.installed)
+
+armed_shown : (h : Header) (c : Cluster) (e : Event) (s : Scene) → IsShown h s → IsShown h (armed_by c e s)
+armed_shown h c (event.CrashAt n calls choice) s k =
+    record { nodes = k.nodes; sent = letters_grow h (installed_in s.nodes) _ s.moments s.nodes.sent (armed_most s.nodes n calls choice) k.sent; lines = k.lines }
+armed_shown h c (event.Fault n d done) s k = record { nodes = k.nodes; sent = k.sent; lines = k.lines }
+armed_shown h c _ s k = k
+
+-- ---- what comes
+
+plain_hand : (h : Header) (f : ℕ → ℕ) (ms : List Moment) (i : Input) → IsPlain i → HandShown h f ms (delivered_by i)
+plain_hand h f ms (input.Packet from m) is = absurd is
+plain_hand h f ms input.Boot is = tt
+plain_hand h f ms input.Crash is = tt
+plain_hand h f ms input.Tick is = tt
+plain_hand h f ms input.CommandDue is = tt
+plain_hand h f ms (input.Answered a) is = tt
+plain_hand h f ms (input.Wrote d value a) is = tt
+plain_hand h f ms (input.Commanded words) is = tt
+plain_hand h f ms (input.Reported r good) is = tt
+plain_hand h f ms (input.Client name client port) is = tt
+
+-- a message that comes was sent
+among_shown : (h : Header) (f : ℕ → ℕ) (ms : List Moment) (from : ℕ) (b : Body) (ls : List Letter) → IsAmong from b ls → AllByRecursion (LetterShown h f ms) ls → SaysShown h f ms b
+among_shown h f ms from b [] is k = absurd is
+among_shown h f ms from b (l ∷ ls) (inl here) k = subst (λ z. SaysShown h f ms z) here.1 k.0
+among_shown h f ms from b (l ∷ ls) (inr later) k = among_shown h f ms from b ls later k.1
+
+asks_so : (h : Header) (ms : List Moment) (from : ℕ) (b : Body) → StandsSo h ms from b → AsksOf ms b
+asks_so h ms from (body.SeizeQuorum e members d) k = k
+asks_so h ms from (body.SeizeData e members d) k = k
+asks_so h ms from _ k = tt
+
+-- ---- a command at a device
+
+-- what it leaves, beside the device, is as before
+record Left (h : Header) (c : Cluster) (s : Scene) (o : Commanded) : Type 0 where
+  shown : IsShown h o.scene
+  ground : Ground c o.scene.nodes
+  nodes : o.scene.nodes ≡ s.nodes
+
+left_at : (h : Header) (c : Cluster) (s : Scene) (n d : ℕ) (k : PrCommand) (o : Option Device) → Ground c s.nodes → IsShown h s → Left h c s (commanded_at s n d o k)
+left_at h c s n d k None g z = record { shown = z; ground = g; nodes = refl }
+left_at h c s n d k (Some x) g z = record { shown = record { nodes = z.nodes; sent = z.sent; lines = z.lines }; ground = g; nodes = refl }
+
+node_due : (h : Header) (a : Answer) (node : Node) → OwnKeysOnly h node a → NodeHigh node a → NodeDue h a node
+node_due h a Down own high = tt
+node_due h a (Up x) own high = ((λ k next reads. own (subst (λ z. next_of x.tasks ≡ Some z) reads next)), high)
+
+-- ---- each thing that happens
+
+-- what is known of a scene of a run, and of the one that comes next
+record Known (h : Header) (s : Scene) (x : Happening) : Type 0 where
+  sized : Sized (first_cluster h)
+  stage : Stage (first_cluster h) s
+  whole : IsWhole (first_cluster h) s
+  reading : IsReading h s
+  paths : IsPathed (first_cluster h) s
+  places : IsAtDevices h s
+  few : length h.devices ≤ 16
+  differ : AttemptsDiffer (happened (first_cluster h) s x).moments
+
+happening_shown : (h : Header) (s : Scene) (x : Happening) → MayHappen (first_cluster h) s x → Known h s x → IsShown h s → IsShown h (happened (first_cluster h) s x)
+happening_shown h s (Speaks e) may b k = armed_shown h (first_cluster h) e (adding (Said (line.Event e)) s) (more_shown h s s.links (Said (line.Event e)) tt (λ n. tt) tt k)
+happening_shown h s (Begins e) may b k = more_shown h s s.links (Part e) tt (λ n. tt) tt k
+happening_shown h s (Notes e) may b k = more_shown h s s.links (Told (entry.Schedule e)) tt (λ n. tt) tt k
+happening_shown h s (Takes n now ends i) may b k =
+    let c : Cluster = first_cluster h in
+    step_shown h c n now ends i s b.sized (ground_of c s b.stage) may.0 (plain_sent s.nodes i may.1)
+    (plain_comes h c (ground_of c s b.stage).machine n now ends i s.nodes _ b.sized refl (plain_no i may.1) may.2 (b.stage.fits.nodes n))
+    (plain_hand h (installed_in s.nodes) s.moments i may.1) b.differ k
+happening_shown h s (Arrives number x m now ends) may b k =
+    let c : Cluster = first_cluster h in
+    let z : Moment = Told (entry.Packet (packet.Delivered number x.from x.to)) in
+    let t : Scene = telling (entry.Packet (packet.Delivered number x.from x.to)) (removed s number) in
+    let come : IsShown h t = more_shown h s (removing s.links number) z tt (λ n. tt) tt k in
+    step_shown h c x.to now ends (input.Packet x.from m) t b.sized (ground_of c s b.stage) may.3 may.4
+    (plain_comes h c (ground_of c s b.stage).machine x.to now ends (input.Packet x.from m) s.nodes _ b.sized refl tt may.5 (b.stage.fits.nodes x.to)) (
+      asks_so h (z ∷ s.moments) x.from m.body (arrived_hand h s.moments s.links number x m may.0 may.1 b.reading.carried).stands,
+      among_shown h (installed_in s.nodes) (z ∷ s.moments) x.from m.body s.nodes.sent may.4 come.sent,
+    ) b.differ come
+happening_shown h s (Strays number x) may b k = more_shown h s (removing s.links number) (Told (entry.Packet (packet.Delivered number x.from x.to))) tt (λ n. tt) tt k
+happening_shown h s (Misses number x) may b k = more_shown h s (removing s.links number) (Told (entry.Packet (packet.Dropped number drop.Down))) tt (λ n. tt) tt k
+happening_shown h s (Loses number x) may b k = more_shown h s (removing s.links number) (Told (entry.Packet (packet.Lost number))) tt (λ n. tt) tt k
+happening_shown h s (Repeats number x) may b k =
+    let o : links.Outcome = sending s.links x.from x.to x.bytes in
+    dropped_shown h _ o.sent.dropped (more_shown h s o.after (Told (entry.Packet (packet.Repeated number s.links.next))) tt (λ n. tt) tt k)
+happening_shown h s (Commands n d q now ends) may b k =
+    let c : Cluster = first_cluster h in
+    let o : Commanded = commanded s n d q in
+    let l : Left h c s o = left_at h c s n d q (slice_get s.devices (d - 1)) (ground_of c s b.stage) k in
+    let low : 1 ≤ d = due_low c n (s.nodes.node n) d q (b.stage.fits.nodes n) may.2 in
+    let due : NodeDue h o.answer (o.scene.nodes.node n) =
+    subst (λ (v : Nodes). NodeDue h o.answer (v.node n)) (sym l.nodes)
+    (node_due h o.answer (s.nodes.node n) (due_own h s n d q (s.nodes.node n) b.whole may.2 low) (due_high h s n d q b.few b.places b.whole (b.paths.nodes n) may.2 low)) in
+    step_shown h c n now ends (input.Answered o.answer) o.scene b.sized l.ground may.0 tt
+    (λ replies m e so holds known tied less g. answer_comes h c l.ground.machine (installed_in o.scene.nodes) n now ends o.answer (o.scene.nodes.node n) (o.scene.nodes.disk n).kept replies _
+    b.sized.fits.devices.attached refl (low_number n may.0.1) due holds tied less m e so g) tt b.differ l.shown
+happening_shown h s (Writes n d value now ends) may b k =
+    let c : Cluster = first_cluster h in
+    let o : Commanded = commanded s n d (command.Write value) in
+    let l : Left h c s o = left_at h c s n d (command.Write value) (slice_get s.devices (d - 1)) (ground_of c s b.stage) k in
+    step_shown h c n now ends (input.Wrote d value o.answer) o.scene b.sized l.ground may.0 tt
+    (plain_comes h c l.ground.machine n now ends (input.Wrote d value o.answer) o.scene.nodes _ b.sized refl tt may.2 (l.ground.fits.nodes n)) tt b.differ l.shown
+happening_shown h s (Refuses n d value cause) may b k =
+    more_shown h s s.links (Told (entry.Device (device_entry.Refused n d value cause))) tt (λ m. tt) tt k
+
+-- ---- runs
+
+reading_at : (h : Header) (cells : ℕ) (s : Scene) → IsSmall h → IsReached h cells s → IsReading h s
+reading_at h cells s size r = subst (IsReading h) r.is (run_reads h cells r.happenings size.few size.small r.may).reading
+
+first_shown : (h : Header) (cells : ℕ) → IsShown h (first_scene h cells)
+unfolding first_scene
+first_shown h cells = record { nodes = λ n. tt; sent = tt; lines = tt }
+
+pub results_of_each_run : ResultsOfEachRun
+results_of_each_run h cells hs few small disks may =
+    let size : IsSmall h = record { few = few; small = small } in
+    all_named h (all_happened (first_cluster h) (first_scene h cells) hs).moments
+    (holds_of_each h cells (IsShown h)
+    (λ s x now at more k. happening_shown h s x now (record {
+      sized = header_sized h few small;
+      stage = stage_of h cells s size at;
+      whole = whole_at h cells s size at;
+      reading = reading_at h cells s size at;
+      paths = subst (IsPathed (first_cluster h)) at.is (run_pathed h cells at.happenings size at.may);
+      places = subst (IsAtDevices h) at.is (devices_of_each_run h cells at.happenings few disks at.may);
+      few = few;
+      differ = (stage_of h cells (happened (first_cluster h) s x) size more).laws.once;
+    }) k) (first_shown h cells) hs may).lines
+    (lacking_of_each_run h cells hs few small may)

@@ -1,0 +1,5 @@
+pub mod counts
+pub mod results
+pub mod exclusions
+pub mod panics
+pub mod saves

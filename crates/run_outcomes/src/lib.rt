@@ -1,0 +1,79 @@
+//! By what attempts end and nodes go down, in each run of the simulated world.
+//!
+//! - `counts`: what an attempt counts when it ends, for a member that is not configured, and for want of votes. The records that a coordinator has in
+//!   hand are its own at the attempt and those that were promised to it since; it counts the votes of the newest.
+//! - `results`: which results of seizings an attempt names, where it ends for want of votes. Who is asked to seize a device has a path to it
+//!   (`specs/results/Paths`); how a seizing ended is told by the task, by its Seized and by the attempt, as the device lines show it since the attempt
+//!   began (`specs/results/Shown`).
+//! - `exclusions`: whom attempts exclude. What a node has installed is no older than its last `installed` line says, and its Promise tells it with its
+//!   members.
+//! - `panics`: which nodes panic since an attempt excluded them. An attempt that excludes its own coordinator makes it panic; another node is told by an
+//!   Excluded, at which it panics only while it is in the session of that attempt.
+//! - `saves`: where nodes stop, only in a save that the rules let them make there.
+//!
+//! Each function here is a law. It has no body, and its contract is proved of every header, every list of lines, everything that happens and
+//! all agents.
+#![tactic(auto)]
+
+ghost use Rattle.run_outcomes.specs.counts.Laws.{CountedOfEachRun, ForeignOfEachRun, LackingOfEachRun, NeededOfEachRun};
+ghost use Rattle.run_outcomes.specs.results.Laws.{ResultsOfEachRun};
+ghost use Rattle.run_outcomes.specs.results.Paths.{PathsOfEachRun};
+ghost use Rattle.run_outcomes.specs.exclusions.Laws.{ExclusionsOfEachRun};
+ghost use Rattle.run_outcomes.specs.panics.Laws.{ExclusionsAreToldInEachRun};
+ghost use Rattle.run_outcomes.specs.saves.Laws.{LetterStopsOfEachRun};
+
+/// An attempt ends for a foreign member once all have promised, and names the least of its members that is configured neither in the newest
+/// committed updates in hand nor with the pending one.
+pub fn foreign_of_each_run()
+    ensures { ForeignOfEachRun }
+{}
+
+/// Where it ends for want of votes, it needs so many as are needed by the newest record in hand, under its committed updates or with the pending
+/// one; and under these each device that is lacking has votes.
+pub fn needed_of_each_run()
+    ensures { NeededOfEachRun }
+{}
+
+/// Where it ends for want of votes, what it has is told by the newest record in hand too: under its committed updates these are the votes of the
+/// members and of each device with votes that is not lacking, to which a member has a path; or they are so with the pending update, where the
+/// committed ones may be enough.
+pub fn counted_of_each_run()
+    ensures { CountedOfEachRun }
+{}
+
+/// The devices that it names as lacking are devices of the header, in order and each once; one to which no member has a path is named so, and no
+/// other.
+pub fn lacking_of_each_run()
+    ensures { LackingOfEachRun }
+{}
+
+/// A node that seizes a device has a path to it, and so has each that its attempt asks to seize it.
+pub fn paths_of_each_run()
+    ensures { PathsOfEachRun }
+{}
+
+/// Where an attempt ends for want of votes, each obstacle that it names is shown, but for keys that are not registered: no member has a path to the device, or
+/// device lines of a member since the attempt began show the greater word, the expelled member, the contended device or the failed command.
+pub fn results_of_each_run()
+    ensures { ResultsOfEachRun }
+{}
+
+/// Where an attempt ends and excludes a node, an earlier attempt left that node out and had another member of this one. Its number is above the newest
+/// epoch that the node had installed as it sent its Promise, and where the coordinator excludes itself, above the newest that it has installed by then.
+pub fn exclusions_of_each_run()
+    ensures { ExclusionsOfEachRun }
+{}
+
+/// A node panics for an exclusion only where its own attempt has excluded it in the same event, or where an Excluded was delivered to it that was sent as
+/// its sender's attempt excluded it. The epoch that the panic names is above the newest that the node had installed by then, and its attempt left the node
+/// out.
+pub fn exclusions_are_told_in_each_run()
+    ensures { ExclusionsAreToldInEachRun }
+{}
+
+/// A node stops only where the rules let it save or mount, in each event but a tick and a command at a device: in its boot; at a command and a probe
+/// behind a proposal of its own; and at a message that is delivered to it where a save of that kind is due: a promise is asked of it, its attempt is
+/// under way, it installs what it acts for, its membership starts, or an update is proposed, prepared or committed.
+pub fn letter_stops_of_each_run()
+    ensures { LetterStopsOfEachRun }
+{}

@@ -1,0 +1,3 @@
+pub mod views
+pub mod native
+pub mod admitted

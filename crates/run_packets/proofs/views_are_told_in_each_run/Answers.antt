@@ -1,0 +1,5 @@
+use Rattle.run_packets.proofs.admitted.Whole as proof
+use Rattle.run_packets.proofs.views_are_told_in_each_run.Goals as goal
+
+pub returns : goal.returns
+returns c = proof.views_are_told_in_each_run c.told_cycles_have_names.ensures.names

@@ -1,5 +1,0 @@
-use Rattle.run_panics.proofs.Runs as proof
-use Rattle.run_panics.proofs.exclusions_are_told_in_each_run.Goals as goal
-
-pub returns : goal.returns
-returns c = proof.exclusions_are_told_in_each_run

@@ -1,5 +1,0 @@
-use Rattle.run_readings.proofs.Runs as proof
-use Rattle.run_readings.proofs.attempts_hold_what_was_read.Goals as goal
-
-pub returns : goal.returns
-returns c = proof.attempts_hold_what_was_read

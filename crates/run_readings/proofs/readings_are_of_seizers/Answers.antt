@@ -1,5 +1,0 @@
-use Rattle.run_readings.proofs.Runs as proof
-use Rattle.run_readings.proofs.readings_are_of_seizers.Goals as goal
-
-pub returns : goal.returns
-returns c = proof.readings_are_of_seizers

@@ -1,5 +1,0 @@
-use Rattle.run_readings.proofs.Runs as proof
-use Rattle.run_readings.proofs.tasks_that_seized_are_told.Goals as goal
-
-pub returns : goal.returns
-returns c = proof.tasks_that_seized_are_told

@@ -1,5 +1,0 @@
-use Rattle.run_valid.proofs.Told as proof
-use Rattle.run_valid.proofs.seizers_are_told_in_each_run.Goals as goal
-
-pub returns : goal.returns
-returns c = proof.seizers_are_told_in_each_run

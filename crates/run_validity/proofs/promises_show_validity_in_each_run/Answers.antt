@@ -1,5 +1,0 @@
-use Rattle.run_validity.proofs.Runs as proof
-use Rattle.run_validity.proofs.promises_show_validity_in_each_run.Goals as goal
-
-pub returns : goal.returns
-returns c = proof.promises_show_validity_in_each_run

@@ -1,5 +1,0 @@
-use Rattle.run_views.proofs.Runs as proof
-use Rattle.run_views.proofs.none_begins_alone_in_each_run.Goals as goal
-
-pub returns : goal.returns
-returns c = proof.none_begins_alone_in_each_run

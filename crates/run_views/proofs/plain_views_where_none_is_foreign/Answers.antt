@@ -1,5 +1,0 @@
-use Rattle.run_views.proofs.Runs as proof
-use Rattle.run_views.proofs.plain_views_where_none_is_foreign.Goals as goal
-
-pub returns : goal.returns
-returns c = proof.plain_views_where_none_is_foreign
