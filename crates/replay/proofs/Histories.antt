@@ -38,7 +38,12 @@ use Rattle.run_devices.proofs.queues.Disks.{disk_lines_of_each_run}
 use Rattle.run_devices.proofs.readings.Runs as readings
 use Rattle.run_taken.proofs.Laws as taken
 use Rattle.run_devices.proofs.valid.Runs as valid
-use Rattle.run_packets.proofs.views.Runs as views
+use Rattle.run_packets.proofs.admitted.Whole.{attempts_begin_as_wanted}
+use Rattle.run_packets.proofs.native.Boots.{boots_are_of_the_header}
+use Rattle.run_outcomes.proofs.results.Runs.{results_of_each_run}
+use Rattle.run_owed.proofs.repeats.Runs.{prepares_again_of_each_run}
+use Rattle.run_owed.proofs.replies.Runs.{orders_are_answered_in_each_run}
+use Rattle.order_laws.specs.Laws.{ToldCyclesHaveNames}
 use Rattle.run_writes.proofs.Runs.{writes_of_each_run}
 use Rattle.run_rounds.specs.Laws.{AsksSome}
 use Rattle.run_rounds.proofs.Runs.{parts_of_each_run}
@@ -51,7 +56,7 @@ use Rattle.run_devices.proofs.validity.Runs.{promises_show_validity_in_each_run}
 use Rattle.run_devices.proofs.installs.Runs.{installs_tell_all_seizings}
 use Rattle.run_outcomes.proofs.panics.Runs.{exclusions_are_told_in_each_run}
 use Rattle.run_outcomes.proofs.saves.Runs.{letter_stops_of_each_run}
-use Rattle.run_fits.proofs.Lines.{events_are_of, no_disk_fails_by_lines}
+use Rattle.run_fits.proofs.Lines.{all_lines, events_are_of, no_disk_fails_by_lines}
 use Rattle.run_fits.specs.Laws.{IsOfHeader}
 use Rattle.history_setting.specs.Settings.{setting_of}
 use Rattle.history_setting.proofs.Votes.{setting_votes_of_each_run}
@@ -98,9 +103,12 @@ disks_in : (devices : List HeaderDevice) → AllByRecursion (λ (d : HeaderDevic
 disks_in [] are = tt
 disks_in (d ∷ devices) are = (disk_of d.kind are.0, disks_in devices are.1)
 
-told_trace : (h : Header) (events : List Event) (text : List ℕ) (p : Play) → IsHeader h → LacksServers h → AllByRecursion AsksSome (lines_upon [] events) → AllByRecursion (IsInHeader h) events → text ≡ p.text → IsTold h 65536 [] events p
+told_trace : ToldCyclesHaveNames → (h : Header) (events : List Event) (text : List ℕ) (p : Play) → IsHeader h → LacksServers h → AllByRecursion AsksSome (lines_upon [] events) → AllByRecursion (IsInHeader h) events → text ≡ p.text → IsTold h 65536 [] events p
     → IsTrace h events text
-told_trace h events text p header disks asks named is told =
+told_trace cycles h events text p header disks asks named is told =
+    let nodes = few_nodes h.version h.nodes header.nodes_high in
+    let of_header = subst (λ (ls : List Line). AllByRecursion (IsOfHeader h) ls) (sym told.said) (events_are_of h events [] named tt) in
+    let boots = boots_are_of_the_header h 65536 told.happenings told.shaped (all_lines h (first_cluster h) (first_scene h 65536) told.happenings of_header).1 in
     let links = links_of_each_run h 65536 told.happenings told.may in
     let built : AreDisks h = disks_in h.devices disks in
     let devices = devices_of_each_run h 65536 told.happenings header.devices built told.may in
@@ -135,6 +143,8 @@ told_trace h events text p header disks asks named is told =
       clients = taken.clients_are_answered_in_each_run h 65536 told.happenings header.devices header.cluster_high told.may told.shaped;
       one_node = owed.one_node_of_each_run h 65536 told.happenings header.devices header.cluster_high told.may told.shaped;
       prepares = owed.prepares_of_each_run h 65536 told.happenings (setting_of h) header.devices header.cluster_high refl told.may told.shaped;
+      prepares_again = prepares_again_of_each_run h 65536 told.happenings (setting_of h) header.devices header.cluster_high refl told.may told.shaped;
+      orders_answered = orders_are_answered_in_each_run h 65536 told.happenings (setting_of h) header.devices header.cluster_high refl told.may told.shaped;
       links = links.run;
       no_drop_due = links.due;
       devices = devices.run;
@@ -186,8 +196,7 @@ told_trace h events text p header disks asks named is told =
       };
       beats_in_ticks = attempts.beats_in_ticks_of_each_run h 65536 told.happenings header.devices header.cluster_high told.may;
       beats_due = attempts.beats_are_due_in_each_run h 65536 told.happenings header.devices header.cluster_high told.may;
-      attempts_begin = attempts.attempts_begin_in_each_run h 65536 told.happenings header.devices header.cluster_high told.may;
-      not_alone = views.none_begins_alone_in_each_run h 65536 told.happenings header.devices header.cluster_high told.may;
+      attempts_begin = attempts_begin_as_wanted cycles h 65536 told.happenings nodes header.devices header.cluster_high told.may boots;
       installs_bring = attempts.installs_bring_members_in_each_run h 65536 told.happenings header.devices header.cluster_high told.may;
       ends_under_way = endings.attempts_are_under_way_in_each_run h 65536 told.happenings header.devices header.cluster_high told.may;
       superseded = endings.superseded_in_each_run h 65536 told.happenings header.devices header.cluster_high told.may;
@@ -200,6 +209,7 @@ told_trace h events text p header disks asks named is told =
       needed = counts.needed_of_each_run h 65536 told.happenings header.devices header.cluster_high told.may;
       counted = counts.counted_of_each_run h 65536 told.happenings header.devices header.cluster_high told.may;
       lacking = counts.lacking_of_each_run h 65536 told.happenings header.devices header.cluster_high told.may;
+      results = results_of_each_run h 65536 told.happenings header.devices header.cluster_high built told.may;
       one_seizer = valid.one_seizer_in_each_run h 65536 told.happenings header.devices header.cluster_high told.may;
       installs_told = installs_tell_all_seizings h 65536 told.happenings header.devices header.cluster_high told.may;
       seizeds = readings.seizeds_say_what_was_read h 65536 told.happenings header.devices header.cluster_high told.may;
@@ -219,36 +229,35 @@ told_trace h events text p header disks asks named is told =
       stops_ruled = letter_stops_of_each_run h 65536 told.happenings header.devices header.cluster_high told.may (setting_of h);
       told_excluded = exclusions_are_told_in_each_run h 65536 told.happenings header.devices header.cluster_high told.may;
       no_disk_fails =
-          no_disk_fails_by_lines h 65536 told.happenings (few_nodes h.version h.nodes header.nodes_high) header.devices header.cluster_high told.may told.shaped
-          (subst (λ (ls : List Line). AllByRecursion (IsOfHeader h) ls) (sym told.said) (events_are_of h events [] named tt));
+          no_disk_fails_by_lines h 65536 told.happenings nodes header.devices header.cluster_high told.may told.shaped of_header;
     }
 
-pub trace_of : (agents : List AgentState) (h : Header) (events : List Event) (text : List ℕ) → IsHeader h → LacksServers h → AreAllowed h first_so_far events
+pub trace_of : ToldCyclesHaveNames → (agents : List AgentState) (h : Header) (events : List Event) (text : List ℕ) → IsHeader h → LacksServers h → AreAllowed h first_so_far events
     → text ≡ texts_of (first_world h 65536 agents) events → IsTrace h events text
-trace_of agents h events text header disks allowed is =
-    told_trace h events text (lines_on events (play (first_world h 65536 agents) [])) header disks (all_ask h first_so_far events [] allowed tt)
+trace_of cycles agents h events text header disks allowed is =
+    told_trace cycles h events text (lines_on events (play (first_world h 65536 agents) [])) header disks (all_ask h first_so_far events [] allowed tt)
     (all_in_header h first_so_far events allowed) (is ∙ sym (texts_are events (first_world h 65536 agents) []))
     (worlds_are_told h 65536 agents [] events (few_nodes h.version h.nodes header.nodes_high) header.devices header.cluster_high (all_named h first_so_far events allowed)
     (all_in_header h first_so_far events allowed))
 
 -- ---- each outcome
 
-tells_first : (o : Option Schedule) (agents : List AgentState) (text : List ℕ) → IsAllowedSchedule o → IsFirstOf o agents text → TellsFirstOf o agents text
-tells_first None agents text allowed is = is
-tells_first (Some (OfDevice senders steps)) agents text allowed is = record { count = is.count; written = is.written }
-tells_first (Some (OfCluster h events)) agents text allowed is = record {
+tells_first : ToldCyclesHaveNames → (o : Option Schedule) (agents : List AgentState) (text : List ℕ) → IsAllowedSchedule o → IsFirstOf o agents text → TellsFirstOf o agents text
+tells_first cycles None agents text allowed is = is
+tells_first cycles (Some (OfDevice senders steps)) agents text allowed is = record { count = is.count; written = is.written }
+tells_first cycles (Some (OfCluster h events)) agents text allowed is = record {
   header = allowed.0;
   no_server = allowed.1;
   allowed = allowed.2;
   count = is.count;
   written = is.written;
-  trace = trace_of agents h (take is.count events) text allowed.0 allowed.1 (first_allowed h first_so_far is.count events allowed.2) is.written;
+  trace = trace_of cycles agents h (take is.count events) text allowed.0 allowed.1 (first_allowed h first_so_far is.count events allowed.2) is.written;
 }
 
-pub tells_history : (agents : List AgentState) (ended : Bool) (bytes : List ℕ) → TellsHistory bytes agents (outcome_of Run agents ended bytes).text
-tells_history agents ended bytes =
-    tells_first (schedule_of Opening (pieces bytes)) agents (outcome_of Run agents ended bytes).text (schedule_allowed Opening (pieces bytes) first_fine) (lines_first ended (pieces bytes) Opening agents 0)
+pub tells_history : ToldCyclesHaveNames → (agents : List AgentState) (ended : Bool) (bytes : List ℕ) → TellsHistory bytes agents (outcome_of Run agents ended bytes).text
+tells_history cycles agents ended bytes =
+    tells_first cycles (schedule_of Opening (pieces bytes)) agents (outcome_of Run agents ended bytes).text (schedule_allowed Opening (pieces bytes) first_fine) (lines_first ended (pieces bytes) Opening agents 0)
 
 -- and of each task whose outcome it is
-pub tells_run : (task : Task) (agents : List AgentState) (ended : Bool) (bytes : List ℕ) → task ≡ Run → TellsHistory bytes agents (outcome_of task agents ended bytes).text
-tells_run task agents ended bytes is = subst (λ (t : Task). TellsHistory bytes agents (outcome_of t agents ended bytes).text) (sym is) (tells_history agents ended bytes)
+pub tells_run : ToldCyclesHaveNames → (task : Task) (agents : List AgentState) (ended : Bool) (bytes : List ℕ) → task ≡ Run → TellsHistory bytes agents (outcome_of task agents ended bytes).text
+tells_run cycles task agents ended bytes is = subst (λ (t : Task). TellsHistory bytes agents (outcome_of t agents ended bytes).text) (sym is) (tells_history cycles agents ended bytes)

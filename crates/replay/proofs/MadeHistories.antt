@@ -23,6 +23,7 @@ use Rattle.replay.specs.Histories.{AreAllowed}
 use Rattle.replay.specs.Outcomes.{Outcome}
 use Rattle.replay.specs.Replays.{texts_of}
 use Rattle.replay.specs.Sessions.{first_so_far}
+use Rattle.order_laws.specs.Laws.{ToldCyclesHaveNames}
 use Rattle.replay.proofs.Histories.{trace_of}
 use Rattle.replay.proofs.MadeOutcomes.{event_of, made_outcome}
 
@@ -43,8 +44,8 @@ are_allowed h s (line ∷ lines) (e ∷ events) are =
 four_leads : (m : Making) → LeadTo Opening (lines_from m.seed 0 5) (Devices four_nodes)
 four_leads m = lead_on Opening (Devices four_nodes) (lines_from m.seed 0 5) (header_leads m.seed)
 
-pub made_history : (m : Making) (agents : List AgentState) → m.count ≤ 90000 → CountsHistory m agents (counts_made m agents)
-made_history m agents few =
+pub made_history : ToldCyclesHaveNames → (m : Making) (agents : List AgentState) → m.count ≤ 90000 → CountsHistory m agents (counts_made m agents)
+made_history cycles m agents few =
     let events : List Event = events_from m.seed 5 (5 + m.count) in
     let header : IsHeader four_nodes = heads_are_allowed (lines_from m.seed 0 5) (Devices four_nodes) (Cluster four_nodes) (four_leads m) refl in
     let disks : LacksServers four_nodes = servers_are_not_read (lines_from m.seed 0 5) (Devices four_nodes) four_nodes (four_leads m) refl in
@@ -56,5 +57,5 @@ made_history m agents few =
       no_server = disks;
       allowed = allowed;
       written = refl;
-      trace = trace_of agents four_nodes events (texts_of (first_world four_nodes 65536 agents) events) header disks allowed refl;
+      trace = trace_of cycles agents four_nodes events (texts_of (first_world four_nodes 65536 agents) events) header disks allowed refl;
     }

@@ -26,7 +26,7 @@ use Rattle.history.specs.Order.{Always, EachEvent}
 use Rattle.history.specs.Starts.{StartLines, base_due}
 use Rattle.history_setting.specs.Settings.{setting_of}
 use Rattle.world_model.specs.First.{first_world}
-use Rattle.run_attempts.specs.Laws.{BeatIsDue, BeatsInTick, Begins, BringsMembers}
+use Rattle.run_attempts.specs.Laws.{BeatIsDue, BeatsInTick, BringsMembers}
 use Rattle.run_commands.specs.Numbered.{CommandsAreNumbered}
 use Rattle.run_commands.specs.Own.{OwnAnswersFit}
 use Rattle.run_endings.specs.Laws.{EndsInTick, EndsUnderWay, HasPromises, HasWaited, IsSuperseded, NamesMember}
@@ -44,11 +44,14 @@ use Rattle.run_writes.specs.Laws.{IsWritten}
 use Rattle.run_rounds.specs.Parts.{PartsInOrder, shown}
 use Rattle.run_outcomes.specs.counts.Laws.{EndsForeign, EndsNeeding, EndsShort, NamesLacking}
 use Rattle.run_outcomes.specs.exclusions.Laws.{EndsExcluded}
+use Rattle.run_outcomes.specs.results.Laws.{NamesShown}
 use Rattle.run_owed.specs.prepares.Laws.{HasPrepares, IsOfOne}
+use Rattle.run_owed.specs.repeats.Laws.{HasPreparesAgain}
+use Rattle.run_owed.specs.replies.Laws.{HasDone}
 use Rattle.run_devices.specs.queues.Laws.{IsDone}
 use Rattle.run_devices.specs.readings.Laws.{BringsWhatWasRead, SaysWhatWasRead}
 use Rattle.run_taken.specs.Laws.{ClientIsAnswered}
-use Rattle.run_packets.specs.views.Laws.{BeginsNotAlone}
+use Rattle.run_packets.specs.admitted.Laws.{BeginsAsWanted}
 use Rattle.replay.specs.Sessions.{first_so_far}
 use Rattle.replay.specs.Outcomes.{pieces}
 use Rattle.replay.specs.Replays.{OfCluster, OfDevice, Schedule, entries, schedule_of, texts_of}
@@ -87,6 +90,8 @@ pub record IsTrace (h : Header) (events : List Event) (text : List ℕ) : Type 0
   pub clients : EachEvent (ClientIsAnswered (setting_of h)) moments
   pub one_node : EachEvent IsOfOne moments
   pub prepares : EachEvent (HasPrepares (setting_of h)) moments
+  pub prepares_again : EachEvent (HasPreparesAgain (setting_of h)) moments
+  pub orders_answered : EachEvent (HasDone (setting_of h)) moments
   pub links : Links 65536 moments
   pub no_drop_due : drop_due 65536 moments ≡ None
   pub devices : DeviceRun h moments
@@ -110,8 +115,7 @@ pub record IsTrace (h : Header) (events : List Event) (text : List ℕ) : Type 0
   pub heartbeats : Heartbeats moments
   pub beats_in_ticks : Always BeatsInTick moments
   pub beats_due : Always (BeatIsDue (setting_of h)) moments
-  pub attempts_begin : Always (Begins (setting_of h)) moments
-  pub not_alone : Always (BeginsNotAlone (setting_of h)) moments
+  pub attempts_begin : Always (BeginsAsWanted (setting_of h)) moments
   pub installs_bring : Always BringsMembers moments
   pub ends_under_way : Always EndsUnderWay moments
   pub superseded : Always IsSuperseded moments
@@ -124,6 +128,7 @@ pub record IsTrace (h : Header) (events : List Event) (text : List ℕ) : Type 0
   pub needed : Always (EndsNeeding (setting_of h)) moments
   pub counted : Always (EndsShort (setting_of h)) moments
   pub lacking : Always (NamesLacking (setting_of h)) moments
+  pub results : Always (NamesShown h) moments
   pub seizeds : Always (SaysWhatWasRead h) moments
   pub readings : Always (BringsWhatWasRead h) moments
   pub one_seizer : OneSeizer h moments

@@ -20,6 +20,7 @@ use crate::status::Status;
 use crate::stop::Stop;
 use crate::task::{Task, read_task};
 use agents::StockAgent;
+use order_laws::told_cycles_have_names;
 use cl_io::{Failed, Sink, Source, write_all};
 use std::alloc::Global;
 use world::Agents;
@@ -72,6 +73,8 @@ fn run<S: Source, K: Sink>(
     ensures run { IsRun task agents (S.left source.old) (S.left source.new) (K.held sink.old) (K.held sink.new)
         (S.faults source.old) (S.faults source.new) (K.faults sink.old) (K.faults sink.new) result }
 {
+    // The answers that a trace tells can be read: a cycle that is told has names.
+    told_cycles_have_names();
     let Ok(reader) = Reader::new(alloc, agents) else {
         return Status::NoMemory;
     };

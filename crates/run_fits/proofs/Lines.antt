@@ -90,7 +90,7 @@ one_line h c s (Writes n d value now ends) are =
     (subst (AreOf h) (taking_lines c n now ends (input.Wrote d value (commanded s n d k).answer) (commanded s n d k).scene ∙ commanded_lines s n d (slice_get s.devices (d - 1)) k) are, tt)
 one_line h c s (Refuses n d value cause) are = (are, tt)
 
-all_lines : (h : Header) (c : Cluster) (s : Scene) (hs : List Happening) → AreOf h (lines_of (all_happened c s hs).moments) → AreOf h (lines_of s.moments) × AllByRecursion (SpeaksInHeader h) hs
+pub all_lines : (h : Header) (c : Cluster) (s : Scene) (hs : List Happening) → AreOf h (lines_of (all_happened c s hs).moments) → AreOf h (lines_of s.moments) × AllByRecursion (SpeaksInHeader h) hs
 all_lines h c s [] are = (are, tt)
 all_lines h c s (x ∷ hs) are =
     let rest : AreOf h (lines_of (happened c s x).moments) × AllByRecursion (SpeaksInHeader h) hs = all_lines h c (happened c s x) hs are in
