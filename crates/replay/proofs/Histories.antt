@@ -56,6 +56,7 @@ use Rattle.run_devices.proofs.validity.Runs.{promises_show_validity_in_each_run}
 use Rattle.run_devices.proofs.installs.Runs.{installs_tell_all_seizings}
 use Rattle.run_outcomes.proofs.panics.Runs.{exclusions_are_told_in_each_run}
 use Rattle.run_outcomes.proofs.saves.Runs.{letter_stops_of_each_run}
+use Rattle.run_outcomes.proofs.stops.Runs.{tick_stops_of_each_run}
 use Rattle.run_fits.proofs.Lines.{all_lines, events_are_of, no_disk_fails_by_lines}
 use Rattle.run_fits.specs.Laws.{IsOfHeader}
 use Rattle.history_setting.specs.Settings.{setting_of}
@@ -227,6 +228,7 @@ told_trace cycles h events text p header disks asks named is told =
       stops_come = downs.stops_come_in_each_run h 65536 told.happenings header.devices header.cluster_high told.may;
       no_stop_due = downs.no_stop_is_due h 65536 told.happenings header.devices header.cluster_high told.may;
       stops_ruled = letter_stops_of_each_run h 65536 told.happenings header.devices header.cluster_high told.may (setting_of h);
+      ticks_ruled = tick_stops_of_each_run (attempts_begin_as_wanted cycles) h 65536 told.happenings nodes header.devices header.cluster_high told.may boots;
       told_excluded = exclusions_are_told_in_each_run h 65536 told.happenings header.devices header.cluster_high told.may;
       no_disk_fails =
           no_disk_fails_by_lines h 65536 told.happenings nodes header.devices header.cluster_high told.may told.shaped of_header;

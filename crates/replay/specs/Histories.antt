@@ -36,6 +36,7 @@ use Rattle.run_fits.specs.Laws.{NoDiskFails}
 use Rattle.run_devices.specs.installs.Laws.{TellsAllSeizings}
 use Rattle.run_outcomes.specs.panics.Laws.{PanicsExcluded}
 use Rattle.run_outcomes.specs.saves.Laws.{StopsByRule}
+use Rattle.run_outcomes.specs.stops.Laws.{TickStops}
 use Rattle.run_devices.specs.valid.Laws.{OneSeizer}
 use Rattle.run_devices.specs.validity.Laws.{ShowsValidity}
 use Rattle.run_history.specs.Scenes.{text_of}
@@ -147,6 +148,7 @@ pub record IsTrace (h : Header) (events : List Event) (text : List ℕ) : Type 0
   pub stops_come : Always StopComes moments
   pub no_stop_due : stop_due moments ≡ None
   pub stops_ruled : Always (StopsByRule (setting_of h)) moments
+  pub ticks_ruled : Always (TickStops (setting_of h)) moments
   pub told_excluded : Always PanicsExcluded moments
   pub no_disk_fails : length moments < 2 ^ 63 → Always NoDiskFails moments
 

@@ -20,8 +20,8 @@ use crate::status::Status;
 use crate::stop::Stop;
 use crate::task::{Task, read_task};
 use agents::StockAgent;
-use order_laws::told_cycles_have_names;
 use cl_io::{Failed, Sink, Source, write_all};
+use order_laws::told_cycles_have_names;
 use std::alloc::Global;
 use world::Agents;
 

@@ -3,3 +3,4 @@ pub mod results
 pub mod exclusions
 pub mod panics
 pub mod saves
+pub mod stops

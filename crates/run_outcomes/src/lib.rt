@@ -9,7 +9,7 @@
 //!   members.
 //! - `panics`: which nodes panic since an attempt excluded them. An attempt that excludes its own coordinator makes it panic; another node is told by an
 //!   Excluded, at which it panics only while it is in the session of that attempt.
-//! - `saves`: where nodes stop, only in a save that the rules let them make there.
+//! - `saves`, `stops`: where nodes stop, only in a save that the rules let them make there.
 //!
 //! Each function here is a law. It has no body, and its contract is proved of every header, every list of lines, everything that happens and
 //! all agents.
@@ -21,6 +21,7 @@ ghost use Rattle.run_outcomes.specs.results.Paths.{PathsOfEachRun};
 ghost use Rattle.run_outcomes.specs.exclusions.Laws.{ExclusionsOfEachRun};
 ghost use Rattle.run_outcomes.specs.panics.Laws.{ExclusionsAreToldInEachRun};
 ghost use Rattle.run_outcomes.specs.saves.Laws.{LetterStopsOfEachRun};
+ghost use Rattle.run_outcomes.specs.stops.Laws.{TickStopsOfEachRun};
 
 /// An attempt ends for a foreign member once all have promised, and names the least of its members that is configured neither in the newest
 /// committed updates in hand nor with the pending one.
@@ -77,3 +78,12 @@ pub fn exclusions_are_told_in_each_run()
 pub fn letter_stops_of_each_run()
     ensures { LetterStopsOfEachRun }
 {}
+
+/// In a tick a node stops only where the rules let it save: it has proposed an update or begun an attempt in this tick, or it wants one: it is the
+/// first of the nodes that it sees, and it is no member, or of other members, or one of these was heard to be elsewhere; or the lines do not tell which
+/// nodes are configured.
+pub fn tick_stops_of_each_run()
+    ensures { TickStopsOfEachRun }
+{
+    run_packets::attempts_begin_as_wanted();
+}

@@ -1,0 +1,12 @@
+pub mod Presidents
+pub mod Ticks
+pub mod Firsts
+pub mod Still
+pub mod Behind
+pub mod Walk
+pub mod Sets
+pub mod Wanted
+pub mod Traces
+pub mod LaterStops
+pub mod Steps
+pub mod Runs
