@@ -2,87 +2,99 @@ ghost use Rattle.std.specs.Prelude.{◌≡◌, true, IfOk};
 ghost use Rattle.wire.specs.Kinds.{is_promise};
 ghost use Rattle.cmm_attempt.specs.Attempts.{is_of, HasFewKeys};
 
+use Given::{Comes, OwnHeld, OwnReady, OwnUnregistered, Tick, WithVotes};
+use Sent::{Flagged, Nack, Promise, Ready, Seized};
 use cl_base::{
-    BadNumber, DevId, DevSet, DeviceKind, Epoch, Header, HeaderDevice, HeaderDevices, MessageKind,
-    NodeId, NodeSet, SeizeEnd, Version,
+    DevId, DevSet, DeviceKind, Epoch, Header, HeaderDevice, HeaderDevices, MessageKind, NodeId,
+    NodeSet, SeizeEnd, Version,
 };
 use cmm_attempt::{AttachedDevice, AttachedDevices, Attempt, AttemptEnd, Step, Steps};
 use pgr_device::KeyList;
 use quorum_votes::Votes;
-use std::alloc::{AllocError, Global};
+use std::alloc::Global;
 use std::process::Abort;
 use std::test::Fail;
 use wire::{Body, GroupReports, Keys, Message, Report, ResourceReports, SeizedResult, Texts};
 
+/// A message that comes, of this epoch where it is told.
+#[derive(Clone, Copy)]
+enum Sent {
+    Promise(u64),
+    /// A Promise with resource flags, of a record that was installed under epoch 1.
+    Flagged,
+    Nack(u64),
+    /// Of this device.
+    Seized(u64),
+    Ready,
+}
+
 /// What happens to an attempt 65 of node 1.
 #[derive(Clone, Copy)]
 enum Given {
-    /// A message of this node of the attempt of this epoch.
-    Promise(u64, u64),
-    /// A Promise with resource flags, of a record that was installed under epoch 1.
-    Flagged(u64),
-    Nack(u64, u64),
-    Seized(u64, u64),
-    Ready(u64),
+    /// The node's message comes.
+    Comes(u64, Sent),
     /// The votes, where these nodes are configured.
-    Votes(u32),
+    WithVotes(u32),
     OwnHeld(u64),
     OwnUnregistered(u64),
     OwnReady,
     Tick,
 }
 
-/// The steps in short, a word a step.
-fn in_short(alloc: Global, steps: &Steps) -> Result<String, AllocError> {
-    let mut text = String::new(alloc);
-    let listed = steps.items();
-    for step in listed {
-        let word = word_of(alloc, step)?;
-        text.push_str(word.as_str())?;
-    }
-    Ok(text)
-}
+/// A step in short: a word, and the number that goes with it.
+type Short = (&'static str, Option<u64>);
 
-fn word_of(alloc: Global, step: &Step) -> Result<String, AllocError> {
+fn in_short(step: &Step) -> Short {
     match step {
-        Step::Send { to, message } => {
-            let (to, kind) = (to.number(), kind_word(message.body.kind()));
-            format!(in alloc; "{kind} {to}; ")
-        }
-        Step::SeizeHere { dev, .. } => {
-            let device = dev.number();
-            format!(in alloc; "seize {device}; ")
-        }
-        Step::NeedVotes { newest } => {
-            let newest = newest.number();
-            format!(in alloc; "votes of {newest}; ")
-        }
-        Step::InstallHere(_) => format!(in alloc; "install; "),
-        Step::StartHere => format!(in alloc; "start; "),
-        Step::Ended(end) => end_word(alloc, end),
+        Step::Send { to, message } => (kind_word(message.body.kind()), Some(to.number())),
+        Step::SeizeHere { dev, .. } => ("seize", Some(dev.number())),
+        Step::NeedVotes { newest } => ("votes of", Some(newest.number())),
+        Step::InstallHere(_) => ("install", None),
+        Step::StartHere => ("start", None),
+        Step::Ended(end) => end_in_short(end),
     }
 }
 
-fn end_word(alloc: Global, end: &AttemptEnd) -> Result<String, AllocError> {
+/// Of votes, how many there are.
+fn end_in_short(end: &AttemptEnd) -> Short {
     match end {
-        AttemptEnd::Votes { have, need, .. } => format!(in alloc; "too few {have} {need}; "),
-        AttemptEnd::Superseded(p) => {
-            let p = p.number();
-            format!(in alloc; "superseded {p}; ")
-        }
-        AttemptEnd::Silent(n) => {
-            let n = n.number();
-            format!(in alloc; "silent {n}; ")
-        }
-        AttemptEnd::Foreign(n) => {
-            let n = n.number();
-            format!(in alloc; "foreign {n}; ")
-        }
-        AttemptEnd::Excluded(n) => {
-            let n = n.number();
-            format!(in alloc; "excluded {n}; ")
-        }
+        AttemptEnd::Votes { have, .. } => ("too few", Some(*have)),
+        AttemptEnd::Superseded(p) => ("superseded", Some(p.number())),
+        AttemptEnd::Silent(n) => ("silent", Some(n.number())),
+        AttemptEnd::Foreign(n) => ("foreign", Some(n.number())),
+        AttemptEnd::Excluded(n) => ("excluded", Some(n.number())),
     }
+}
+
+/// How many votes are needed, where that is why the attempt ends.
+fn needed(step: &Step) -> Option<u64> {
+    match step {
+        Step::Ended(AttemptEnd::Votes { need, .. }) => Some(*need),
+        _ => None,
+    }
+}
+
+fn tell_number(text: &mut String, number: Option<u64>) -> Result<(), Fail> {
+    if let Some(number) = number {
+        write!(text, " {number}")?;
+    }
+    Ok(())
+}
+
+fn tell(text: &mut String, step: &Step) -> Result<(), Fail> {
+    let (word, number) = in_short(step);
+    text.push_str(word)?;
+    tell_number(text, number)?;
+    tell_number(text, needed(step))?;
+    Ok(text.push(';')?)
+}
+
+/// The steps in short, in a line.
+fn tell_all(text: &mut String, steps: &Steps) -> Result<(), Fail> {
+    for step in steps.items() {
+        tell(text, step)?;
+    }
+    Ok(text.push('\n')?)
 }
 
 fn kind_word(kind: MessageKind) -> &'static str {
@@ -103,7 +115,7 @@ fn promise(
     epoch: u64,
     installed: u64,
     flagged: bool,
-) -> Result<Message, BadNumber>
+) -> Result<Message, Fail>
     ensures sender { IfOk result (λ m. m.sender ≡ from) }
     ensures kind { IfOk result (λ m. is_promise m.body ≡ true) }
     ensures of { IfOk result (λ m. is_of epoch m.body ≡ true) }
@@ -137,7 +149,7 @@ fn seized(alloc: Global, from: u64, device: u64) -> Result<Message, Fail>
     })
 }
 
-fn ready(alloc: Global, from: u64) -> Result<Message, BadNumber>
+fn ready(alloc: Global, from: u64) -> Result<Message, Fail>
     ensures { IfOk result (λ m. HasFewKeys m.body) }
 {
     let report = Report {
@@ -154,7 +166,7 @@ fn ready(alloc: Global, from: u64) -> Result<Message, BadNumber>
     })
 }
 
-fn nack(from: u64, epoch: u64) -> Result<Message, BadNumber>
+fn nack(from: u64, epoch: u64) -> Result<Message, Fail>
     ensures { IfOk result (λ m. HasFewKeys m.body) }
 {
     Ok(Message {
@@ -180,7 +192,7 @@ fn devices(alloc: Global) -> Result<AttachedDevices, Fail> {
 }
 
 /// The votes of these nodes with these devices.
-fn votes(alloc: Global, configured: u32) -> Result<Votes, AllocError> {
+fn votes(alloc: Global, configured: u32) -> Result<Votes, Fail> {
     let one = HeaderDevice {
         kind: DeviceKind::Quorum,
         attached: NodeSet::from_bits(0b011),
@@ -199,10 +211,22 @@ fn votes(alloc: Global, configured: u32) -> Result<Votes, AllocError> {
     Ok(Votes::first(&header))
 }
 
-fn take(a: &mut Attempt, from: u64, m: &Message) -> Result<Steps, Fail>
-    requires { HasFewKeys m.now.body }
+fn message(alloc: Global, from: u64, sent: Sent) -> Result<Message, Fail>
+    ensures { IfOk result (λ m. HasFewKeys m.body) }
 {
-    Ok(a.take(NodeId::new(from)?, m)?)
+    match sent {
+        Sent::Promise(epoch) => promise(alloc, from, epoch, 0, false),
+        Sent::Flagged => promise(alloc, from, 65, 1, true),
+        Sent::Nack(epoch) => nack(from, epoch),
+        Sent::Seized(device) => seized(alloc, from, device),
+        Sent::Ready => ready(alloc, from),
+    }
+}
+
+fn take(alloc: Global, a: &mut Attempt, from: u64, sent: Sent) -> Result<Steps, Fail> {
+    let node = NodeId::new(from)?;
+    let message = message(alloc, from, sent)?;
+    Ok(a.take(node, &message)?)
 }
 
 fn own(a: &mut Attempt, device: u64, r: SeizeEnd<KeyList>) -> Result<Steps, Fail> {
@@ -218,143 +242,171 @@ fn give(alloc: Global, a: &mut Attempt, configured: u32) -> Result<Steps, Fail> 
 }
 
 fn call(alloc: Global, a: &mut Attempt, given: Given) -> Result<Steps, Fail> {
+    let no_keys = KeyList::new(&[]);
     match given {
-        Given::Promise(n, epoch) => take(a, n, &promise(alloc, n, epoch, 0, false)?),
-        Given::Flagged(n) => take(a, n, &promise(alloc, n, 65, 1, true)?),
-        Given::Nack(n, epoch) => take(a, n, &nack(n, epoch)?),
-        Given::Seized(n, device) => take(a, n, &seized(alloc, n, device)?),
-        Given::Ready(n) => take(a, n, &ready(alloc, n)?),
-        Given::Votes(configured) => give(alloc, a, configured),
-        Given::OwnHeld(device) => own(a, device, SeizeEnd::Held(KeyList::new(&[]))),
-        Given::OwnUnregistered(device) => own(
-            a,
-            device,
-            SeizeEnd::NotRegistered(KeyList::new(&[])),
-        ),
+        Given::Comes(n, sent) => take(alloc, a, n, sent),
+        Given::WithVotes(configured) => give(alloc, a, configured),
+        Given::OwnHeld(device) => own(a, device, SeizeEnd::Held(no_keys)),
+        Given::OwnUnregistered(device) => own(a, device, SeizeEnd::NotRegistered(no_keys)),
         Given::OwnReady => Ok(a.own_ready()?),
         Given::Tick => Ok(a.tick()?),
     }
 }
 
-/// This is done and gives these steps.
-fn expect(
-    rt: &impl Abort,
+fn call_and_tell(
     alloc: Global,
+    text: &mut String,
     a: &mut Attempt,
     given: Given,
-    wanted: &str,
 ) -> Result<(), Fail> {
     let steps = call(alloc, a, given)?;
-    let text = in_short(alloc, &steps)?;
-    assert_eq!(rt; text.as_str(), wanted);
+    tell_all(text, &steps)
+}
+
+/// The steps that come of each, and whether the attempt is over then.
+fn take_all(alloc: Global, text: &mut String, a: &mut Attempt, list: &[Given]) -> Result<(), Fail> {
+    for given in list {
+        call_and_tell(alloc, text, a, *given)?;
+    }
+    if a.is_over() {
+        text.push_str("over")?;
+    }
     Ok(())
 }
 
 /// An attempt 65 of node 1, of these members, whose own record was installed under this epoch.
-fn begin(
-    rt: &impl Abort,
-    alloc: Global,
-    members: u32,
-    installed: u64,
-    wanted: &str,
-) -> Result<Attempt, Fail> {
-    let own = promise(alloc, 1, 65, installed, false)?;
+fn begin(alloc: Global, members: u32, installed: u64) -> Result<(Attempt, Steps), Fail> {
     let members = NodeSet::from_bits(members);
     if !members.has(NodeId::new(1)?) {
         return Err("no coordinator".into());
     }
-    let epoch = Epoch::from_number(65);
-    let (a, steps) = Attempt::begin(alloc, epoch, members, own, devices(alloc)?, 42)?;
-    let text = in_short(alloc, &steps)?;
-    assert_eq!(rt; text.as_str(), wanted);
-    Ok(a)
+    let devices = devices(alloc)?;
+    let own = promise(alloc, 1, 65, installed, false)?;
+    Ok(Attempt::begin(alloc, Epoch::from_number(65), members, own, devices, 42)?)
 }
 
-fn expect_over(rt: &impl Abort, a: &Attempt) {
-    assert_eq!(rt; a.is_over(), true);
+fn begin_and_take_all(
+    alloc: Global,
+    text: &mut String,
+    members: u32,
+    installed: u64,
+    list: &[Given],
+) -> Result<(), Fail> {
+    let (mut a, steps) = begin(alloc, members, installed)?;
+    tell_all(text, &steps)?;
+    take_all(alloc, text, &mut a, list)
 }
 
-#[test]
-fn three_nodes_start(rt: HostRuntime) -> Result<(), Fail> {
-    let alloc = rt.alloc();
-    let mut a = begin(&rt, alloc, 0b111, 0, "collect 2; collect 3; ")?;
-    expect(&rt, alloc, &mut a, Given::Promise(2, 65), "")?;
-    expect(&rt, alloc, &mut a, Given::Promise(3, 129), "")?;
-    expect(&rt, alloc, &mut a, Given::Promise(3, 65), "votes of 1; ")?;
-    expect(&rt, alloc, &mut a, Given::Votes(0b111), "seize 1; ")?;
-    expect(&rt, alloc, &mut a, Given::Seized(2, 1), "")?;
-    expect(&rt, alloc, &mut a, Given::OwnHeld(1), "seize 2; ")?;
-    expect(
-        &rt,
-        alloc,
-        &mut a,
-        Given::OwnHeld(2),
-        "install; install 2; install 3; ",
-    )?;
-    expect(&rt, alloc, &mut a, Given::OwnReady, "")?;
-    expect(&rt, alloc, &mut a, Given::Ready(3), "")?;
-    expect(
-        &rt,
-        alloc,
-        &mut a,
-        Given::Ready(2),
-        "start; start 2; start 3; ",
-    )?;
-    expect_over(&rt, &a);
+/// The first steps of such an attempt, and those that come of each of the list, a line each.
+fn expect(
+    rt: &impl Abort,
+    alloc: Global,
+    members: u32,
+    installed: u64,
+    list: &[Given],
+    wanted: &str,
+) -> Result<(), Fail> {
+    let mut text = String::new(alloc);
+    begin_and_take_all(alloc, &mut text, members, installed, list)?;
+    assert!(rt; text.as_str() == wanted);
     Ok(())
 }
 
-fn expect_superseded(rt: &impl Abort, alloc: Global) -> Result<(), Fail> {
-    let mut a = begin(rt, alloc, 0b011, 0, "collect 2; ")?;
-    expect(rt, alloc, &mut a, Given::Nack(2, 129), "")?;
-    expect(rt, alloc, &mut a, Given::Nack(2, 65), "superseded 130; ")
+const THREE: &[Given] = &[
+    Comes(2, Promise(65)),
+    Comes(3, Promise(129)),
+    Comes(3, Promise(65)),
+    WithVotes(0b111),
+    Comes(2, Seized(1)),
+    OwnHeld(1),
+    OwnHeld(2),
+    OwnReady,
+    Comes(3, Ready),
+    Comes(2, Ready),
+];
+
+const OF_THREE: &str = "collect 2;collect 3;
+
+
+votes of 1;
+seize 1;
+
+seize 2;
+install;install 2;install 3;
+
+
+start;start 2;start 3;
+over";
+
+#[test]
+fn three_nodes_start(rt: HostRuntime) -> Result<(), Fail> {
+    expect(&rt, rt.alloc(), 0b111, 0, THREE, OF_THREE)
 }
 
-/// Node 2 has resource flags of an older membership; these nodes are configured.
-fn expect_flagged(
-    rt: &impl Abort,
-    alloc: Global,
-    configured: u32,
-    wanted: &str,
-) -> Result<(), Fail> {
-    let mut a = begin(rt, alloc, 0b011, 2, "collect 2; ")?;
-    expect(rt, alloc, &mut a, Given::Flagged(2), "votes of 1; ")?;
-    expect(rt, alloc, &mut a, Given::Votes(configured), wanted)
-}
+const REFUSED: &[Given] = &[Comes(2, Nack(129)), Comes(2, Nack(65))];
 
-fn expect_too_few(rt: &impl Abort, alloc: Global) -> Result<(), Fail> {
-    let mut a = begin(rt, alloc, 0b001, 0, "votes of 1; ")?;
-    expect(rt, alloc, &mut a, Given::Votes(0b011), "seize 1; ")?;
-    expect(
-        rt,
-        alloc,
-        &mut a,
-        Given::OwnUnregistered(1),
-        "too few 1 2; ",
-    )
-}
+const OF_REFUSED: &str = "collect 2;
+
+superseded 130;
+over";
+
+// Node 2 has resource flags of an older membership; all nodes are configured, or node 1 alone.
+const EXCLUDED: &[Given] = &[Comes(2, Flagged), WithVotes(0b111)];
+
+const OF_EXCLUDED: &str = "collect 2;
+votes of 1;
+excluded 2;
+over";
+
+const FOREIGN: &[Given] = &[Comes(2, Flagged), WithVotes(0b001)];
+
+const OF_FOREIGN: &str = "collect 2;
+votes of 1;
+foreign 2;
+over";
+
+const TOO_FEW: &[Given] = &[WithVotes(0b011), OwnUnregistered(1)];
+
+const OF_TOO_FEW: &str = "votes of 1;
+seize 1;
+too few 1 2;
+over";
 
 #[test]
 fn ends(rt: HostRuntime) -> Result<(), Fail> {
-    let alloc = rt.alloc();
-    expect_superseded(&rt, alloc)?;
-    expect_flagged(&rt, alloc, 0b111, "excluded 2; ")?;
-    expect_flagged(&rt, alloc, 0b001, "foreign 2; ")?;
-    expect_too_few(&rt, alloc)
+    expect(&rt, rt.alloc(), 0b011, 0, REFUSED, OF_REFUSED)?;
+    expect(&rt, rt.alloc(), 0b011, 2, EXCLUDED, OF_EXCLUDED)?;
+    expect(&rt, rt.alloc(), 0b011, 2, FOREIGN, OF_FOREIGN)?;
+    expect(&rt, rt.alloc(), 0b001, 0, TOO_FEW, OF_TOO_FEW)
 }
+
+const SILENCE: &[Given] = &[
+    Comes(2, Promise(65)),
+    Tick,
+    Tick,
+    Tick,
+    Tick,
+    Tick,
+    Tick,
+    Tick,
+    Tick,
+    Tick,
+];
+
+const OF_SILENCE: &str = "collect 2;collect 3;
+
+
+
+
+collect 3;
+
+
+
+silent 3;
+
+over";
 
 #[test]
 fn silence_and_resends(rt: HostRuntime) -> Result<(), Fail> {
-    let alloc = rt.alloc();
-    let mut a = begin(&rt, alloc, 0b111, 0, "collect 2; collect 3; ")?;
-    expect(&rt, alloc, &mut a, Given::Promise(2, 65), "")?;
-    for _ in 0..3 {
-        expect(&rt, alloc, &mut a, Given::Tick, "")?;
-    }
-    expect(&rt, alloc, &mut a, Given::Tick, "collect 3; ")?;
-    for _ in 0..3 {
-        expect(&rt, alloc, &mut a, Given::Tick, "")?;
-    }
-    expect(&rt, alloc, &mut a, Given::Tick, "silent 3; ")?;
-    expect(&rt, alloc, &mut a, Given::Tick, "")
+    expect(&rt, rt.alloc(), 0b111, 0, SILENCE, OF_SILENCE)
 }

@@ -3,23 +3,21 @@ use load_limits::{Limit, Limits};
 use std::process::Abort;
 use std::test::Fail;
 
-fn expect(rt: &impl Abort, limits: &Limits, n: NodeId, name: &Name, wanted: Option<(u64, u64)>) {
-    assert_eq!(rt; limits.limit(n, name), wanted);
-}
-
-#[test]
-fn a_limit_comes_and_goes(rt: HostRuntime) -> Result<(), Fail> {
-    let node = NodeId::new(1).map_err(|_| Fail::new("node"))?;
-    let name = Name::new(b"mem").map_err(|_| Fail::new("name"))?;
-    let mut limits = Limits::new(rt.alloc());
-    expect(&rt, &limits, node, &name, None);
-    let limit = Limit {
+fn come(rt: &impl Abort, limits: &mut Limits, node: NodeId, name: Name) -> Result<(), Fail> {
+    assert!(rt; limits.limit(node, &name).is_none());
+    limits.create(Limit {
         node,
         name,
         soft: 5,
         hard: 10,
-    };
-    limits.create(limit)?;
-    expect(&rt, &limits, node, &name, Some((5, 10)));
+    })?;
+    assert!(rt; limits.limit(node, &name) == Some((5, 10)));
     Ok(())
+}
+
+#[test]
+fn a_limit_comes_and_goes(rt: HostRuntime) -> Result<(), Fail> {
+    let (node, name) = (NodeId::new(1)?, Name::new(b"mem")?);
+    let mut limits = Limits::new(rt.alloc());
+    come(&rt, &mut limits, node, name)
 }

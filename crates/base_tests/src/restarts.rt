@@ -1,6 +1,7 @@
 use cl_base::{FailoverMode, History, Seconds};
 use restart_policy::{ProbeAction, ProbeRule, moved, on_probe, start_failures};
 use std::alloc::Global;
+use std::process::Abort;
 use std::test::Fail;
 
 fn history(alloc: Global) -> Result<History, Fail> {
@@ -11,43 +12,59 @@ fn history(alloc: Global) -> Result<History, Fail> {
     })
 }
 
-#[test]
-fn restarts_then_moves(rt: HostRuntime) -> Result<(), Fail> {
-    let h = history(rt.alloc())?;
+/// What a failed probe leads to at the second, where two restarts may be within 300 seconds.
+fn expect(
+    rt: &impl Abort,
+    h: &History,
+    mode: FailoverMode,
+    suspended: bool,
+    now: u64,
+    wanted: ProbeAction,
+) {
     let rule = ProbeRule {
-        suspended: false,
-        mode: FailoverMode::Soft,
+        suspended,
+        mode,
         count: 2,
         interval: 300,
     };
-    assert_eq!(rt; on_probe(rule, &h, 999), ProbeAction::Move);
-    assert_eq!(rt; on_probe(rule, &h, 1000), ProbeAction::Restart);
-    let only = ProbeRule {
-        mode: FailoverMode::RestartOnly,
-        ..rule
-    };
-    assert_eq!(rt; on_probe(only, &h, 999), ProbeAction::Logged);
-    assert_eq!(rt; on_probe(only, &h, 1000), ProbeAction::Restart);
-    let log = ProbeRule {
-        mode: FailoverMode::LogOnly,
-        ..rule
-    };
-    assert_eq!(rt; on_probe(log, &h, 1000), ProbeAction::Logged);
-    let suspended = ProbeRule {
-        suspended: true,
-        ..rule
-    };
-    assert_eq!(rt; on_probe(suspended, &h, 1000), ProbeAction::Logged);
+    assert!(rt; on_probe(rule, h, now) == wanted);
+}
+
+fn probe(rt: &impl Abort, h: &History) {
+    let logged = ProbeAction::Logged;
+    expect(rt, h, FailoverMode::Soft, false, 999, ProbeAction::Move);
+    expect(rt, h, FailoverMode::Soft, false, 1000, ProbeAction::Restart);
+    expect(rt, h, FailoverMode::RestartOnly, false, 999, logged);
+    expect(
+        rt,
+        h,
+        FailoverMode::RestartOnly,
+        false,
+        1000,
+        ProbeAction::Restart,
+    );
+    expect(rt, h, FailoverMode::LogOnly, false, 1000, logged);
+    expect(rt, h, FailoverMode::Soft, true, 1000, logged);
+}
+
+#[test]
+fn restarts_then_moves(rt: HostRuntime) -> Result<(), Fail> {
+    let h = history(rt.alloc())?;
+    probe(&rt, &h);
     Ok(())
+}
+
+fn count(rt: &impl Abort, h: &History) {
+    assert!(rt; start_failures(h, 100, 299) == 2);
+    assert!(rt; start_failures(h, 100, 300) == 1);
+    assert!(rt; start_failures(h, 0, 50) == 0);
+    assert!(rt; moved(h, 50, 449));
+    assert!(rt; !moved(h, 50, 450));
 }
 
 #[test]
 fn counts_recent_seconds(rt: HostRuntime) -> Result<(), Fail> {
     let h = history(rt.alloc())?;
-    assert_eq!(rt; start_failures(&h, 100, 299), 2);
-    assert_eq!(rt; start_failures(&h, 100, 300), 1);
-    assert_eq!(rt; start_failures(&h, 0, 50), 0);
-    assert_eq!(rt; moved(&h, 50, 449), true);
-    assert_eq!(rt; moved(&h, 50, 450), false);
+    count(&rt, &h);
     Ok(())
 }

@@ -35,40 +35,68 @@ fn four_nodes(alloc: Global) -> Result<Votes, Fail> {
 }
 
 fn expect(rt: &impl Abort, votes: &Votes, total: u64, needed: u64) {
-    assert_eq!(rt; votes.total(), total);
-    assert_eq!(rt; votes.needed(), needed);
+    assert!(rt; votes.total() == total);
+    assert!(rt; votes.needed() == needed);
 }
 
-fn changed(votes: &Votes, c: VoteChange) -> Result<Votes, Fail>
-    requires { IsVote c }
+fn changed(votes: &Votes, change: VoteChange) -> Result<Votes, Fail>
+    requires { IsVote change }
 {
-    votes.change(c).map_err(|_| Fail::new("refused"))
+    match votes.change(change) {
+        Ok(votes) => Ok(votes),
+        Err(_) => Err(Fail::new("refused")),
+    }
+}
+
+/// The votes after the change.
+fn expect_changed(
+    rt: &impl Abort,
+    votes: &Votes,
+    change: VoteChange,
+    total: u64,
+    needed: u64,
+) -> Result<(), Fail>
+    requires { IsVote change }
+{
+    let votes = changed(votes, change)?;
+    expect(rt, &votes, total, needed);
+    Ok(())
+}
+
+fn is_unknown(votes: &Votes, change: VoteChange) -> bool
+    requires { IsVote change }
+{
+    match votes.change(change) {
+        Ok(_) => false,
+        Err(error) => error == VoteError::Unknown,
+    }
+}
+
+/// One more node has come, and may have a vote.
+fn count_added(rt: &impl Abort, added: &Votes, node: NodeId, new: NodeId) -> Result<(), Fail> {
+    expect(rt, added, 6, 4);
+    let vote = VoteChange::NodeVote { node: new, vote: 1 };
+    expect_changed(rt, added, vote, 7, 4)?;
+    expect_changed(rt, added, VoteChange::Remove(node), 3, 2)
+}
+
+fn count(rt: &impl Abort, first: &Votes) -> Result<(), Fail> {
+    let (node, new, dev) = (NodeId::new(4)?, NodeId::new(5)?, DevId::new(2)?);
+    expect(rt, first, 6, 4);
+    let (nodes, devices) = (NodeSet::from_bits(0b0011), DevSet::from_bits(0b010));
+    assert!(rt; first.held(nodes, devices) == 3);
+    let vote = VoteChange::NodeVote { node, vote: 0 };
+    expect_changed(rt, first, vote, 3, 2)?;
+    let state = DevState::Disabled;
+    expect_changed(rt, first, VoteChange::Device { dev, state }, 5, 3)?;
+    let vote = VoteChange::NodeVote { node: new, vote: 1 };
+    assert!(rt; is_unknown(first, vote));
+    let added = changed(first, VoteChange::Configure(new))?;
+    count_added(rt, &added, node, new)
 }
 
 #[test]
 fn counts_votes(rt: HostRuntime) -> Result<(), Fail> {
     let first = four_nodes(rt.alloc())?;
-    let (node, new, dev) = (NodeId::new(4)?, NodeId::new(5)?, DevId::new(2)?);
-    expect(&rt, &first, 6, 4);
-    assert_eq!(rt;
-        first.held(NodeSet::from_bits(0b0011), DevSet::from_bits(0b010)),
-        3
-    );
-    let vote = VoteChange::NodeVote { node, vote: 0 };
-    expect(&rt, &changed(&first, vote)?, 3, 2);
-    let state = DevState::Disabled;
-    expect(
-        &rt,
-        &changed(&first, VoteChange::Device { dev, state })?,
-        5,
-        3,
-    );
-
-    let sixth = VoteChange::NodeVote { node: new, vote: 1 };
-    assert_eq!(rt; first.change(sixth), Err(VoteError::Unknown));
-    let added = changed(&first, VoteChange::Configure(new))?;
-    expect(&rt, &added, 6, 4);
-    expect(&rt, &changed(&added, sixth)?, 7, 4);
-    expect(&rt, &changed(&added, VoteChange::Remove(node))?, 3, 2);
-    Ok(())
+    count(&rt, &first)
 }

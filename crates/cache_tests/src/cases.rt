@@ -1,77 +1,68 @@
 // One cache is asked again and again.
-ghost use Rattle.std.specs.Prelude.{◌≤◌, length};
-ghost use Rattle.cl_base.specs.Limits.{most_devices};
-
-use crate::fixture::{expect, expect_next, header, prepare};
-use ccr_commit::Entries;
-use cl_base::Header;
+use crate::fixture::Step::{CommitPending, Count, MayFollow, Prepare};
+use crate::fixture::Text::{Gone, One, Other};
+use crate::fixture::{Step, expect};
 use config_cache::ConfigCache;
 use std::alloc::Global;
 use std::process::Abort;
 use std::test::Fail;
 
-const ONE: &[u8] = b"clrg create a 1,2";
-
-const OTHER: &[u8] = b"clrg create b 1,2";
-
-const GONE: &[u8] = b"clrg delete a";
-
 /// Two nodes and a device have three votes. An update counts once it is pending, and in force once
 /// it is committed.
-fn one_by_one(rt: &impl Abort, a: Global, cache: &mut ConfigCache, h: &Header) -> Result<(), Fail>
-    requires devices { length h.now.devices ≤ most_devices }
-{
-    let mut entries = Entries::new(a);
-    expect(rt, a, cache, h, &entries, ((0, 3), (0, 3)))?;
-    expect(rt, a, cache, h, &entries, ((0, 3), (0, 3)))?;
-    prepare(rt, &mut entries, 1, ONE)?;
-    expect(rt, a, cache, h, &entries, ((0, 3), (1, 3)))?;
-    expect_next(rt, a, cache, h, &entries, ONE, false)?;
-    expect_next(rt, a, cache, h, &entries, OTHER, true)?;
-    prepare(rt, &mut entries, 2, OTHER)?;
-    expect(rt, a, cache, h, &entries, ((1, 3), (2, 3)))?;
-    entries.commit_pending();
-    expect(rt, a, cache, h, &entries, ((2, 3), (2, 3)))?;
-    prepare(rt, &mut entries, 3, GONE)?;
-    expect(rt, a, cache, h, &entries, ((2, 3), (1, 3)))?;
-    expect_next(rt, a, cache, h, &entries, ONE, true)
-}
+const ONE_BY_ONE: &[Step] = &[
+    Count((0, 3), (0, 3)),
+    Count((0, 3), (0, 3)),
+    Prepare(1, One),
+    Count((0, 3), (1, 3)),
+    MayFollow(One, false),
+    MayFollow(Other, true),
+    Prepare(2, Other),
+    Count((1, 3), (2, 3)),
+    CommitPending,
+    Count((2, 3), (2, 3)),
+    Prepare(3, Gone),
+    Count((2, 3), (1, 3)),
+    MayFollow(One, true),
+];
 
 /// Another list, a shorter one, and one that is bad: no update of it is in force, and none may
 /// follow.
-fn others(rt: &impl Abort, a: Global, cache: &mut ConfigCache, h: &Header) -> Result<(), Fail>
-    requires devices { length h.now.devices ≤ most_devices }
-{
-    let mut entries = Entries::new(a);
-    prepare(rt, &mut entries, 1, OTHER)?;
-    expect(rt, a, cache, h, &entries, ((0, 3), (1, 3)))?;
-    entries.commit_pending();
-    prepare(rt, &mut entries, 2, OTHER)?;
-    expect(rt, a, cache, h, &entries, ((1, 3), (0, 3)))?;
-    expect_next(rt, a, cache, h, &entries, ONE, false)?;
-    prepare(rt, &mut entries, 3, ONE)?;
-    expect(rt, a, cache, h, &entries, ((0, 3), (0, 3)))
+const OTHERS: &[Step] = &[
+    Prepare(1, Other),
+    Count((0, 3), (1, 3)),
+    CommitPending,
+    Prepare(2, Other),
+    Count((1, 3), (0, 3)),
+    MayFollow(One, false),
+    Prepare(3, One),
+    Count((0, 3), (0, 3)),
+];
+
+fn lists(rt: &impl Abort, alloc: Global, cache: &mut ConfigCache) -> Result<(), Fail> {
+    expect(rt, alloc, cache, 2, ONE_BY_ONE)?;
+    expect(rt, alloc, cache, 2, OTHERS)?;
+    expect(rt, alloc, cache, 2, ONE_BY_ONE)
 }
 
 #[test]
 fn lists_of_one_cluster(rt: HostRuntime) -> Result<(), Fail> {
-    let a = rt.alloc();
-    let h = header(a, 2)?;
     let mut cache = ConfigCache::new();
-    one_by_one(&rt, a, &mut cache, &h)?;
-    others(&rt, a, &mut cache, &h)?;
-    one_by_one(&rt, a, &mut cache, &h)
+    lists(&rt, rt.alloc(), &mut cache)
 }
 
+const OF_TWO: &[Step] = &[Count((0, 3), (0, 3))];
+
 /// Three nodes and a device of three have five votes.
+const OF_THREE: &[Step] = &[Count((0, 5), (0, 5))];
+
+fn headers(rt: &impl Abort, alloc: Global, cache: &mut ConfigCache) -> Result<(), Fail> {
+    expect(rt, alloc, cache, 2, OF_TWO)?;
+    expect(rt, alloc, cache, 3, OF_THREE)?;
+    expect(rt, alloc, cache, 2, OF_TWO)
+}
+
 #[test]
 fn another_header(rt: HostRuntime) -> Result<(), Fail> {
-    let a = rt.alloc();
-    let two = header(a, 2)?;
-    let three = header(a, 3)?;
     let mut cache = ConfigCache::new();
-    let entries = Entries::new(a);
-    expect(&rt, a, &mut cache, &two, &entries, ((0, 3), (0, 3)))?;
-    expect(&rt, a, &mut cache, &three, &entries, ((0, 5), (0, 5)))?;
-    expect(&rt, a, &mut cache, &two, &entries, ((0, 3), (0, 3)))
+    headers(&rt, rt.alloc(), &mut cache)
 }

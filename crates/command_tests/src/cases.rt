@@ -66,6 +66,21 @@ pub fn told(
     answer(alloc, found)
 }
 
+fn expect_told(
+    rt: &impl Abort,
+    alloc: Global,
+    config: &Config,
+    view: &GroupView,
+    at: Membership,
+    words: &[u8],
+    wanted: &[u8],
+) -> Result<(), Fail> {
+    let command = parse(alloc, config.version(), words)?;
+    let found = told(alloc, config, view, at, command)?;
+    assert_eq!(rt; found.as_slice(), wanted);
+    Ok(())
+}
+
 /// A row: the words of a command, a bar, its answer.
 fn answered(
     rt: &impl Abort,
@@ -73,16 +88,16 @@ fn answered(
     config: &Config,
     view: &GroupView,
     at: Membership,
-    row: &[u8],
+    parts: &[&[u8]],
 ) -> Result<(), Fail> {
-    let parts: Vec<&[u8]> = row.split(|b| *b == b'|').collect(alloc)?;
-    let [words, wanted] = parts.as_slice() else {
-        return Err(Fail::new("a row has two parts"));
-    };
-    let command = parse(alloc, config.version(), words)?;
-    let found = told(alloc, config, view, at, command)?;
-    assert_eq!(rt; found.as_slice(), *wanted);
-    Ok(())
+    match parts {
+        [words, wanted] => expect_told(rt, alloc, config, view, at, words, wanted),
+        _ => Err(Fail::new("a row has two parts")),
+    }
+}
+
+fn parts(alloc: Global, row: &[u8]) -> Result<Vec<&[u8]>, Fail> {
+    Ok(row.split(|b| *b == b'|').collect(alloc)?)
 }
 
 /// The rows hold, where this is known of groups.
@@ -95,23 +110,9 @@ fn all_answered(
     rows: &[u8],
 ) -> Result<(), Fail> {
     for row in rows.split(|b| *b == b'\n') {
-        answered(rt, alloc, config, view, at, row)?;
+        answered(rt, alloc, config, view, at, &parts(alloc, row)?)?;
     }
     Ok(())
-}
-
-/// The rows hold, where these states are known of resources.
-pub fn answers_with(
-    rt: &impl Abort,
-    alloc: Global,
-    config: &Config,
-    states: &[ResourceAt],
-    at: Membership,
-    rows: &[u8],
-) -> Result<(), Fail> {
-    let mut view = GroupView::new(alloc, NodeSet::from_bits(at.members));
-    put(&mut view, states)?;
-    all_answered(rt, alloc, config, &view, at, rows)
 }
 
 fn put(view: &mut GroupView, states: &[ResourceAt]) -> Result<(), Fail> {
@@ -121,17 +122,77 @@ fn put(view: &mut GroupView, states: &[ResourceAt]) -> Result<(), Fail> {
     Ok(())
 }
 
-/// The rows hold behind more changes, where nothing is known of groups.
-pub fn answers(
+fn put_and_answer(
+    rt: &impl Abort,
+    alloc: Global,
+    config: &Config,
+    view: &mut GroupView,
+    states: &[ResourceAt],
+    at: Membership,
+    rows: &[u8],
+) -> Result<(), Fail> {
+    put(view, states)?;
+    all_answered(rt, alloc, config, view, at, rows)
+}
+
+/// The rows hold, where these states are known of resources.
+fn answers(
+    rt: &impl Abort,
+    alloc: Global,
+    config: &Config,
+    states: &[ResourceAt],
+    at: Membership,
+    rows: &[u8],
+) -> Result<(), Fail> {
+    let mut view = GroupView::new(alloc, NodeSet::from_bits(at.members));
+    put_and_answer(rt, alloc, config, &mut view, states, at, rows)
+}
+
+/// What there is before more changes: under the second version something of each kind.
+fn base(version: Version) -> &'static [u8] {
+    match version {
+        Version::One => b"",
+        Version::Two => BASE,
+    }
+}
+
+fn change_and_answer(
     rt: &impl Abort,
     alloc: Global,
     config: &mut Config,
     more: &[u8],
+    states: &[ResourceAt],
     at: Membership,
     rows: &[u8],
 ) -> Result<(), Fail> {
+    change(rt, alloc, config, base(config.version()))?;
     change(rt, alloc, config, more)?;
-    answers_with(rt, alloc, config, &[], at, rows)
+    answers(rt, alloc, config, states, at, rows)
+}
+
+/// This alone owns a configuration in which rows are answered.
+fn in_version(
+    rt: &impl Abort,
+    alloc: Global,
+    version: Version,
+    more: &[u8],
+    states: &[ResourceAt],
+    at: Membership,
+    rows: &[u8],
+) -> Result<(), Fail> {
+    let mut config = first(alloc, version)?;
+    change_and_answer(rt, alloc, &mut config, more, states, at, rows)
+}
+
+/// The rows hold in the configuration of the first version with these changes.
+pub fn expect_of_one(
+    rt: &impl Abort,
+    alloc: Global,
+    changes: &[u8],
+    at: Membership,
+    rows: &[u8],
+) -> Result<(), Fail> {
+    in_version(rt, alloc, Version::One, changes, &[], at, rows)
 }
 
 /// The rows hold in the configuration with something of each kind, behind more changes.
@@ -154,20 +215,5 @@ pub fn expect_with(
     at: Membership,
     rows: &[u8],
 ) -> Result<(), Fail> {
-    let mut config = first(alloc, Version::Two)?;
-    changed(rt, alloc, &mut config, more, states, at, rows)
-}
-
-fn changed(
-    rt: &impl Abort,
-    alloc: Global,
-    config: &mut Config,
-    more: &[u8],
-    states: &[ResourceAt],
-    at: Membership,
-    rows: &[u8],
-) -> Result<(), Fail> {
-    change(rt, alloc, config, BASE)?;
-    change(rt, alloc, config, more)?;
-    answers_with(rt, alloc, config, states, at, rows)
+    in_version(rt, alloc, Version::Two, more, states, at, rows)
 }

@@ -1,10 +1,10 @@
 // 18 and 19: what may not be together.
 use crate::cases::{BOTH, expect};
-use crate::fixture::{BASE, change, first};
+use crate::fixture::{BASE, change};
+use crate::tasks::{Task, run};
 use admin_commands::cycle;
 use admin_words::parse;
-use ccr_tables::{AdminCommand, Config};
-use cl_base::Version;
+use ccr_tables::{AdminCommand, Config, Update};
 use std::alloc::Global;
 use std::process::Abort;
 use std::test::Fail;
@@ -35,30 +35,29 @@ fn cycles_are_refused(rt: HostRuntime) -> Result<(), Fail> {
     expect(&rt, rt.alloc(), ACROSS, BOTH, CYCLES_ACROSS)
 }
 
+fn has_cycle(alloc: Global, config: &Config, u: &Update) -> Result<bool, Fail> {
+    Ok(cycle(alloc, config, u)?.is_some())
+}
+
 /// Whether the update makes a cycle.
 fn makes_cycle(alloc: Global, config: &Config, text: &[u8]) -> Result<bool, Fail> {
     match parse(alloc, config.version(), text)? {
-        AdminCommand::Change(u) => Ok(cycle(alloc, config, &u)?.is_some()),
+        AdminCommand::Change(u) => has_cycle(alloc, config, &u),
         _ => Err(Fail::new("no update")),
     }
 }
 
-fn some_cycles(rt: &impl Abort, a: Global, config: &mut Config) -> Result<(), Fail> {
+pub fn make_cycles(rt: &impl Abort, a: Global, config: &mut Config) -> Result<(), Fail> {
     change(rt, a, config, BASE)?;
-    let found = makes_cycle(a, config, b"clrg set idle RG_dependencies web")?;
-    assert_eq!(rt; found, true);
-    let found = makes_cycle(a, config, b"clrg set idle RG_dependencies db")?;
-    assert_eq!(rt; found, false);
-    let found = makes_cycle(a, config, b"clrg manage idle")?;
-    assert_eq!(rt; found, false);
+    assert!(rt; makes_cycle(a, config, b"clrg set idle RG_dependencies web")?);
+    assert!(rt; !makes_cycle(a, config, b"clrg set idle RG_dependencies db")?);
+    assert!(rt; !makes_cycle(a, config, b"clrg manage idle")?);
     Ok(())
 }
 
 #[test]
 fn updates_that_make_cycles(rt: HostRuntime) -> Result<(), Fail> {
-    let a = rt.alloc();
-    let mut config = first(a, Version::Two)?;
-    some_cycles(&rt, a, &mut config)
+    run(&rt, rt.alloc(), Task::MakeCycles)
 }
 
 const ONE_THERE: &[u8] = b"clrs create new db lone|refused single

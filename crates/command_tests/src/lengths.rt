@@ -1,7 +1,5 @@
 // 24: what the record has no room for. It may have 65,536 bytes.
-use crate::cases::{Membership, answers, expect};
-use crate::fixture::first;
-use cl_base::Version;
+use crate::cases::{Membership, expect, expect_of_one};
 use std::test::Fail;
 
 /// The record has this length.
@@ -75,7 +73,6 @@ const FIRST_FULL: &[u8] = b"clrg create g 1|refused record-full 65537";
 #[test]
 fn full_at_the_first_update(rt: HostRuntime) -> Result<(), Fail> {
     let a = rt.alloc();
-    let mut config = first(a, Version::One)?;
-    answers(&rt, a, &mut config, b"", long(65_447), FIRST)?;
-    answers(&rt, a, &mut config, b"", long(65_448), FIRST_FULL)
+    expect_of_one(&rt, a, b"", long(65_447), FIRST)?;
+    expect_of_one(&rt, a, b"", long(65_448), FIRST_FULL)
 }

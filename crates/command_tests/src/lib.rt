@@ -22,6 +22,8 @@ mod requests;
 #[cfg(test)]
 mod states;
 #[cfg(test)]
+mod tasks;
+#[cfg(test)]
 mod things;
 #[cfg(test)]
 mod votes;

@@ -1,7 +1,5 @@
 // 15 and 16: properties and their values.
-use crate::cases::{BOTH, answers, expect};
-use crate::fixture::first;
-use cl_base::Version;
+use crate::cases::{BOTH, expect, expect_of_one};
 use std::test::Fail;
 
 const PROPERTIES: &[u8] = b"clrg set web Colour red|refused bad-property
@@ -58,7 +56,5 @@ clrg set g Maximum_primaries 16|ok";
 
 #[test]
 fn under_the_first_version(rt: HostRuntime) -> Result<(), Fail> {
-    let a = rt.alloc();
-    let mut config = first(a, Version::One)?;
-    answers(&rt, a, &mut config, b"clrg create g 1,2", BOTH, UNDER_ONE)
+    expect_of_one(&rt, rt.alloc(), b"clrg create g 1,2", BOTH, UNDER_ONE)
 }

@@ -1,7 +1,5 @@
 // Queries, and tables that are not there.
-use crate::cases::{BOTH, answers, expect};
-use crate::fixture::first;
-use cl_base::Version;
+use crate::cases::{BOTH, expect, expect_of_one};
 use std::test::Fail;
 
 const QUERIES: &[u8] = b"clrg status|query
@@ -22,6 +20,5 @@ ccr addresses|refused unknown addresses";
 fn queries_are_accepted(rt: HostRuntime) -> Result<(), Fail> {
     let a = rt.alloc();
     expect(&rt, a, b"", BOTH, QUERIES)?;
-    let mut config = first(a, Version::One)?;
-    answers(&rt, a, &mut config, b"", BOTH, QUERIES_OF_ONE)
+    expect_of_one(&rt, a, b"", BOTH, QUERIES_OF_ONE)
 }

@@ -1,12 +1,22 @@
 // What a node asks of the president for a resource, which is no administrator's command.
 use crate::cases::{BOTH, told};
-use crate::fixture::{BASE, change, first};
+use crate::fixture::{BASE, change};
+use crate::tasks::{Task, run};
 use ccr_tables::{AdminCommand, Config};
-use cl_base::{Ask, Name, NodeSet, Version};
+use cl_base::{Ask, Name, NodeSet};
 use rg_view::GroupView;
 use std::alloc::Global;
 use std::process::Abort;
 use std::test::Fail;
+
+fn told_of(alloc: Global, config: &Config, view: &GroupView, ask: Ask) -> Result<Vec<u8>, Fail> {
+    told(alloc, config, view, BOTH, AdminCommand::Act(ask))
+}
+
+fn answer(alloc: Global, config: &Config, ask: Ask) -> Result<Vec<u8>, Fail> {
+    let view = GroupView::new(alloc, NodeSet::first(2));
+    told_of(alloc, config, &view, ask)
+}
 
 fn asked(
     rt: &impl Abort,
@@ -15,13 +25,12 @@ fn asked(
     ask: Ask,
     wanted: &[u8],
 ) -> Result<(), Fail> {
-    let view = GroupView::new(alloc, NodeSet::first(2));
-    let found = told(alloc, config, &view, BOTH, AdminCommand::Act(ask))?;
-    assert_eq!(rt; found.as_slice(), wanted);
+    let found = answer(alloc, config, ask)?;
+    assert!(rt; found.as_slice() == wanted);
     Ok(())
 }
 
-fn requests(rt: &impl Abort, a: Global, config: &mut Config) -> Result<(), Fail> {
+pub fn ask(rt: &impl Abort, a: Global, config: &mut Config) -> Result<(), Fail> {
     change(rt, a, config, BASE)?;
     let (site, nil) = (Name::new(b"site")?, Name::new(b"nil")?);
     asked(rt, a, config, Ask::Restart(site), b"ok")?;
@@ -32,7 +41,5 @@ fn requests(rt: &impl Abort, a: Global, config: &mut Config) -> Result<(), Fail>
 
 #[test]
 fn requests_for_resources(rt: HostRuntime) -> Result<(), Fail> {
-    let a = rt.alloc();
-    let mut config = first(a, Version::Two)?;
-    requests(&rt, a, &mut config)
+    run(&rt, rt.alloc(), Task::Ask)
 }

@@ -13,81 +13,106 @@ fn script(alloc: Global, of_name: &[u8], outcomes: &[Outcome]) -> Result<StockAg
     Ok(StockAgent::Script(Script::new(name(of_name)?, outcomes)))
 }
 
-/// The agent of this name ends calls of these methods so, one after another.
-fn expect(
-    rt: &impl Abort,
-    agents: &mut Vec<StockAgent>,
-    of_name: &[u8],
-    rows: &[(Method, Outcome)],
-) -> Result<(), Fail> {
-    let of_name = name(of_name)?;
-    for (method, wanted) in rows {
-        let call = Call {
-            node: NodeId::new(1)?,
-            resource: name(b"r")?,
-            method: *method,
-            second: 7,
-        };
-        assert_eq!(rt; call_named(agents, &of_name, &call), *wanted);
+/// A name of agents, or of none.
+#[derive(Clone, Copy)]
+enum Named {
+    Thirds,
+    A,
+    B,
+    Nobody,
+}
+
+/// Whose method is called, and how the call ends.
+type Row = (Named, Method, Outcome);
+
+fn agent_name(named: Named) -> Result<Name, Fail> {
+    match named {
+        Named::Thirds => name(b"thirds"),
+        Named::A => name(b"a"),
+        Named::B => name(b"b"),
+        Named::Nobody => name(b"nobody"),
+    }
+}
+
+fn call(method: Method) -> Result<Call, Fail> {
+    Ok(Call {
+        node: NodeId::new(1)?,
+        resource: name(b"r")?,
+        method,
+        second: 7,
+    })
+}
+
+/// The calls end so, one after another.
+fn call_all(rt: &impl Abort, agents: &mut Vec<StockAgent>, rows: &[Row]) -> Result<(), Fail> {
+    for (named, method, wanted) in rows {
+        let (named, call) = (agent_name(*named)?, call(*method)?);
+        assert!(rt; call_named(agents, &named, &call) == *wanted);
     }
     Ok(())
 }
 
 /// Two agents have the name a.
-fn agents(alloc: Global) -> Result<Vec<StockAgent>, Fail> {
-    let mut agents = Vec::new(alloc);
+fn add_all(alloc: Global, agents: &mut Vec<StockAgent>) -> Result<(), Fail> {
     agents.push(StockAgent::EveryThird(EveryThird::new(name(b"thirds")?)))?;
     let outcomes = [Outcome::Failure, Outcome::Timeout];
     agents.push(script(alloc, b"a", &outcomes)?)?;
     agents.push(StockAgent::Obedient(Obedient::new(name(b"a")?)))?;
-    agents.push(StockAgent::Obedient(Obedient::new(name(b"b")?)))?;
-    Ok(agents)
+    Ok(agents.push(StockAgent::Obedient(Obedient::new(name(b"b")?)))?)
 }
+
+fn add_and_call(
+    rt: &impl Abort,
+    alloc: Global,
+    agents: &mut Vec<StockAgent>,
+    rows: &[Row],
+) -> Result<(), Fail> {
+    add_all(alloc, agents)?;
+    call_all(rt, agents, rows)
+}
+
+/// This alone owns agents.
+fn expect(rt: &impl Abort, alloc: Global, rows: &[Row]) -> Result<(), Fail> {
+    let mut agents = Vec::new(alloc);
+    add_and_call(rt, alloc, &mut agents, rows)
+}
+
+const FIRST_OF_A_NAME: &[Row] = &[
+    (Named::B, Method::Stop, Outcome::Success),
+    (Named::B, Method::Stop, Outcome::Success),
+    (Named::A, Method::Start, Outcome::Failure),
+    (Named::A, Method::Stop, Outcome::Timeout),
+    (Named::A, Method::Stop, Outcome::Success),
+];
 
 #[test]
 fn the_first_of_a_name_is_called(rt: HostRuntime) -> Result<(), Fail> {
-    let alloc = rt.alloc();
-    let mut agents = agents(alloc)?;
-    let stop = (Method::Stop, Outcome::Success);
-    expect(&rt, &mut agents, b"b", &[stop, stop])?;
-    let rows = [
-        (Method::Start, Outcome::Failure),
-        (Method::Stop, Outcome::Timeout),
-        (Method::Stop, Outcome::Success),
-    ];
-    expect(&rt, &mut agents, b"a", &rows)
+    expect(&rt, rt.alloc(), FIRST_OF_A_NAME)
 }
+
+const THIRDS: &[Row] = &[
+    (Named::Thirds, Method::Start, Outcome::Success),
+    (Named::Thirds, Method::PrenetStart, Outcome::Success),
+    (Named::Thirds, Method::Start, Outcome::Success),
+    (Named::Thirds, Method::Stop, Outcome::Success),
+    (Named::Thirds, Method::Start, Outcome::Failure),
+    (Named::Thirds, Method::Start, Outcome::Success),
+];
 
 #[test]
 fn each_third_start_fails(rt: HostRuntime) -> Result<(), Fail> {
-    let alloc = rt.alloc();
-    let mut agents = agents(alloc)?;
-    let rows = [
-        (Method::Start, Outcome::Success),
-        (Method::PrenetStart, Outcome::Success),
-        (Method::Start, Outcome::Success),
-        (Method::Stop, Outcome::Success),
-        (Method::Start, Outcome::Failure),
-        (Method::Start, Outcome::Success),
-    ];
-    expect(&rt, &mut agents, b"thirds", &rows)
+    expect(&rt, rt.alloc(), THIRDS)
 }
+
+const NOBODY_AND_A: &[Row] = &[
+    (Named::Nobody, Method::Stop, Outcome::Failure),
+    (Named::A, Method::Stop, Outcome::Failure),
+];
+
+const WITHOUT_AGENTS: &[Row] = &[(Named::A, Method::Stop, Outcome::Failure)];
 
 #[test]
 fn without_an_agent_a_call_fails(rt: HostRuntime) -> Result<(), Fail> {
-    let alloc = rt.alloc();
-    let mut agents = agents(alloc)?;
-    expect(
-        &rt,
-        &mut agents,
-        b"nobody",
-        &[(Method::Stop, Outcome::Failure)],
-    )?;
-    expect(&rt, &mut agents, b"a", &[(Method::Stop, Outcome::Failure)])?;
-    expect(
-        &rt,
-        &mut Vec::new(alloc),
-        b"a",
-        &[(Method::Stop, Outcome::Failure)],
-    )
+    expect(&rt, rt.alloc(), NOBODY_AND_A)?;
+    call_all(&rt, &mut Vec::new(rt.alloc()), WITHOUT_AGENTS)
 }

@@ -1,3 +1,5 @@
+ghost use Rattle.wire.specs.Spelling.{IsShort};
+
 use cl_base::{Epoch, NodeId};
 use std::alloc::Global;
 use std::process::Abort;
@@ -55,12 +57,17 @@ a count with its low byte first: 3 2 0 0 0 0 0 0 0 129 0 0 0 0 0 0 0 65 0 0 0 3 
 ";
 
 /// The bytes of a line.
+fn push_all(bytes: &mut Vec<u8>, numbers: &str) -> Result<(), Fail> {
+    for number in numbers.split(' ') {
+        bytes.push(number.parse::<u8>()?)?;
+    }
+    Ok(())
+}
+
 fn bytes_of(alloc: Global, line: &str) -> Result<Vec<u8>, Fail> {
     let (_, numbers) = line.split_once(": ").ok_or("a name")?;
     let mut bytes = Vec::new(alloc);
-    for number in numbers.split(' ') {
-        bytes.push(number.parse::<u8>().ok().ok_or("a byte")?)?;
-    }
+    push_all(&mut bytes, numbers)?;
     Ok(bytes)
 }
 
@@ -74,38 +81,69 @@ fn copied(alloc: Global, m: &Message) -> Result<(), Fail> {
     Ok(())
 }
 
-#[test]
-fn worked(rt: HostRuntime) -> Result<(), Fail> {
-    let heartbeat = Message {
-        sender: NodeId::new(1).ok().ok_or("a node")?,
+fn is_spelled(alloc: Global, m: &Message, bytes: &[u8]) -> Result<bool, Fail>
+    requires { IsShort m.now.body }
+{
+    let again = encode(alloc, m)?;
+    Ok(again.as_slice() == bytes)
+}
+
+fn heartbeat(sender: NodeId) -> Message
+    ensures { IsShort result.body }
+{
+    Message {
+        sender,
         body: Body::Heartbeat {
             promised: Epoch::from_number(65),
             session: Epoch::from_number(65),
             member: true,
         },
-    };
-    let bytes = encode(rt.alloc(), &heartbeat)?;
-    assert_eq!(rt;
-        bytes.as_slice(),
-        [1, 1, 0, 0, 0, 0, 0, 0, 0, 65, 0, 0, 0, 0, 0, 0, 0, 65, 1].as_slice()
-    );
+    }
+}
+
+const HEARTBEAT: &[u8] = &[1, 1, 0, 0, 0, 0, 0, 0, 0, 65, 0, 0, 0, 0, 0, 0, 0, 65, 1];
+
+#[test]
+fn worked(rt: HostRuntime) -> Result<(), Fail> {
+    let heartbeat = heartbeat(NodeId::new(1)?);
+    assert!(rt; is_spelled(rt.alloc(), &heartbeat, HEARTBEAT)?);
     Ok(())
+}
+
+/// These are the bytes of the message.
+fn same(rt: &impl Abort, alloc: Global, m: &Message, bytes: &[u8]) -> Result<(), Fail> {
+    assert!(rt; bytes.first() == Some(&m.body.kind().byte()));
+    assert!(rt; m.body.is_short());
+    assert!(rt; is_spelled(alloc, m, bytes)?);
+    copied(alloc, m)
+}
+
+fn decoded(alloc: Global, bytes: &[u8]) -> Result<Message, Fail> {
+    match decode(alloc, bytes)? {
+        Some(message) => Ok(message),
+        None => Err(Fail::new("no message")),
+    }
+}
+
+fn read(rt: &impl Abort, alloc: Global, bytes: &[u8]) -> Result<(), Fail> {
+    let found = decoded(alloc, bytes)?;
+    same(rt, alloc, &found, bytes)
 }
 
 /// The line is the spelling of a message.
 fn spelled(rt: &impl Abort, alloc: Global, line: &str) -> Result<(), Fail> {
     let bytes = bytes_of(alloc, line)?;
-    let found = decode(alloc, bytes.as_slice())?.ok_or("no message")?;
-    assert!(rt; bytes.first() == Some(&found.body.kind().byte()));
-    assert!(rt; found.body.is_short());
-    assert!(rt; encode(alloc, &found)? == bytes);
-    copied(alloc, &found)
+    read(rt, alloc, &bytes)
+}
+
+fn is_none(alloc: Global, bytes: &[u8]) -> Result<bool, Fail> {
+    Ok(decode(alloc, bytes)?.is_none())
 }
 
 /// The line is the spelling of no message.
 fn unspelled(rt: &impl Abort, alloc: Global, line: &str) -> Result<(), Fail> {
     let bytes = bytes_of(alloc, line)?;
-    assert!(rt; decode(alloc, bytes.as_slice())?.is_none());
+    assert!(rt; is_none(alloc, &bytes)?);
     Ok(())
 }
 

@@ -16,17 +16,43 @@ boot 4
 rounds 12 1 2 3 4
 ";
 
-// The next lines, so many of them, each with a newline; a dash where there is none.
-fn given(generator: &mut Gen, alloc: Global, calls: u64) -> Result<Vec<u8>, Fail> {
-    let mut text = Vec::new(alloc);
-    for _ in 0..calls {
-        match generator.next_line(alloc)? {
-            Some(line) => text.extend_from_slice(&line)?,
-            None => text.push(b'-')?,
-        }
-        text.push(b'\n')?;
+// A line with a newline; a dash where there is none.
+fn tell(text: &mut Vec<u8>, line: Option<&[u8]>) -> Result<(), Fail> {
+    text.extend_from_slice(line.unwrap_or(b"-"))?;
+    Ok(text.push(b'\n')?)
+}
+
+fn tell_next(alloc: Global, text: &mut Vec<u8>, generator: &mut Gen) -> Result<(), Fail> {
+    match generator.next_line(alloc)? {
+        Some(line) => tell(text, Some(&line)),
+        None => tell(text, None),
     }
-    Ok(text)
+}
+
+fn tell_all(
+    alloc: Global,
+    text: &mut Vec<u8>,
+    generator: &mut Gen,
+    calls: u64,
+) -> Result<(), Fail> {
+    for _ in 0..calls {
+        tell_next(alloc, text, generator)?;
+    }
+    Ok(())
+}
+
+// The next lines, so many of them.
+fn gives(
+    rt: &impl Abort,
+    alloc: Global,
+    generator: &mut Gen,
+    calls: u64,
+    wanted: &str,
+) -> Result<(), Fail> {
+    let mut text = Vec::new(alloc);
+    tell_all(alloc, &mut text, generator, calls)?;
+    assert!(rt; text.as_slice() == wanted.as_bytes());
+    Ok(())
 }
 
 fn expect_lines(
@@ -37,11 +63,8 @@ fn expect_lines(
     events: &str,
 ) -> Result<(), Fail> {
     let mut generator = Gen::new(seed, count);
-    let opening = given(&mut generator, alloc, 10)?;
-    assert_eq!(rt; opening.as_slice(), OPENING.as_bytes());
-    let rest = given(&mut generator, alloc, 12)?;
-    assert_eq!(rt; rest.as_slice(), events.as_bytes());
-    Ok(())
+    gives(rt, alloc, &mut generator, 10, OPENING)?;
+    gives(rt, alloc, &mut generator, 12, events)
 }
 
 #[test]

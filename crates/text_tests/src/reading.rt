@@ -25,10 +25,10 @@ fn error_word(error: ReadError) -> &'static str {
     }
 }
 
-/// What the last of these lines comes to, each before it being taken.
+/// What the last of these lines, between semicolons, comes to, each before it being taken.
 fn last_of(alloc: Global, reader: &mut HeaderReader, text: &[u8]) -> Result<bool, ReadError> {
     let mut last = Ok(true);
-    for line in text.split(|b| *b == b'\n') {
+    for line in text.split(|b| *b == b';') {
         last = reader.take(alloc, line);
     }
     last
@@ -66,66 +66,52 @@ fn first_device(header: &Header) -> Result<HeaderDevice, Fail> {
     }
 }
 
+/// A row is the lines of a header, a bar, and what the last of them comes to.
+const HEADERS: &str = "schedule pr 1;senders 2 1|number
+schedule pr 1;senders 17|number
+schedule pr 1;# who;senders 1 2;|over
+schedule cluster 1;cluster 123456789|header
+schedule cluster 1;cluster 2a;end|header
+schedule cluster 1;cluster 2a;nodes 3;device 2 data 1|number
+schedule cluster 1;cluster 2a;nodes 3;device 1 data 3 3|number
+schedule cluster 1;cluster 2a;nodes 3;device 1 data 4 17|number
+schedule cluster 2;cluster 2a;nodes 32;configured 31 32|more
+schedule cluster 2;cluster 2a;nodes 3;configured 1 4|unknown";
+
+fn heads_all(rt: &impl Abort, alloc: Global, rows: &str) -> Result<(), Fail> {
+    for row in rows.split('\n') {
+        let (text, wanted) = row.split_once("|").ok_or("a row")?;
+        heads(rt, alloc, text.as_bytes(), wanted);
+    }
+    Ok(())
+}
+
+const OF_THE_FIRST: &[u8] =
+    b"schedule cluster 1;cluster 2a;nodes 3;device 1 quorum 1 3;device 2 server 1";
+
+fn heads_the_first(rt: &impl Abort, header: &Header) {
+    assert!(rt; header.configured.bits() == 0b111);
+    assert!(rt; header.devices.items().len() == 1);
+}
+
+const OF_THE_SECOND: &[u8] =
+    b"schedule cluster 2;cluster 2a;nodes 3;configured 1 3;device 1 data 2 3";
+
+fn heads_the_second(rt: &impl Abort, header: &Header) -> Result<(), Fail> {
+    assert!(rt; header.cluster == 42);
+    assert!(rt; header.nodes == 3);
+    assert!(rt; header.configured.bits() == 0b101);
+    let device = first_device(header)?;
+    assert!(rt; matches!(device.kind, DeviceKind::Data));
+    assert!(rt; device.attached.bits() == 0b110);
+    Ok(())
+}
+
 #[test]
 fn headers(rt: HostRuntime) -> Result<(), Fail> {
-    let alloc = rt.alloc();
-    heads(&rt, alloc, b"schedule pr 1\nsenders 2 1", "number");
-    heads(&rt, alloc, b"schedule pr 1\nsenders 17", "number");
-    heads(&rt, alloc, b"schedule pr 1\n# who\nsenders 1 2\n", "over");
-    heads(
-        &rt,
-        alloc,
-        b"schedule cluster 1\ncluster 123456789",
-        "header",
-    );
-    heads(&rt, alloc, b"schedule cluster 1\ncluster 2a\nend", "header");
-    heads(
-        &rt,
-        alloc,
-        b"schedule cluster 1\ncluster 2a\nnodes 3\ndevice 2 data 1",
-        "number",
-    );
-    heads(
-        &rt,
-        alloc,
-        b"schedule cluster 1\ncluster 2a\nnodes 3\ndevice 1 data 3 3",
-        "number",
-    );
-    heads(
-        &rt,
-        alloc,
-        b"schedule cluster 1\ncluster 2a\nnodes 3\ndevice 1 data 4 17",
-        "number",
-    );
-    heads(
-        &rt,
-        alloc,
-        b"schedule cluster 2\ncluster 2a\nnodes 32\nconfigured 31 32",
-        "more",
-    );
-    heads(
-        &rt,
-        alloc,
-        b"schedule cluster 2\ncluster 2a\nnodes 3\nconfigured 1 4",
-        "unknown",
-    );
-    let old = header(
-        alloc,
-        b"schedule cluster 1\ncluster 2a\nnodes 3\ndevice 1 quorum 1 3\ndevice 2 server 1",
-    )?;
-    assert_eq!(rt; old.configured.bits(), 0b111);
-    assert_eq!(rt; old.devices.items().len(), 1);
-    let new = header(
-        alloc,
-        b"schedule cluster 2\ncluster 2a\nnodes 3\nconfigured 1 3\ndevice 1 data 2 3",
-    )?;
-    assert_eq!(rt; new.cluster, 42);
-    assert_eq!(rt; new.nodes, 3);
-    assert_eq!(rt; new.configured.bits(), 0b101);
-    let device = first_device(&new)?;
-    assert!(rt; matches!(device.kind, DeviceKind::Data));
-    assert_eq!(rt; device.attached.bits(), 0b110);
-    Ok(())
+    heads_all(&rt, rt.alloc(), HEADERS)?;
+    heads_the_first(&rt, &header(rt.alloc(), OF_THE_FIRST)?);
+    heads_the_second(&rt, &header(rt.alloc(), OF_THE_SECOND)?)
 }
 
 fn event_word(event: &Event) -> &'static str {
@@ -178,98 +164,85 @@ fn reads(rt: &impl Abort, alloc: Global, header: &Header, line: &[u8], wanted: &
     assert_eq!(rt; found, wanted);
 }
 
-const OLD: &[u8] = b"schedule cluster 1\ncluster 2a\nnodes 3\ndevice 1 quorum 1 3";
+const OLD: &[u8] = b"schedule cluster 1;cluster 2a;nodes 3;device 1 quorum 1 3";
 
-const NEW: &[u8] = b"schedule cluster 2\ncluster 2a\nnodes 32\nconfigured 1\ndevice 1 quorum 1 3";
+const NEW: &[u8] = b"schedule cluster 2;cluster 2a;nodes 32;configured 1;device 1 quorum 1 3";
+
+fn reads_all(rt: &impl Abort, alloc: Global, header: &Header, rows: &str) -> Result<(), Fail> {
+    for row in rows.split('\n') {
+        let (line, wanted) = row.split_once("|").ok_or("a row")?;
+        reads(rt, alloc, header, line.as_bytes(), wanted);
+    }
+    Ok(())
+}
+
+/// A row is a line under this header, a bar, and what the line is read as.
+fn expect(rt: &impl Abort, alloc: Global, of_header: &[u8], rows: &str) -> Result<(), Fail> {
+    let header = header(alloc, of_header)?;
+    reads_all(rt, alloc, &header, rows)
+}
+
+const EVENTS: &str = "boot 3|boot
+crash 1|crash
+crashat 1 1000 zero|crashat zero
+tick 2|tick
+deliver 0|deliver
+lose 7|lose
+repeat 8|repeat
+next 2 2|next
+drop 1 2|drop
+again 1 2|again
+disk 1|disk
+fault 1 1 undone|fault undone
+write 2 1 7|write
+cmd 1 clrg create g 1,2|cmd
+outcome 1 r1 MONITOR_STOP timeout|stop timeout
+probe 1 r1 ok|probe ok
+clock 10|clock
+rounds 10 3 1 3|rounds
+#|blank
+end|end";
 
 #[test]
 fn events(rt: HostRuntime) -> Result<(), Fail> {
-    let alloc = rt.alloc();
-    let header = header(alloc, OLD)?;
-    reads(&rt, alloc, &header, b"boot 3", "boot");
-    reads(&rt, alloc, &header, b"crash 1", "crash");
-    reads(&rt, alloc, &header, b"crashat 1 1000 zero", "crashat zero");
-    reads(&rt, alloc, &header, b"tick 2", "tick");
-    reads(&rt, alloc, &header, b"deliver 0", "deliver");
-    reads(&rt, alloc, &header, b"lose 7", "lose");
-    reads(&rt, alloc, &header, b"repeat 8", "repeat");
-    reads(&rt, alloc, &header, b"next 2 2", "next");
-    reads(&rt, alloc, &header, b"drop 1 2", "drop");
-    reads(&rt, alloc, &header, b"again 1 2", "again");
-    reads(&rt, alloc, &header, b"disk 1", "disk");
-    reads(&rt, alloc, &header, b"fault 1 1 undone", "fault undone");
-    reads(&rt, alloc, &header, b"write 2 1 7", "write");
-    reads(&rt, alloc, &header, b"cmd 1 clrg create g 1,2", "cmd");
-    reads(
-        &rt,
-        alloc,
-        &header,
-        b"outcome 1 r1 MONITOR_STOP timeout",
-        "stop timeout",
-    );
-    reads(&rt, alloc, &header, b"probe 1 r1 ok", "probe ok");
-    reads(&rt, alloc, &header, b"clock 10", "clock");
-    reads(&rt, alloc, &header, b"rounds 10 3 1 3", "rounds");
-    reads(&rt, alloc, &header, b"#", "blank");
-    reads(&rt, alloc, &header, b"end", "end");
-    Ok(())
+    expect(&rt, rt.alloc(), OLD, EVENTS)
 }
+
+const REFUSALS: &str = "boot  1|line
+power|line
+write 17 1 07|line
+cmd 1 |line
+cmd 1 clrg status |line
+outcome 1 R START success|line
+outcome 1 r start success|line
+rounds 1|line
+boot 17|number
+boot 4|unknown
+write 4 17 1|number
+write 1 2 1|unknown
+deliver 18446744073709551616|number
+crashat 1 1001 old|number
+clock 9|number
+rounds 11 1|number
+rounds 0 4|number
+client 1 a 1 1|line";
 
 #[test]
 fn refusals(rt: HostRuntime) -> Result<(), Fail> {
-    let alloc = rt.alloc();
-    let header = header(alloc, OLD)?;
-    reads(&rt, alloc, &header, b"boot  1", "line");
-    reads(&rt, alloc, &header, b"power", "line");
-    reads(&rt, alloc, &header, b"write 17 1 07", "line");
-    reads(&rt, alloc, &header, b"cmd 1 ", "line");
-    reads(&rt, alloc, &header, b"cmd 1 clrg status ", "line");
-    reads(&rt, alloc, &header, b"outcome 1 R START success", "line");
-    reads(&rt, alloc, &header, b"outcome 1 r start success", "line");
-    reads(&rt, alloc, &header, b"rounds 1", "line");
-    reads(&rt, alloc, &header, b"boot 17", "number");
-    reads(&rt, alloc, &header, b"boot 4", "unknown");
-    reads(&rt, alloc, &header, b"write 4 17 1", "number");
-    reads(&rt, alloc, &header, b"write 1 2 1", "unknown");
-    reads(
-        &rt,
-        alloc,
-        &header,
-        b"deliver 18446744073709551616",
-        "number",
-    );
-    reads(&rt, alloc, &header, b"crashat 1 1001 old", "number");
-    reads(&rt, alloc, &header, b"clock 9", "number");
-    reads(&rt, alloc, &header, b"rounds 11 1", "number");
-    reads(&rt, alloc, &header, b"rounds 0 4", "number");
-    reads(&rt, alloc, &header, b"client 1 a 1 1", "line");
-    Ok(())
+    expect(&rt, rt.alloc(), OLD, REFUSALS)
 }
+
+const EVENTS_OF_VERSION_TWO: &str = "boot 32|boot
+boot 33|number
+client 1 a 4294967295 65535|client
+client 1 a 1 65536|number
+server 33 17 ok ask-twice|not-built
+server 1 1|line
+serverstop 1 0 old|not-built";
 
 #[test]
 fn events_of_version_two(rt: HostRuntime) -> Result<(), Fail> {
-    let alloc = rt.alloc();
-    let header = header(alloc, NEW)?;
-    reads(&rt, alloc, &header, b"boot 32", "boot");
-    reads(&rt, alloc, &header, b"boot 33", "number");
-    reads(
-        &rt,
-        alloc,
-        &header,
-        b"client 1 a 4294967295 65535",
-        "client",
-    );
-    reads(&rt, alloc, &header, b"client 1 a 1 65536", "number");
-    reads(
-        &rt,
-        alloc,
-        &header,
-        b"server 33 17 ok ask-twice",
-        "not-built",
-    );
-    reads(&rt, alloc, &header, b"server 1 1", "line");
-    reads(&rt, alloc, &header, b"serverstop 1 0 old", "not-built");
-    Ok(())
+    expect(&rt, rt.alloc(), NEW, EVENTS_OF_VERSION_TWO)
 }
 
 /// The line of a reservation schedule is read as this.
@@ -284,16 +257,21 @@ fn reads_pr(rt: &impl Abort, line: &[u8], wanted: &str) {
     assert_eq!(rt; found, wanted);
 }
 
+const RESERVATION_LINES: &str = "power|power
+16 keys|command
+1 preempt 5 b2 a1|command
+# no more|blank
+end|end
+boot 1|line
+1 preempt 5 b2 a1 c3|line
+17 keys|number
+1 reserve 2 a1|number";
+
 #[test]
 fn reservation_lines(rt: HostRuntime) -> Result<(), Fail> {
-    reads_pr(&rt, b"power", "power");
-    reads_pr(&rt, b"16 keys", "command");
-    reads_pr(&rt, b"1 preempt 5 b2 a1", "command");
-    reads_pr(&rt, b"# no more", "blank");
-    reads_pr(&rt, b"end", "end");
-    reads_pr(&rt, b"boot 1", "line");
-    reads_pr(&rt, b"1 preempt 5 b2 a1 c3", "line");
-    reads_pr(&rt, b"17 keys", "number");
-    reads_pr(&rt, b"1 reserve 2 a1", "number");
+    for row in RESERVATION_LINES.split('\n') {
+        let (line, wanted) = row.split_once("|").ok_or("a row")?;
+        reads_pr(&rt, line.as_bytes(), wanted);
+    }
     Ok(())
 }

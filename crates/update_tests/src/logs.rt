@@ -1,21 +1,35 @@
 // Lists of updates, and the votes under them.
-use crate::fixture::{first, header};
+ghost use Rattle.std.specs.Prelude.{◌≤◌, length};
+ghost use Rattle.cl_base.specs.Limits.{most_devices};
+
+use crate::cases::{Case, run};
+use crate::fixture::header;
 use ccr_tables::Config;
-use cl_base::{Bytes, Table, Version};
+use cl_base::{Bytes, Header, Table, Version};
 use quorum_votes::Votes;
 use std::alloc::Global;
 use std::process::Abort;
 use std::test::Fail;
 use update_log::{LogVotes, add, config_after, is_update, votes_after};
 
+fn put_text(alloc: Global, texts: &mut Vec<Bytes>, line: &[u8]) -> Result<(), Fail> {
+    let text = Bytes::new(line.to_vec(alloc)?);
+    Ok(texts.push(text)?)
+}
+
+fn put_texts(alloc: Global, texts: &mut Vec<Bytes>, lines: &[u8]) -> Result<(), Fail> {
+    for line in lines.split(|b| *b == b'\n') {
+        if !line.is_empty() {
+            put_text(alloc, texts, line)?;
+        }
+    }
+    Ok(())
+}
+
 /// The lines that are not empty.
 fn texts(alloc: Global, lines: &[u8]) -> Result<Vec<Bytes>, Fail> {
     let mut texts = Vec::new(alloc);
-    for line in lines.split(|b| *b == b'\n') {
-        if !line.is_empty() {
-            texts.push(Bytes::new(line.to_vec(alloc)?))?;
-        }
-    }
+    put_texts(alloc, &mut texts, lines)?;
     Ok(texts)
 }
 
@@ -39,17 +53,40 @@ fn told(found: &Option<LogVotes>) -> (Option<(u64, u64)>, Option<(u64, u64)>) {
     }
 }
 
-fn votes(alloc: Global, lines: &[u8]) -> Result<Option<LogVotes>, Fail> {
-    let header = header(alloc)?;
+/// The votes under these texts, with the pending one, if any.
+fn votes(
+    alloc: Global,
+    header: &Header,
+    lines: &[u8],
+    pending: Option<&Bytes>,
+) -> Result<Option<LogVotes>, Fail>
+    requires devices { length header.now.devices ≤ most_devices }
+{
     let texts = texts(alloc, lines)?;
-    Ok(votes_after(alloc, &header, texts.as_slice(), None)?)
+    Ok(votes_after(alloc, header, texts.as_slice(), pending)?)
 }
 
-fn votes_with(alloc: Global, lines: &[u8], pending: &[u8]) -> Result<Option<LogVotes>, Fail> {
-    let header = header(alloc)?;
-    let texts = texts(alloc, lines)?;
+fn votes_with(
+    alloc: Global,
+    header: &Header,
+    lines: &[u8],
+    pending: &[u8],
+) -> Result<Option<LogVotes>, Fail>
+    requires devices { length header.now.devices ≤ most_devices }
+{
     let pending = Bytes::new(pending.to_vec(alloc)?);
-    Ok(votes_after(alloc, &header, texts.as_slice(), Some(&pending))?)
+    votes(alloc, header, lines, Some(&pending))
+}
+
+fn check_votes(
+    rt: &impl Abort,
+    found: &Option<LogVotes>,
+    committed: Option<(u64, u64)>,
+    pending: Option<(u64, u64)>,
+) {
+    let found = told(found);
+    assert!(rt; found.0 == committed);
+    assert!(rt; found.1 == pending);
 }
 
 fn expect_votes(
@@ -58,8 +95,8 @@ fn expect_votes(
     committed: &[u8],
     wanted: Option<(u64, u64)>,
 ) -> Result<(), Fail> {
-    let found = votes(alloc, committed)?;
-    assert_eq!(rt; told(&found), (wanted, None));
+    let header = header(alloc)?;
+    check_votes(rt, &votes(alloc, &header, committed, None)?, wanted, None);
     Ok(())
 }
 
@@ -70,10 +107,11 @@ fn expect_pending(
     pending: &[u8],
     wanted: Option<((u64, u64), (u64, u64))>,
 ) -> Result<(), Fail> {
-    let found = votes_with(alloc, committed, pending)?;
+    let header = header(alloc)?;
+    let found = votes_with(alloc, &header, committed, pending)?;
     match wanted {
-        Some((before, then)) => assert_eq!(rt; told(&found), (Some(before), Some(then))),
-        None => assert_eq!(rt; told(&found), (None, None)),
+        Some((before, then)) => check_votes(rt, &found, Some(before), Some(then)),
+        None => check_votes(rt, &found, None, None),
     }
     Ok(())
 }
@@ -103,10 +141,11 @@ fn votes_under_updates(rt: HostRuntime) -> Result<(), Fail> {
     expect_pending(&rt, a, b"clq status", disable, None)
 }
 
-fn config(alloc: Global, lines: &[u8]) -> Result<Option<Config>, Fail> {
-    let header = header(alloc)?;
+fn config(alloc: Global, header: &Header, lines: &[u8]) -> Result<Option<Config>, Fail>
+    requires devices { length header.now.devices ≤ most_devices }
+{
     let texts = texts(alloc, lines)?;
-    Ok(config_after(alloc, &header, texts.as_slice())?)
+    Ok(config_after(alloc, header, texts.as_slice())?)
 }
 
 fn generation(config: &Option<Config>) -> Option<u64> {
@@ -117,8 +156,8 @@ fn generation(config: &Option<Config>) -> Option<u64> {
 }
 
 fn groups(alloc: Global, lines: &[u8]) -> Result<Option<u64>, Fail> {
-    let config = config(alloc, lines)?;
-    Ok(generation(&config))
+    let header = header(alloc)?;
+    Ok(generation(&config(alloc, &header, lines)?))
 }
 
 /// How many updates changed the table of groups; none where the list is bad.
@@ -159,12 +198,12 @@ fn expect_added(
     groups: u64,
 ) -> Result<(), Fail> {
     let taken = add(alloc, config, text)?;
-    assert_eq!(rt; taken, wanted);
-    assert_eq!(rt; config.generation(Table::Groups), groups);
+    assert!(rt; taken == wanted);
+    assert!(rt; config.generation(Table::Groups) == groups);
     Ok(())
 }
 
-fn one_more(rt: &impl Abort, a: Global, config: &mut Config) -> Result<(), Fail> {
+pub fn add_one_more(rt: &impl Abort, a: Global, config: &mut Config) -> Result<(), Fail> {
     expect_added(rt, a, config, b"clrg create g 1,2", true, 1)?;
     expect_added(rt, a, config, b"clrg create g 1,2", false, 1)?;
     expect_added(rt, a, config, b"clrg set g RG_dependencies g", false, 1)?;
@@ -175,9 +214,7 @@ fn one_more(rt: &impl Abort, a: Global, config: &mut Config) -> Result<(), Fail>
 
 #[test]
 fn one_more_update(rt: HostRuntime) -> Result<(), Fail> {
-    let a = rt.alloc();
-    let mut config = first(a)?;
-    one_more(&rt, a, &mut config)
+    run(&rt, rt.alloc(), Case::AddOneMore)
 }
 
 /// Each of these lines is an update under the version, or none is.

@@ -1,5 +1,6 @@
 // What queries are answered, as it is printed.
-use crate::fixture::{change, first};
+use crate::cases::{Case, run};
+use crate::fixture::change;
 use ccr_tables::Config;
 use ccr_text::{Row, TableRows, checksum};
 use cl_base::{Bytes, DevSet, NodeSet, Table};
@@ -9,13 +10,22 @@ use std::alloc::Global;
 use std::process::Abort;
 use std::test::Fail;
 
+fn add(alloc: Global, text: &mut Vec<u8>, entry: &Entry) -> Result<(), Fail> {
+    let line = print(alloc, entry)?;
+    Ok(text.extend_from_slice(line.as_slice())?)
+}
+
 /// The lines of the entries.
+fn add_all(alloc: Global, text: &mut Vec<u8>, entries: Vec<StatusEntry>) -> Result<(), Fail> {
+    for entry in entries {
+        add(alloc, text, &Entry::Status(entry))?;
+    }
+    Ok(())
+}
+
 fn printed(alloc: Global, entries: Vec<StatusEntry>) -> Result<Vec<u8>, Fail> {
     let mut text = Vec::new(alloc);
-    for entry in entries {
-        let line = print(alloc, &Entry::Status(entry))?;
-        text.extend_from_slice(line.as_slice())?;
-    }
+    add_all(alloc, &mut text, entries)?;
     Ok(text)
 }
 
@@ -28,9 +38,8 @@ fn expect_votes(
     held: DevSet,
     wanted: &str,
 ) -> Result<(), Fail> {
-    let lines = quorum_lines(alloc, config.votes(), members, held)?;
-    let text = printed(alloc, lines)?;
-    assert_eq!(rt; text.as_slice(), wanted.as_bytes());
+    let text = printed(alloc, quorum_lines(alloc, config.votes(), members, held)?)?;
+    assert!(rt; text.as_slice() == wanted.as_bytes());
     Ok(())
 }
 
@@ -58,7 +67,7 @@ quorum node 2 0 member
 quorum device 1 0 held
 ";
 
-fn votes(rt: &impl Abort, a: Global, config: &mut Config) -> Result<(), Fail> {
+pub fn tell_votes(rt: &impl Abort, a: Global, config: &mut Config) -> Result<(), Fail> {
     let (both, second) = (NodeSet::from_bits(0b11), NodeSet::from_bits(0b10));
     let (device, no_device) = (DevSet::from_bits(0b1), DevSet::from_bits(0b0));
     expect_votes(rt, a, config, both, device, ALL_THERE)?;
@@ -73,9 +82,7 @@ fn votes(rt: &impl Abort, a: Global, config: &mut Config) -> Result<(), Fail> {
 
 #[test]
 fn votes_stand(rt: HostRuntime) -> Result<(), Fail> {
-    let a = rt.alloc();
-    let mut config = first(a)?;
-    votes(&rt, a, &mut config)
+    run(&rt, rt.alloc(), Case::TellVotes)
 }
 
 /// The text of the table.
@@ -86,9 +93,8 @@ fn expect_table(
     table: Table,
     wanted: &str,
 ) -> Result<(), Fail> {
-    let lines = table_lines(alloc, config, table)?;
-    let text = printed(alloc, lines)?;
-    assert_eq!(rt; text.as_slice(), wanted.as_bytes());
+    let text = printed(alloc, table_lines(alloc, config, table)?)?;
+    assert!(rt; text.as_slice() == wanted.as_bytes());
     Ok(())
 }
 
@@ -102,7 +108,7 @@ const ONE_TYPE: &str =
 const VOTES: &str =
     "table ccr_gennum 0\ntable ccr_checksum 15f59bf3f234ab440546a9885701fc1e5a0ff4ce19d51ffb0e9ba14d9597b1f1\ntable node.1\t1\ntable node.2\t1\ntable device.1\tenabled\n";
 
-fn tables(rt: &impl Abort, a: Global, config: &mut Config) -> Result<(), Fail> {
+pub fn tell_tables(rt: &impl Abort, a: Global, config: &mut Config) -> Result<(), Fail> {
     expect_table(rt, a, config, Table::Infrastructure, VOTES)?;
     expect_table(rt, a, config, Table::Types, NO_TYPES)?;
     change(rt, a, config, b"clrt register app obedient START,STOP")?;
@@ -112,9 +118,7 @@ fn tables(rt: &impl Abort, a: Global, config: &mut Config) -> Result<(), Fail> {
 
 #[test]
 fn texts_of_tables(rt: HostRuntime) -> Result<(), Fail> {
-    let a = rt.alloc();
-    let mut config = first(a)?;
-    tables(&rt, a, &mut config)
+    run(&rt, rt.alloc(), Case::TellTables)
 }
 
 fn row(alloc: Global, key: &[u8], value: &[u8]) -> Result<Row, Fail> {
@@ -140,6 +144,6 @@ const OF_TWO_ROWS: [u8; 32] = [
 fn digests_of_rows(rt: HostRuntime) -> Result<(), Fail> {
     let a = rt.alloc();
     let rows = two_rows(a)?;
-    assert_eq!(rt; checksum(a, &rows)?, OF_TWO_ROWS);
+    assert!(rt; checksum(a, &rows)? == OF_TWO_ROWS);
     Ok(())
 }

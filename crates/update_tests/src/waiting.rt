@@ -3,6 +3,7 @@ use cl_base::{Bytes, NodeId};
 use proposals::{Arrived, Proposals};
 use request_queue::{Request, RequestQueue};
 use std::alloc::Global;
+use std::process::Abort;
 use std::test::Fail;
 
 fn words(alloc: Global) -> Result<Bytes, Fail> {
@@ -23,14 +24,17 @@ fn ask(alloc: Global, queue: &mut RequestQueue) -> Result<(), Fail> {
     Ok(())
 }
 
+fn ask_twice(rt: &impl Abort, alloc: Global, queue: &mut RequestQueue) -> Result<(), Fail> {
+    ask(alloc, queue)?;
+    ask(alloc, queue)?;
+    assert!(rt; queue.len() == 2);
+    Ok(())
+}
+
 #[test]
 fn at_the_node(rt: HostRuntime) -> Result<(), Fail> {
-    let alloc = rt.alloc();
-    let mut queue = RequestQueue::new(alloc);
-    ask(alloc, &mut queue)?;
-    ask(alloc, &mut queue)?;
-    assert_eq!(rt; queue.len(), 2);
-    Ok(())
+    let mut queue = RequestQueue::new(rt.alloc());
+    ask_twice(&rt, rt.alloc(), &mut queue)
 }
 
 fn arrive(alloc: Global, proposals: &mut Proposals, from: NodeId, number: u64) -> Result<(), Fail> {
@@ -42,17 +46,20 @@ fn arrive(alloc: Global, proposals: &mut Proposals, from: NodeId, number: u64) -
     Ok(())
 }
 
+fn arrive_again(rt: &impl Abort, alloc: Global, proposals: &mut Proposals) -> Result<(), Fail> {
+    let (one, two) = (NodeId::new(1)?, NodeId::new(2)?);
+    arrive(alloc, proposals, one, 1)?;
+    arrive(alloc, proposals, two, 1)?;
+    // One that waits already is not taken again.
+    arrive(alloc, proposals, one, 1)?;
+    // Nor is another of the same node.
+    arrive(alloc, proposals, two, 2)?;
+    assert!(rt; proposals.len() == 2);
+    Ok(())
+}
+
 #[test]
 fn at_the_president(rt: HostRuntime) -> Result<(), Fail> {
-    let alloc = rt.alloc();
-    let (one, two) = (NodeId::new(1)?, NodeId::new(2)?);
-    let mut proposals = Proposals::new(alloc)?;
-    arrive(alloc, &mut proposals, one, 1)?;
-    arrive(alloc, &mut proposals, two, 1)?;
-    // One that waits already is not taken again.
-    arrive(alloc, &mut proposals, one, 1)?;
-    // Nor is another of the same node.
-    arrive(alloc, &mut proposals, two, 2)?;
-    assert_eq!(rt; proposals.len(), 2);
-    Ok(())
+    let mut proposals = Proposals::new(rt.alloc())?;
+    arrive_again(&rt, rt.alloc(), &mut proposals)
 }

@@ -51,32 +51,41 @@ fn asked(alloc: Global, text: &[u8]) -> Result<Vec<u8>, Fail> {
     }
 }
 
-fn read(rt: &impl Abort, alloc: Global, text: &[u8], wanted: &[u8]) -> Result<(), Fail> {
-    let found = told(alloc, Version::Two, text)?;
+/// The rows of a table; a row is words, a bar, and what they are.
+fn expect(rt: &impl Abort, alloc: Global, version: Version, rows: &str) -> Result<(), Fail> {
+    for row in rows.split('\n') {
+        let (text, wanted) = row.split_once("|").ok_or("a row")?;
+        read(rt, alloc, version, text.as_bytes(), wanted.as_bytes())?;
+    }
+    Ok(())
+}
+
+fn read(
+    rt: &impl Abort,
+    alloc: Global,
+    version: Version,
+    text: &[u8],
+    wanted: &[u8],
+) -> Result<(), Fail> {
+    let found = told(alloc, version, text)?;
     assert_eq!(rt; found.as_slice(), wanted);
     Ok(())
 }
 
-/// The words are canonical: they are read, and written as they are.
-fn same(rt: &impl Abort, alloc: Global, text: &[u8]) -> Result<(), Fail> {
-    read(rt, alloc, text, text)
+/// The words of each line are canonical: they are read, and written as they are.
+fn same(rt: &impl Abort, alloc: Global, lines: &str) -> Result<(), Fail> {
+    for line in lines.split('\n') {
+        read(rt, alloc, Version::Two, line.as_bytes(), line.as_bytes())?;
+    }
+    Ok(())
 }
 
-fn unknown(rt: &impl Abort, alloc: Global, text: &[u8]) -> Result<(), Fail> {
-    read(rt, alloc, text, b"unknown-command")
-}
-
-fn missing(rt: &impl Abort, alloc: Global, text: &[u8]) -> Result<(), Fail> {
-    read(rt, alloc, text, b"missing-operand")
-}
-
-fn bad(rt: &impl Abort, alloc: Global, text: &[u8]) -> Result<(), Fail> {
-    read(rt, alloc, text, b"bad-value")
-}
-
-fn at_first(rt: &impl Abort, alloc: Global, text: &[u8], wanted: &[u8]) -> Result<(), Fail> {
-    let found = told(alloc, Version::One, text)?;
-    assert_eq!(rt; found.as_slice(), wanted);
+/// The same for texts that ask for something.
+fn expect_asked(rt: &impl Abort, alloc: Global, rows: &str) -> Result<(), Fail> {
+    for row in rows.split('\n') {
+        let (text, wanted) = row.split_once("|").ok_or("a row")?;
+        request(rt, alloc, text.as_bytes(), wanted.as_bytes())?;
+    }
     Ok(())
 }
 
@@ -86,129 +95,138 @@ fn request(rt: &impl Abort, alloc: Global, text: &[u8], wanted: &[u8]) -> Result
     Ok(())
 }
 
+const GROUPS_AND_TYPES: &str = "clrt register app obedient START,STOP
+clrt register app x START,STOP single failover
+clrt register app x START,STOP failover
+clrt unregister app
+clrg create g 3,1,32
+clrg delete g
+clrg set g Nodelist none,,
+clrg manage g
+clrg unmanage g
+clrg online g
+clrg offline g
+clrg switch g 2
+clrg suspend g
+clrg resume g
+clrg remaster g
+clrg evacuate 32";
+
+const METHODS_IN_ORDER: &str =
+    "clrt register app x BOOT,MONITOR_STOP,STOP,START,STOP,MONITOR_START single|clrt register app x START,MONITOR_START,MONITOR_STOP,STOP,BOOT single";
+
 #[test]
 fn groups_and_types(rt: HostRuntime) -> Result<(), Fail> {
-    let a = rt.alloc();
-    same(&rt, a, b"clrt register app obedient START,STOP")?;
-    same(&rt, a, b"clrt register app x START,STOP single failover")?;
-    same(&rt, a, b"clrt register app x START,STOP failover")?;
-    let wanted = b"clrt register app x START,MONITOR_START,MONITOR_STOP,STOP,BOOT single";
-    read(
-        &rt,
-        a,
-        b"clrt register app x BOOT,MONITOR_STOP,STOP,START,STOP,MONITOR_START single",
-        wanted,
-    )?;
-    same(&rt, a, b"clrt unregister app")?;
-    same(&rt, a, b"clrg create g 3,1,32")?;
-    same(&rt, a, b"clrg delete g")?;
-    same(&rt, a, b"clrg set g Nodelist none,,")?;
-    same(&rt, a, b"clrg manage g")?;
-    same(&rt, a, b"clrg unmanage g")?;
-    same(&rt, a, b"clrg online g")?;
-    same(&rt, a, b"clrg offline g")?;
-    same(&rt, a, b"clrg switch g 2")?;
-    same(&rt, a, b"clrg suspend g")?;
-    same(&rt, a, b"clrg resume g")?;
-    same(&rt, a, b"clrg remaster g")?;
-    same(&rt, a, b"clrg evacuate 32")
+    same(&rt, rt.alloc(), GROUPS_AND_TYPES)?;
+    expect(&rt, rt.alloc(), Version::Two, METHODS_IN_ORDER)
 }
+
+const OTHER_COMMANDS: &str = "clrs create r g app
+clrs delete r
+clrs set r Retry_count 7
+clrs enable r
+clrs disable r
+clrs monitor r
+clrs unmonitor r
+clrs clear r 1
+clq add 16
+clq remove 1
+clq enable device 2
+clq disable device 2
+clq enable node 2
+clq disable node 32";
+
+const QUERIES: &str = "clrg status|groups?
+clrs status|resources?
+clq status|votes?
+ccr anything|anything";
 
 #[test]
 fn other_commands(rt: HostRuntime) -> Result<(), Fail> {
-    let a = rt.alloc();
-    same(&rt, a, b"clrs create r g app")?;
-    same(&rt, a, b"clrs delete r")?;
-    same(&rt, a, b"clrs set r Retry_count 7")?;
-    same(&rt, a, b"clrs enable r")?;
-    same(&rt, a, b"clrs disable r")?;
-    same(&rt, a, b"clrs monitor r")?;
-    same(&rt, a, b"clrs unmonitor r")?;
-    same(&rt, a, b"clrs clear r 1")?;
-    same(&rt, a, b"clq add 16")?;
-    same(&rt, a, b"clq remove 1")?;
-    same(&rt, a, b"clq enable device 2")?;
-    same(&rt, a, b"clq disable device 2")?;
-    same(&rt, a, b"clq enable node 2")?;
-    same(&rt, a, b"clq disable node 32")?;
-    read(&rt, a, b"clrg status", b"groups?")?;
-    read(&rt, a, b"clrs status", b"resources?")?;
-    read(&rt, a, b"clq status", b"votes?")?;
-    read(&rt, a, b"ccr anything", b"anything")
+    same(&rt, rt.alloc(), OTHER_COMMANDS)?;
+    expect(&rt, rt.alloc(), Version::Two, QUERIES)
 }
+
+const SECOND_VERSION: &str = "clnode add 32
+clnode remove 1
+clnode create-loadlimit 1 mem 1000000 0
+clnode delete-loadlimit 1 mem
+clsa create a g LB_WEIGHTED
+clsa create a g LB_STICKY
+clsa create a g STICKY_PORT
+clsa delete a
+clsa weights a 1000@32,0@1,0@1";
+
+const BAD_IN_THE_SECOND: &str = "clnode create-loadlimit 1 mem 0 1000001|bad-value
+clsa create a g STICKY|bad-value
+clsa weights a 1001@32|bad-value
+clsa weights a 1@33|bad-value";
+
+const FIRST_VERSION: &str = "clnode add 1|unknown-command
+clsa delete a|unknown-command
+clrg create g 16|clrg create g 16
+clrg create g 17|bad-value";
 
 #[test]
 fn commands_of_the_second_version(rt: HostRuntime) -> Result<(), Fail> {
-    let a = rt.alloc();
-    same(&rt, a, b"clnode add 32")?;
-    same(&rt, a, b"clnode remove 1")?;
-    same(&rt, a, b"clnode create-loadlimit 1 mem 1000000 0")?;
-    bad(&rt, a, b"clnode create-loadlimit 1 mem 0 1000001")?;
-    same(&rt, a, b"clnode delete-loadlimit 1 mem")?;
-    same(&rt, a, b"clsa create a g LB_WEIGHTED")?;
-    same(&rt, a, b"clsa create a g LB_STICKY")?;
-    same(&rt, a, b"clsa create a g STICKY_PORT")?;
-    bad(&rt, a, b"clsa create a g STICKY")?;
-    same(&rt, a, b"clsa delete a")?;
-    same(&rt, a, b"clsa weights a 1000@32,0@1,0@1")?;
-    bad(&rt, a, b"clsa weights a 1001@32")?;
-    bad(&rt, a, b"clsa weights a 1@33")?;
-    at_first(&rt, a, b"clnode add 1", b"unknown-command")?;
-    at_first(&rt, a, b"clsa delete a", b"unknown-command")?;
-    at_first(&rt, a, b"clrg create g 16", b"clrg create g 16")?;
-    at_first(&rt, a, b"clrg create g 17", b"bad-value")
+    same(&rt, rt.alloc(), SECOND_VERSION)?;
+    expect(&rt, rt.alloc(), Version::Two, BAD_IN_THE_SECOND)?;
+    expect(&rt, rt.alloc(), Version::One, FIRST_VERSION)
 }
+
+const NO_COMMANDS: &str = "|unknown-command
+clrg|unknown-command
+clrt foo|unknown-command
+clrgs status|unknown-command
+clq enable|unknown-command
+clq enable foo 1|unknown-command
+ccr|missing-operand
+clq enable node|missing-operand
+clq add|missing-operand
+clrg create G|missing-operand
+clrt register app obedient|missing-operand
+clnode create-loadlimit 1 mem 5|missing-operand
+clrg status g|bad-value
+clrg create G 1|bad-value
+clrg create g 1,1|bad-value
+clrg create g 33|bad-value
+clrg create g 01|bad-value";
 
 #[test]
 fn words_that_are_no_command(rt: HostRuntime) -> Result<(), Fail> {
-    let a = rt.alloc();
-    unknown(&rt, a, b"")?;
-    unknown(&rt, a, b"clrg")?;
-    unknown(&rt, a, b"clrt foo")?;
-    unknown(&rt, a, b"clrgs status")?;
-    unknown(&rt, a, b"clq enable")?;
-    unknown(&rt, a, b"clq enable foo 1")?;
-    missing(&rt, a, b"ccr")?;
-    missing(&rt, a, b"clq enable node")?;
-    missing(&rt, a, b"clq add")?;
-    missing(&rt, a, b"clrg create G")?;
-    missing(&rt, a, b"clrt register app obedient")?;
-    missing(&rt, a, b"clnode create-loadlimit 1 mem 5")?;
-    bad(&rt, a, b"clrg status g")?;
-    bad(&rt, a, b"clrg create G 1")?;
-    bad(&rt, a, b"clrg create g 1,1")?;
-    bad(&rt, a, b"clrg create g 33")?;
-    bad(&rt, a, b"clrg create g 01")
+    expect(&rt, rt.alloc(), Version::Two, NO_COMMANDS)
 }
+
+const BAD_VALUES: &str = "clrg delete g |bad-value
+clq add 17|bad-value
+clq add 0|bad-value
+ccr types types|bad-value
+clrt register app x START,STOP failover single|bad-value
+clrt register app x START,STOP single single|bad-value
+clrt register app x START|bad-value
+clrt register app x STOP|bad-value
+clrt register app x START,STOP,MONITOR_START|bad-value
+clrt register app x START,STOP,|bad-value
+clrt register app x START,STOP,PAUSE|bad-value";
 
 #[test]
 fn values_that_are_bad(rt: HostRuntime) -> Result<(), Fail> {
-    let a = rt.alloc();
-    bad(&rt, a, b"clrg delete g ")?;
-    bad(&rt, a, b"clq add 17")?;
-    bad(&rt, a, b"clq add 0")?;
-    bad(&rt, a, b"ccr types types")?;
-    bad(&rt, a, b"clrt register app x START,STOP failover single")?;
-    bad(&rt, a, b"clrt register app x START,STOP single single")?;
-    bad(&rt, a, b"clrt register app x START")?;
-    bad(&rt, a, b"clrt register app x STOP")?;
-    bad(&rt, a, b"clrt register app x START,STOP,MONITOR_START")?;
-    bad(&rt, a, b"clrt register app x START,STOP,")?;
-    bad(&rt, a, b"clrt register app x START,STOP,PAUSE")
+    expect(&rt, rt.alloc(), Version::Two, BAD_VALUES)
 }
+
+const REQUESTS: &str = "restart r|restart r
+move r|move r
+restart|missing-operand
+move r s|bad-value
+move R|bad-value
+clrg online g|clrg online g
+clrg evacuate 2|clrg evacuate 2
+clrg status|unknown-command
+ccr types|unknown-command
+clrg|unknown-command
+clrg evacuate|missing-operand";
 
 #[test]
 fn requests(rt: HostRuntime) -> Result<(), Fail> {
-    let a = rt.alloc();
-    request(&rt, a, b"restart r", b"restart r")?;
-    request(&rt, a, b"move r", b"move r")?;
-    request(&rt, a, b"restart", b"missing-operand")?;
-    request(&rt, a, b"move r s", b"bad-value")?;
-    request(&rt, a, b"move R", b"bad-value")?;
-    request(&rt, a, b"clrg online g", b"clrg online g")?;
-    request(&rt, a, b"clrg evacuate 2", b"clrg evacuate 2")?;
-    request(&rt, a, b"clrg status", b"unknown-command")?;
-    request(&rt, a, b"ccr types", b"unknown-command")?;
-    request(&rt, a, b"clrg", b"unknown-command")?;
-    request(&rt, a, b"clrg evacuate", b"missing-operand")
+    expect_asked(&rt, rt.alloc(), REQUESTS)
 }
