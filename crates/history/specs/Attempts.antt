@@ -90,12 +90,24 @@ pub record IsSeen (S : Setting) (before : List Moment) (c members : ℕ) (config
   pub view : nodes_of members ≡ view_of S.header.nodes configured c before
   pub not_alone : (configured c || nat_lt 1 (length (nodes_of members))) ≡ true
 
+-- A node takes its view as its tick begins, by what it has committed then, and has a reason then or none. It may commit updates in the same tick,
+-- before its attempt begins: they change neither.
+
+abbrev pub is_tick_of : ℕ → Moment → Bool
+is_tick_of c (ticked n) = n == c
+is_tick_of c _ = false
+
+-- what stood before the last tick of c
+abbrev pub before_tick : ℕ → List Moment → List Moment
+before_tick c before = before_last (is_tick_of c) before
+
 pub record IsWanted (S : Setting) (before : List Moment) (e members : ℕ) : Type 0 where
   pub in_a_tick : under_way before ≡ Some (Tick (coordinator e))
-  -- where the trace tells the record of its coordinator
-  pub seen : IfSome (configured_for S (coordinator e) before) (IsSeen S before (coordinator e) members)
+  -- where the trace tells the record that its coordinator had as the tick began
+  pub seen : IfSome (configured_for S (coordinator e) (before_tick (coordinator e) before)) (IsSeen S before (coordinator e) members)
   pub least : slice_get (nodes_of members) 0 ≡ Some (coordinator e)
-  pub reason : has_reason (coordinator e) members before (member_of (coordinator e) before) ≡ true
+  pub reason :
+      has_reason (coordinator e) members (before_tick (coordinator e) before) (member_of (coordinator e) (before_tick (coordinator e) before)) ≡ true
 
 -- ---- results of seizing a device, in the attempt e, and what shows each
 

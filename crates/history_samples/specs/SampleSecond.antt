@@ -3,13 +3,15 @@ use Rattle.std.specs.Prelude.{ℕ, List, [], ◌∷◌, replicate, Some}
 use Rattle.cl_base.specs.declared.header.Header.{Header}
 use Rattle.cl_base.specs.declared.header.DeviceKind.TheVariants.{Quorum, Server}
 use Rattle.cl_base.specs.declared.header.Version.TheVariants.{Two}
+use Rattle.quorum_votes.specs.Tables.{VoteTable}
 use Rattle.quorum_votes.specs.declared.state.NodeState.TheVariants.{Voting, Unconfigured}
 use Rattle.schedule_text.specs.declared.event.Event.TheVariants as event
 use Rattle.status_report.specs.declared.device_entry.WriteRefusal.TheVariants as refusal
 use Rattle.status_report.specs.declared.schedule_entry.SkipCause.TheVariants as skip
 use Rattle.history.specs.Moment.{Moment}
+use Rattle.history_samples.specs.SampleAmnesia.{create_group}
 use Rattle.history_samples.specs.SampleNames as name
-use Rattle.history.specs.Trace.{up, ticked, saved, sent, delivered, refused, attempt, ended_foreign, skipped, served}
+use Rattle.history.specs.Trace.{up, ticked, saved, sent, delivered, refused, attempt, member, propose, ack, ended_foreign, skipped, served}
 use Rattle.history.specs.Setting.{Setting}
 use Rattle.history_samples.specs.SampleOneNode.{line_of}
 use Rattle.history_samples.specs.SampleSplit as split
@@ -35,6 +37,22 @@ attempt_of members = attempt 65 members ∷ saved 1 ∷ ticked 1 ∷ line_of (ev
 -- node 2, which is not configured, begins one alone, or with node 1 that it heard
 abbrev pub attempt_alone : List Moment
 attempt_alone = attempt 66 2 ∷ saved 2 ∷ ticked 2 ∷ line_of (event.Tick 2) ∷ up 2 ∷ booted
+
+-- Both nodes are configured; with the first update node 1 alone is.
+abbrev pub votes_until : List (List ℕ) → VoteTable
+votes_until [] = record { nodes = Voting ∷ Voting ∷ replicate 30 Unconfigured; devices = [] }
+votes_until (words ∷ later) = record { nodes = Voting ∷ replicate 31 Unconfigured; devices = [] }
+
+abbrev pub leaving : Setting
+leaving = record growing { votes = votes_until }
+
+-- In its tick node 1, alone in its membership, commits that update first, and then begins an attempt, with node 2 or without.
+abbrev pub attempt_behind_an_update : ℕ → List Moment
+attempt_behind_an_update members =
+    attempt 129 members ∷ saved 1 ∷ ack 65 1 create_group ∷ saved 1 ∷ propose 65 1 create_group ∷ ticked 1 ∷ line_of (event.Tick 1) ∷ delivered 1 2 1 ∷ sent 1 2 1 name.Heartbeat [] ∷ up 2 ∷ alone
+  where
+    alone : List Moment
+    alone = member 1 65 ∷ attempt 65 1 ∷ booted
 
 -- node 1 sends a Heartbeat to node 2, and node 2, which heard it, to node 1
 abbrev pub beat_to_another : List Moment

@@ -516,7 +516,7 @@ pub fn causes_at_devices()
 {}
 
 /// The second version: a node that the header does not configure holds nothing valid at first, is seen by none that is configured, begins no
-/// attempt alone, and is foreign to an attempt; a server takes no write; a client's request wants the president.
+/// attempt alone, and is foreign to an attempt; whom an attempt has is settled as the tick begins; a server takes no write; a client's request wants the president.
 #[tactic(auto, unfolding(cl_base::specs::Sets::has, wire::specs::Reads::number_at, wire::specs::Reads::byte_at, wire::specs::Reads::truth_at, wire::specs::Reads::node_at, wire::specs::Reads::text_at, wire::specs::Reads::devices_at, wire::specs::Reads::items_at, wire::specs::Reads::list_at, wire::specs::Reads::at_most_one_at, wire::specs::Reads::kind_at, wire::specs::Reads::promise_at, wire::specs::Reads::body_at, wire::specs::Reads::message_at, wire::specs::Reads::whole_of))]
 pub fn second_version()
     ensures configured_at_first { validity second.one_of_two 1 1 [] ≡ Valid }
@@ -524,6 +524,8 @@ pub fn second_version()
     ensures attempt_alone { OfNewest (HasCause second.growing) (second.attempt_of 1) }
     ensures attempt_with_another { OfNewest (HasCause second.growing) (second.attempt_of 3) → ⊥ }
     ensures attempt_of_the_unconfigured { OfNewest (HasCause second.growing) second.attempt_alone → ⊥ }
+    ensures attempt_as_the_tick_began { OfNewest (HasCause second.leaving) (second.attempt_behind_an_update 3) }
+    ensures attempt_as_it_is_configured { OfNewest (HasCause second.leaving) (second.attempt_behind_an_update 1) → ⊥ }
     ensures beat_to_the_heard { OfNewest (HasCause second.growing) second.beat_to_the_heard }
     ensures beat_to_another { OfNewest (HasCause second.growing) second.beat_to_another → ⊥ }
     ensures foreign { OfNewest (HasCause second.growing) second.foreign }

@@ -7,7 +7,7 @@ use Rattle.cmm_attempt.proofs.Basics.{if_either}
 use Rattle.heartbeats.specs.Peers.{peer_in}
 use Rattle.heartbeats.specs.State.{State}
 use Rattle.heartbeats.specs.declared.due.Membership.{Membership}
-use Rattle.history.specs.Attempts.{age_of, configured_for, last_heartbeat}
+use Rattle.history.specs.Attempts.{age_of, before_tick, configured_for, last_heartbeat}
 use Rattle.history.specs.Letters.{arrived}
 use Rattle.history.specs.Moment.{Moment, Told}
 use Rattle.history.specs.Order.{under_way}
@@ -32,7 +32,7 @@ use Rattle.world_model.specs.Sends.{is_sent, name_of}
 use Rattle.run_messages.specs.Outputs.{NoBeat}
 use Rattle.run_attempts.specs.Heard.{AgeSo, BeatsSo, NearSo, NodeSo, beat_told}
 use Rattle.run_attempts.specs.Judged.{AllJudged, InTick, IsSetOf, Judged, SeatTold}
-use Rattle.run_attempts.specs.Laws.{beat_age_of, before_tick}
+use Rattle.run_attempts.specs.Laws.{beat_age_of}
 use Rattle.run_attempts.proofs.Mild.{AreMild, IsMildLine}
 
 -- ---- moments that tell the same of what node k has heard

@@ -14,7 +14,7 @@ use Rattle.heartbeats.specs.State.{State}
 use Rattle.heartbeats.specs.Views.{is_in_view, view_of}
 use Rattle.heartbeats.specs.declared.due.Membership.{Membership}
 use Rattle.heartbeats.specs.declared.peer.Peer.{Peer}
-use Rattle.history.specs.Attempts.{age_of, breaks as breaks_told, configured_for, has_reason, is_recent, last_heartbeat, sees}
+use Rattle.history.specs.Attempts.{age_of, before_tick, breaks as breaks_told, configured_for, has_reason, is_recent, last_heartbeat, sees}
 use Rattle.history.specs.Moment.{Moment}
 use Rattle.history.specs.Setting.{Setting, coordinator, nodes_of}
 use Rattle.history.specs.Trace.{saved}
@@ -23,7 +23,7 @@ use Rattle.node_model.specs.declared.node.UpNode.{UpNode}
 use Rattle.schedule_text.specs.declared.event.Event.TheVariants.{Tick}
 use Rattle.run_attempts.specs.Heard.{AgeSo, BeatsSo, NearSo, beat_of, beat_told}
 use Rattle.run_attempts.specs.Judged.{InTick, IsSetOf, SeatTold}
-use Rattle.run_attempts.specs.Laws.{BeginsSo, SeesMembers, beat_age_of, before_tick, hears}
+use Rattle.run_attempts.specs.Laws.{BeginsSo, SeesMembers, beat_age_of, hears}
 use Rattle.run_attempts.specs.Steps.{IsDue}
 use Rattle.run_attempts.proofs.Alike.{tick_stays}
 use Rattle.run_attempts.proofs.Sets.{all_numbers, all_of_all, any_number, has_where, least_first}

@@ -6,7 +6,7 @@ use Rattle.cmm_attempt.proofs.Basics.{false_true}
 use Rattle.cmm_member.specs.Records.{NodeRecord}
 use Rattle.heartbeats.specs.Peers.{heard}
 use Rattle.device_queue.specs.Queue.{begins_plainly, due_device, next_of}
-use Rattle.history.specs.Attempts.{age_of, configured_for, last_heartbeat}
+use Rattle.history.specs.Attempts.{age_of, before_tick, configured_for, last_heartbeat}
 use Rattle.history.specs.Letters.{arrived}
 use Rattle.history.specs.Moment.{Moment}
 use Rattle.history.specs.Order.{under_way}
@@ -47,7 +47,7 @@ use Rattle.wire.specs.declared.message.Body.TheVariants as body
 use Rattle.wire.specs.declared.message.Message.{Message}
 use Rattle.run_attempts.specs.Heard.{BeatsSo, NodeSo, is_beat}
 use Rattle.run_attempts.specs.Judged.{AllJudged, InTick, IsSetOf, SeatTold}
-use Rattle.run_attempts.specs.Laws.{beat_age_of, before_tick}
+use Rattle.run_attempts.specs.Laws.{beat_age_of}
 use Rattle.run_attempts.specs.Steps.{IsCalm, IsDue, Never}
 use Rattle.run_attempts.proofs.Ages.{beats_boot, beats_tick, if_false, if_true, not_same, same_self}
 use Rattle.run_attempts.proofs.Alike.{SameHeard, beats_stay, heard_then, passing_alike, mild_judged, tick_stays}

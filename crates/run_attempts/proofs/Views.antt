@@ -112,12 +112,12 @@ entries_same : (seat : Seat) (entries : EntryList) → membership_of (with_state
 entries_same (Forming s) entries = refl
 entries_same (Member s) entries = refl
 
-change_seat : (c : Cluster) (me : ℕ) (x : UpNode) (change : Change) → StaidChange change → membership_of (changed c me x change).seat ≡ membership_of x.seat
+pub change_seat : (c : Cluster) (me : ℕ) (x : UpNode) (change : Change) → StaidChange change → membership_of (changed c me x change).seat ≡ membership_of x.seat
 change_seat c me x (Proposes s p text) h = entries_same x.seat (with_next (record_of x).entries text)
 change_seat c me x (Acks s p q left text) h = entries_same x.seat (all_committed (record_of x).entries)
 change_seat c me x _ h = absurd h
 
-act_seat : (c : Cluster) (me : ℕ) (x : UpNode) (a : Act) → StaidAct a → membership_of (acted c me x a).seat ≡ membership_of x.seat
+pub act_seat : (c : Cluster) (me : ℕ) (x : UpNode) (a : Act) → StaidAct a → membership_of (acted c me x a).seat ≡ membership_of x.seat
 act_seat c me x Ticks h = absurd h
 act_seat c me x (Hears from b) h = absurd h
 act_seat c me x (Makes change) h = change_seat c me x change h
@@ -126,12 +126,12 @@ act_seat c me x (Queues a d kind) h =
     (record x { tasks = after_seize x.tasks d (seizing.begun kind a.plan.epoch a.plan.members me c.id (has (record_of x).valid d)) }) x refl refl
 act_seat c me x _ h = refl
 
-staid_change : (P : Wish) (x : UpNode) (change : Change) → StaidChange change → ChangeSo P x change
+pub staid_change : (P : Wish) (x : UpNode) (change : Change) → StaidChange change → ChangeSo P x change
 staid_change P x (Proposes s p text) h = tt
 staid_change P x (Acks s p q left text) h = tt
 staid_change P x _ h = absurd h
 
-staid_act : (P : Wish) (x : UpNode) (a : Act) → StaidAct a → ActSo P x a
+pub staid_act : (P : Wish) (x : UpNode) (a : Act) → StaidAct a → ActSo P x a
 staid_act P x Ticks h = absurd h
 staid_act P x (Hears from b) h = absurd h
 staid_act P x (Makes change) h = staid_change P x change h
@@ -156,7 +156,7 @@ leading_so P c me x p members h =
     if_either (GoesSo P c me x) (nat_lt (promised_of x) p) (Keeps (Leads p members) (cuts.begun_course c me y (cuts.first_turn c me x p members))) Stops
     (h, calm_goes P c me y (cuts.begun_course c me y (cuts.first_turn c me x p members)) (begun_calm c me y (cuts.first_turn c me x p members))) tt
 
-forming_so : (P : Wish) (c : Cluster) (me : ℕ) (x : UpNode) (o : Option ℕ) → ((members : ℕ) → o ≡ Some members → P x (next_epoch me x) members) → GoesSo P c me x (cuts.forming_course c me x o)
+pub forming_so : (P : Wish) (c : Cluster) (me : ℕ) (x : UpNode) (o : Option ℕ) → ((members : ℕ) → o ≡ Some members → P x (next_epoch me x) members) → GoesSo P c me x (cuts.forming_course c me x o)
 forming_so P c me x None h = tt
 forming_so P c me x (Some members) h = leading_so P c me x (next_epoch me x) members (h members refl)
 

@@ -2,14 +2,14 @@
 use Rattle.std.specs.Prelude.{ℕ, ◌≡◌, ◌≤◌, Bool, List, Option, None, Some, IfSome}
 use Rattle.cl_base.specs.Sets.{has}
 use Rattle.heartbeats.specs.declared.due.Membership.{Membership}
-use Rattle.history.specs.Attempts.{configured_for, last_heartbeat}
+use Rattle.history.specs.Attempts.{before_tick, configured_for, last_heartbeat}
 use Rattle.history.specs.Letters.{arrived}
 use Rattle.history.specs.Member.{member_of, members_of}
 use Rattle.history.specs.Moment.{Moment}
 use Rattle.history.specs.Order.{Always, under_way}
 use Rattle.history.specs.Setting.{Setting}
 use Rattle.schedule_text.specs.declared.event.Event.TheVariants.{Tick}
-use Rattle.run_attempts.specs.Laws.{BeatIsDue, BeatsInTick, Begins, before_tick}
+use Rattle.run_attempts.specs.Laws.{BeatIsDue, BeatsInTick, Begins}
 
 pub record Judged (S : Setting) (before : List Moment) (x : Moment) : Type 0 where
   pub in_tick : BeatsInTick before x

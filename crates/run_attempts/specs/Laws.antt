@@ -3,13 +3,13 @@ use Rattle.std.specs.Prelude.{ℕ, ◌+◌, ◌≡◌, ◌==◌, ◌&&◌, ◌||
 use Rattle.std.specs.List.{list_all, list_any}
 use Rattle.cl_base.specs.Limits.{most_nodes}
 use Rattle.cl_base.specs.Sets.{has}
-use Rattle.history.specs.Attempts.{IsBeat, configured_for, has_reason, is_recent, sees}
+use Rattle.history.specs.Attempts.{IsBeat, before_tick, configured_for, has_reason, is_recent, sees}
 use Rattle.history.specs.Letters.{is_letter, letter_of, passes}
 use Rattle.history.specs.Member.{member_of, members_of}
 use Rattle.history.specs.Moment.{Moment}
 use Rattle.history.specs.Names as name
 use Rattle.history.specs.Names.{Name, named}
-use Rattle.history.specs.Order.{Always, before_last, under_way}
+use Rattle.history.specs.Order.{Always, under_way}
 use Rattle.history.specs.Seizing.{is_attempt}
 use Rattle.history.specs.Setting.{Setting, all_to, coordinator, nodes_of}
 use Rattle.history.specs.Trace.{attempt, delivered, sent, ticked, up}
@@ -47,14 +47,6 @@ BeatsAreDueInEachRun = OfEachRunIn (λ S moments. Always (BeatIsDue S) moments)
 
 -- An attempt begins in a tick of its coordinator, which is the least of its members. The members are those that it saw as the tick began: what is
 -- committed in the same tick, before the attempt begins, changes them no more.
-
-abbrev pub is_tick_of : ℕ → Moment → Bool
-is_tick_of c (ticked n) = n == c
-is_tick_of c _ = false
-
--- what stood before the last tick of c
-abbrev pub before_tick : ℕ → List Moment → List Moment
-before_tick c before = before_last (is_tick_of c) before
 
 -- how many ticks of c ago a Heartbeat of m was last delivered to it, since it went up
 abbrev pub beat_age_of : ℕ → ℕ → List Moment → Option ℕ

@@ -3,6 +3,9 @@ pub mod Same
 pub mod Walk
 pub mod Lists
 pub mod Single
+pub mod Safe
+pub mod Alone
+pub mod Governing
 pub mod Begins
 pub mod Steps
 pub mod Plain

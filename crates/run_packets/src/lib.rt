@@ -29,7 +29,7 @@ pub fn plain_views_where_none_is_foreign()
     ensures { PlainViewsWhereNoneIsForeign }
 {}
 
-/// A node that is not configured begins no attempt alone, unless it saved something else in the same tick before.
+/// A node that is not configured as its tick begins begins no attempt alone.
 pub fn none_begins_alone_in_each_run()
     ensures { NoneBeginsAloneInEachRun }
 {}
@@ -115,8 +115,8 @@ pub fn views_are_told_in_each_run()
     order_laws::told_cycles_have_names();
 }
 
-/// An attempt begins in a tick of its coordinator, which is the least of its members; these are the nodes of the header that it sees, and more than itself
-/// unless it is configured or saved something before in the tick; and as the tick began it had a reason.
+/// An attempt begins as `history` has it (`IsWanted`): in a tick of its coordinator, which is the least of its members; these are the nodes of the header
+/// that it sees, and more than itself unless it is configured, by the record that it had as the tick began; and then it had a reason.
 pub fn attempts_begin_as_wanted()
     ensures { AttemptsBeginAsWanted }
 {

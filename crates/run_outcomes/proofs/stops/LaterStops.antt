@@ -8,7 +8,7 @@ use Rattle.cl_base.specs.declared.method.Outcome as method
 use Rattle.cl_base.specs.declared.packet.DropCause.{DropCause}
 use Rattle.cmm_attempt.proofs.Basics.{if_either}
 use Rattle.history.specs.Attempts as attempts
-use Rattle.history.specs.Attempts.{configured_for, has_reason, is_recent, sees, view_of}
+use Rattle.history.specs.Attempts.{IsSeen, IsWanted, before_tick, configured_for, has_reason, is_recent, sees, view_of}
 use Rattle.history.specs.Member as history
 use Rattle.history.specs.Member.{member_of}
 use Rattle.history.specs.Moment.{Moment}
@@ -52,8 +52,7 @@ use Rattle.run_history.specs.Happenings.{IsNode, Speaks, Takes, given_by, happen
 use Rattle.run_history.specs.Scenes.{Scene, dropped_so, passing, posting, sent_as, telling, with_links}
 use Rattle.run_history.proofs.Idle.{if_true, passing_append}
 use Rattle.run_history.proofs.Lists.{both}
-use Rattle.run_packets.specs.admitted.Laws.{AttemptsBeginAsWanted, BeginsAsWanted, SeesHere, WantedHere}
-use Rattle.run_attempts.specs.Laws.{before_tick}
+use Rattle.run_packets.specs.admitted.Laws.{AttemptsBeginAsWanted, BeginsAsHistory}
 use Rattle.run_downs.proofs.Courses.{GoesFine}
 use Rattle.run_outcomes.specs.stops.Courses.{Lead, first_said, lead_at}
 use Rattle.run_outcomes.specs.stops.Known.{AreStill, IsLed, IsStillOut, StillOn, Traced}
@@ -99,17 +98,17 @@ if_some_with (Some test) P Q f h = f test h
 -- the lines go on from a tick of node n to the save before its attempt
 led_by : (S : Setting) (n p members : ℕ) (start ms vs : List Moment) → configured_for S n ms ≡ configured_for S n start → member_of n ms ≡ member_of n start → ((e : ℕ) → history.members_of e ms ≡ history.members_of e start)
     → ((m : ℕ) → attempts.last_heartbeat n m ms ≡ attempts.last_heartbeat n m start) → ((m : ℕ) → attempts.age_of n m vs ≡ attempts.age_of n m ms) → before_tick n vs ≡ start → under_way vs ≡ Some (event.Tick n)
-    → WantedHere S (saved n ∷ vs) p members → IsLed S n members ms
+    → IsWanted S (saved n ∷ vs) p members → IsLed S n members ms
 led_by S n p members start ms vs conf seat tried beats ages tick way b =
     let own : coordinator p ≡ n = same_tick (coordinator p) n (sym b.in_a_tick ∙ way) in
-    let view : IfSome (configured_for S n (before_tick n vs)) (SeesHere S (saved n ∷ vs) n members) =
-    subst (λ j. IfSome (configured_for S j (before_tick j (saved n ∷ vs))) (SeesHere S (saved n ∷ vs) j members)) own b.seen in
+    let view : IfSome (configured_for S n (before_tick n vs)) (IsSeen S (saved n ∷ vs) n members) =
+    subst (λ j. IfSome (configured_for S j (before_tick j (saved n ∷ vs))) (IsSeen S (saved n ∷ vs) j members)) own b.seen in
     let why : has_reason n members (before_tick n vs) (member_of n (before_tick n vs)) ≡ true =
     subst (λ j. has_reason j members (before_tick j (saved n ∷ vs)) (member_of j (before_tick j (saved n ∷ vs))) ≡ true) own b.reason in
     record {
       least = b.least ∙ ap (λ j. Some j) own;
       view = subst (λ o. IfSome o (λ configured. nodes_of members ≡ view_of S.header.nodes configured n ms)) (ap (λ z. configured_for S n z) tick ∙ sym conf)
-          (if_some_with (configured_for S n (before_tick n vs)) (SeesHere S (saved n ∷ vs) n members) (λ configured. nodes_of members ≡ view_of S.header.nodes configured n ms)
+          (if_some_with (configured_for S n (before_tick n vs)) (IsSeen S (saved n ∷ vs) n members) (λ configured. nodes_of members ≡ view_of S.header.nodes configured n ms)
           (λ configured is. is.view ∙ agreeing (sees configured n (saved n ∷ vs)) (sees configured n ms) (all_to S.header.nodes) (λ m. ap (λ o. (m == n) || (is_recent o && (configured m || not (configured n)))) (ages m))) view);
       reason = subst (λ o. has_reason n members ms o ≡ true) (sym seat)
           (same_reason n members ms start (member_of n start) tried beats ∙ subst (λ z. has_reason n members z (member_of n z) ≡ true) tick why);
@@ -127,7 +126,7 @@ pub led_where_it_saves : AttemptsBeginAsWanted → (h : Header) (cells : ℕ) (s
 led_where_it_saves law h cells s n now ends x l nodes few small traced is_node in_time at fine is can still =
     led_by S n l.epoch l.members start (ticked n ∷ s.moments) vs refl refl (λ e. refl) (λ m. refl) (λ m. (on.alike.heard n).ages m)
     (on.alike.ticks n ∙ if_true (n == n) start _ (same_self n)) on.alike.way
-    (at_attempt (BeginsAsWanted S) n l.epoch l.members os led.more u (subst (λ given. Always (BeginsAsWanted S) (passing n given u).moments) (sym all) begins))
+    (at_attempt (BeginsAsHistory S) n l.epoch l.members os led.more u (subst (λ given. Always (BeginsAsHistory S) (passing n given u).moments) (sym all) begins))
   where
     c : Cluster
     c = first_cluster h
@@ -161,8 +160,8 @@ led_where_it_saves law h cells s n now ends x l nodes few small traced is_node i
         traced_more h cells second (Takes n now ends input.Tick)
         (traced_more h cells first (Speaks (event.Tick n)) (traced_more h cells s (Speaks (event.CrashAt n many choice.Old)) traced tt tt) tt tt) (is_node, tt, in_time, refl, tt, refl) tt
 
-    begins : Always (BeginsAsWanted S) third.moments
-    begins = subst (λ (w : Scene). Always (BeginsAsWanted S) w.moments) traced_so.is (law h cells traced_so.happenings nodes few small traced_so.may traced_so.boots)
+    begins : Always (BeginsAsHistory S) third.moments
+    begins = subst (λ (w : Scene). Always (BeginsAsHistory S) w.moments) traced_so.is (law h cells traced_so.happenings nodes few small traced_so.may traced_so.boots)
 
     disk : DiskState
     disk = armed (s.nodes.disk n) many (left_by choice.Old)

@@ -2,13 +2,13 @@
 use Rattle.std.specs.Prelude.{ℕ, ◌≡◌, ◌≤◌, Bool, false, List, [], ◌∷◌, Option, None, Some, IfSome}
 use Rattle.std.proofs.Common.{refl, sym}
 use Rattle.cl_base.specs.declared.header.Header.{Header}
-use Rattle.history.specs.Attempts.{configured_for, view_of}
+use Rattle.history.specs.Attempts.{IsSeen, before_tick, configured_for, view_of}
 use Rattle.history.specs.Moment.{Moment, Told}
 use Rattle.history.specs.Order.{Always}
 use Rattle.history.specs.Setting.{Setting, coordinator, nodes_of}
 use Rattle.history_setting.specs.Settings.{setting_of}
 use Rattle.run_attempts.proofs.Runs.{attempts_begin_in_each_run}
-use Rattle.run_attempts.specs.Laws.{Begins, before_tick}
+use Rattle.run_attempts.specs.Laws.{Begins}
 use Rattle.status_report.specs.declared.attempt_entry.AttemptEntry.TheVariants as attempt_entry
 use Rattle.status_report.specs.declared.entry.Entry.TheVariants as entry
 use Rattle.node_model.specs.declared.cluster.Cluster.{Cluster}
@@ -29,7 +29,7 @@ use Rattle.run_packets.proofs.admitted.PrepareRuns.{prepares_are_native}
 use Rattle.order_laws.specs.Laws.{ToldCyclesHaveNames}
 use Rattle.run_packets.proofs.admitted.Runs.{Judgement, answers_are_native, both_come, installs_are_native, promises_are_native, readies_are_native, seizeds_are_native}
 use Rattle.run_packets.proofs.admitted.TextRuns.{requests_are_native}
-use Rattle.run_packets.specs.admitted.Laws.{AttemptsAreOfTheHeader, AttemptsBeginAsWanted, BeginsAsWanted, HeaderViewIs, IsNativeAs, IsOfHeader, NoneIsForeignInEachRun, SeesHere, ViewsAreToldInEachRun, is_answer, is_install, is_prepare, is_promise, is_ready, is_request, is_seized}
+use Rattle.run_packets.specs.admitted.Laws.{AttemptsAreOfTheHeader, AttemptsBeginAsWanted, BeginsAsHistory, HeaderViewIs, IsNativeAs, IsOfHeader, NoneIsForeignInEachRun, ViewsAreToldInEachRun, is_answer, is_install, is_prepare, is_promise, is_ready, is_request, is_seized}
 
 both_of_each : (P Q R : Judgement) → ((c : Cluster) (n : ℕ) (node : Node) (b : Body) → P c n node b → Q c n node b → R c n node b) → OfEachPacket P → OfEachPacket Q → OfEachPacket R
 both_of_each P Q R f p q h cells hs nodes few small may boots =
@@ -136,19 +136,19 @@ both_so : (o : Option (ℕ → Bool)) (P Q R : (ℕ → Bool) → Type 0) → ((
 both_so None P Q R f h k = tt
 both_so (Some test) P Q R f h k = f test h k
 
-one_wanted : (S : Setting) (before : List Moment) (x : Moment) → Begins S before x → BeginsNotAlone S before x → HeaderViewIs S before x → BeginsAsWanted S before x
+one_wanted : (S : Setting) (before : List Moment) (x : Moment) → Begins S before x → BeginsNotAlone S before x → HeaderViewIs S before x → BeginsAsHistory S before x
 one_wanted S before (Told (entry.Attempt (attempt_entry.Begun e members))) b alone view =
     let c : ℕ = coordinator e in
     record {
       in_a_tick = b.in_a_tick;
-      seen = both_so (configured_for S c (before_tick c before)) (λ configured. nodes_of members ≡ view_of S.header.nodes configured c before) (NotAlone before c members) (SeesHere S before c members)
+      seen = both_so (configured_for S c (before_tick c before)) (λ configured. nodes_of members ≡ view_of S.header.nodes configured c before) (NotAlone c members) (IsSeen S before c members)
           (λ configured v a. record { view = v; not_alone = a }) view alone;
       least = b.least;
       reason = b.reason;
     }
 one_wanted S before _ b alone view = tt
 
-all_wanted : (S : Setting) (ms : List Moment) → Always (Begins S) ms → Always (BeginsNotAlone S) ms → Always (HeaderViewIs S) ms → Always (BeginsAsWanted S) ms
+all_wanted : (S : Setting) (ms : List Moment) → Always (Begins S) ms → Always (BeginsNotAlone S) ms → Always (HeaderViewIs S) ms → Always (BeginsAsHistory S) ms
 all_wanted S [] b alone view = tt
 all_wanted S (x ∷ before) b alone view = (one_wanted S before x b.0 alone.0 view.0, all_wanted S before b.1 alone.1 view.1)
 

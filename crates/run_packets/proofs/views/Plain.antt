@@ -3,11 +3,10 @@ use Rattle.std.specs.Prelude.{ℕ, ◌+◌, ◌≡◌, ◌≤◌, ◌==◌, ◌&
 use Rattle.std.specs.List.{AllByRecursion, filter}
 use Rattle.std.proofs.Common.{refl, ap, subst, ◌∙◌}
 use Rattle.cl_base.specs.Limits.{most_nodes}
-use Rattle.history.specs.Attempts.{age_of, configured_for, is_recent, sees}
+use Rattle.history.specs.Attempts.{age_of, before_tick, configured_for, is_recent, sees}
 use Rattle.history.specs.Moment.{Moment, Told}
 use Rattle.history.specs.Order.{Always}
 use Rattle.history.specs.Setting.{Setting, all_to, coordinator, nodes_of}
-use Rattle.run_attempts.specs.Laws.{before_tick}
 use Rattle.status_report.specs.declared.attempt_entry.AttemptEntry.TheVariants as attempt
 use Rattle.status_report.specs.declared.entry.Entry.TheVariants as entry
 use Rattle.status_report.specs.declared.node_entry.NodeEntry.TheVariants as note

@@ -16,11 +16,12 @@ use Rattle.history.specs.Setting.{Setting}
 use Rattle.history.specs.Trace.{delivered}
 use Rattle.history_setting.specs.Settings.{setting_of}
 use Rattle.interconnect.specs.Links as links
-use Rattle.interconnect.specs.Links.{Packet, sending}
+use Rattle.interconnect.specs.Links.{sending}
 use Rattle.machine_base.specs.Put.{put}
 use Rattle.machine_base.proofs.Puts.{put_here, put_there, same_or_not}
 use Rattle.membership_machine.specs.Invariant.{Holds}
 use Rattle.membership_machine.specs.State.{Memberships}
+use Rattle.node_widths.specs.Widths.{NodeFits, UpFits}
 use Rattle.node_model.specs.Members.{beat_in}
 use Rattle.node_model.specs.Steps.{Outcome, stepped}
 use Rattle.node_model.specs.declared.cluster.Cluster.{Cluster}
@@ -73,6 +74,7 @@ use Rattle.world_model.specs.First.{first_cluster}
 use Rattle.run_packets.specs.views.Heard.{AllViews, Judged, NodeIs}
 use Rattle.run_packets.specs.views.Laws.{Account, BeginsNotAlone, EachRunHasAnAccount, IsAccountOf, NoneBeginsAloneInEachRun, PlainViewsWhereNoneIsForeign, TellsHere, ViewIs, ViewsOfEachRun, is_foreign_to}
 use Rattle.run_packets.proofs.views.Accounts.{account_of, is_account}
+use Rattle.run_packets.proofs.views.Governing.{governs_so}
 use Rattle.run_packets.proofs.views.Ages.{beats_hear, beats_miss, elsewhere, refused}
 use Rattle.run_packets.proofs.views.Plain.{all_plain}
 use Rattle.run_packets.proofs.views.Same.{SameAges, node_stays}
@@ -185,11 +187,15 @@ plain_ready S f c n (Up x) (input.Reported r good) ms plain h tick = h
 plain_ready S f c n (Up x) (input.Client name client port) ms plain h tick = h
 
 tick_ready : (h : Header) (s : Scene) (n : ℕ) (x : UpNode) → KnownScene (first_cluster h) s → s.nodes.node n ≡ Up x → TickReady (setting_of h) (first_cluster h) n x s.moments
-tick_ready h s n x a up y same =
+tick_ready h s n x a up =
     let c : Cluster = first_cluster h in
     let disk : NodeRecord = (s.nodes.disk n).kept in
     let tied : NodeTied c a.stage.machine n disk (Up x) = subst (NodeTied c a.stage.machine n disk) up (a.stage.stands n).tied in
-    configured_known h n s.moments disk y (a.at n).record_so (same ∙ sym (disk_own c a.stage.machine n disk x tied))
+    let fits : UpFits c n x = subst (NodeFits c n) up (a.stage.fits.nodes n) in
+    record {
+      known = λ y same. configured_known h n s.moments disk y (a.at n).record_so (same ∙ sym (disk_own c a.stage.machine n disk x tied));
+      governs = governs_so c a.stage.machine n disk x.seat x.presidency x.attempt a.stage.holds fits.state.record_fits.members tied.0 tied.1;
+    }
 
 -- ---- a packet
 

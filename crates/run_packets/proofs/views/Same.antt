@@ -1,11 +1,12 @@
 -- What is told of ages and ticks stays while a node tells of other things.
-use Rattle.std.specs.Prelude.{ℕ, ◌≡◌, ◌==◌, ◌||◌, Bool, true, false, List, [], ◌∷◌, Option, None, Some}
+use Rattle.std.specs.Prelude.{ℕ, ◌≡◌, List, [], ◌∷◌, Option, None, Some}
 use Rattle.std.specs.List.{AllByRecursion}
 use Rattle.std.proofs.Common.{refl, sym, subst, ◌∙◌}
 use Rattle.cl_base.specs.declared.packet.DropCause.{DropCause}
 use Rattle.cmm_attempt.proofs.Basics.{if_either}
 use Rattle.heartbeats.specs.Peers.{peer_in}
 use Rattle.heartbeats.specs.State.{State}
+use Rattle.history.specs.Attempts.{before_tick}
 use Rattle.history.specs.Moment.{Moment, Told}
 use Rattle.history.specs.Setting.{Setting}
 use Rattle.interconnect.specs.Links as links
@@ -15,7 +16,6 @@ use Rattle.node_model.specs.declared.node.Node.TheVariants.{Down, Up}
 use Rattle.node_model.specs.declared.output.Output.{Output}
 use Rattle.node_model.specs.declared.output.Output.TheVariants.{Sends, Tells}
 use Rattle.run_attempts.proofs.Mild.{AreMild, IsMildLine}
-use Rattle.run_attempts.specs.Laws.{before_tick}
 use Rattle.run_history.specs.Scenes.{Scene, dropped_so, passing, posting, sent_as, telling, with_links}
 use Rattle.status_report.specs.declared.attempt_entry.AttemptEntry.TheVariants as attempt
 use Rattle.status_report.specs.declared.entry.Entry.{Entry}
@@ -26,7 +26,7 @@ use Rattle.wire.specs.Spelling.{spelling}
 use Rattle.wire.specs.declared.message.Message.{Message}
 use Rattle.world_model.specs.Sends.{is_sent, name_of}
 use Rattle.run_packets.specs.views.Heard.{AgeIs, AllViews, BeatsAre, Judged, NodeIs}
-use Rattle.run_packets.specs.views.Laws.{Account, has_saved, heard_age_of}
+use Rattle.run_packets.specs.views.Laws.{Account, heard_age_of}
 
 -- ---- moments that tell the same ages of what node k has heard
 
@@ -47,38 +47,31 @@ pub node_stays : (f : Account) (before after : List Moment) (k : ℕ) (node : No
 node_stays f before after k Down same h = tt
 node_stays f before after k (Up x) same h = beats_stay f before after k x.beats same h
 
--- .. and of ticks; what was saved since the last one was saved
+-- .. and of ticks
 pub record Alike (f : Account) (before after : List Moment) : Type 0 where
   pub ages : (k : ℕ) → SameAges f k before after
   pub ticks : (k : ℕ) → before_tick k after ≡ before_tick k before
-  pub saved : (k : ℕ) → has_saved k before ≡ true → has_saved k after ≡ true
 
 pub alike_self : (f : Account) (ms : List Moment) → Alike f ms ms
-alike_self f ms = record { ages = λ k m. refl; ticks = λ k. refl; saved = λ k h. h }
+alike_self f ms = record { ages = λ k m. refl; ticks = λ k. refl }
 
 pub alike_then : (f : Account) (first second third : List Moment) → Alike f first second → Alike f second third → Alike f first third
 alike_then f first second third h i = record {
   ages = λ k. ages_then f k first second third (h.ages k) (i.ages k);
   ticks = λ k. i.ticks k ∙ h.ticks k;
-  saved = λ k is. i.saved k (h.saved k is);
 }
 
 -- ---- lines
-
-or_more : (a b : Bool) → b ≡ true → (a || b) ≡ true
-or_more true b h = refl
-or_more false b h = h
 
 pub told_alike : (f : Account) (e : Entry) (ms : List Moment) → IsMildLine e → Alike f ms (Told e ∷ ms)
 told_alike f (entry.Packet e) ms h = absurd h
 told_alike f (entry.Node m note.Up) ms h = absurd h
 told_alike f (entry.Node m note.Ticked) ms h = absurd h
 told_alike f (entry.Attempt (attempt.Begun e members)) ms h = absurd h
-told_alike f (entry.Node m note.Saved) ms h = record { ages = λ k m. refl; ticks = λ k. refl; saved = λ k is. or_more (m == k) (has_saved k ms) is }
-told_alike f _ ms h = record { ages = λ k m. refl; ticks = λ k. refl; saved = λ k is. is }
+told_alike f _ ms h = record { ages = λ k m. refl; ticks = λ k. refl }
 
 pub begun_alike : (f : Account) (e members : ℕ) (ms : List Moment) → Alike f ms (Told (entry.Attempt (attempt.Begun e members)) ∷ ms)
-begun_alike f e members ms = record { ages = λ k m. refl; ticks = λ k. refl; saved = λ k is. is }
+begun_alike f e members ms = record { ages = λ k m. refl; ticks = λ k. refl }
 
 told_judged : (S : Setting) (f : Account) (e : Entry) (ms : List Moment) → IsMildLine e → Judged S f ms (Told e)
 told_judged S f (entry.Packet e) ms h = absurd h
@@ -109,14 +102,14 @@ passed_then S f first second third h i = record { so = i.so; alike = alike_then 
 
 dropped_passed : (S : Setting) (f : Account) (o : Option (ℕ × DropCause)) (s : Scene) → AllViews S f s.moments → Passed S f s.moments (dropped_so o s).moments
 dropped_passed S f None s so = record { so = so; alike = alike_self f s.moments }
-dropped_passed S f (Some drop) s so = record { so = (record { view = tt; alone = tt }, so); alike = record { ages = λ k m. refl; ticks = λ k. refl; saved = λ k is. is } }
+dropped_passed S f (Some drop) s so = record { so = (record { view = tt; alone = tt }, so); alike = record { ages = λ k m. refl; ticks = λ k. refl } }
 
 posted : (S : Setting) (f : Account) (from to : ℕ) (m : Message) (s : Scene) → AllViews S f s.moments → Passed S f s.moments (posting from to m s).moments
 posted S f from to m s so =
     let o : links.Outcome = sending s.links from to (spelling m) in
     let t : Scene = telling (entry.Packet (packet.Sent s.links.next from to (name_of m.body) (spelling m))) (with_links s o.after) in
     if_either (λ (u : Scene). Passed S f s.moments u.moments) (is_sent s.links m) (sent_as from to m o s) s
-    (passed_then S f s.moments t.moments (dropped_so o.sent.dropped t).moments (record { ages = λ k m. refl; ticks = λ k. refl; saved = λ k is. is })
+    (passed_then S f s.moments t.moments (dropped_so o.sent.dropped t).moments (record { ages = λ k m. refl; ticks = λ k. refl })
     (dropped_passed S f o.sent.dropped t (record { view = tt; alone = tt }, so)))
     (record { so = so; alike = alike_self f s.moments })
 

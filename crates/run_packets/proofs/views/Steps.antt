@@ -1,25 +1,22 @@
 -- A step of a node, by what comes to it.
 use Rattle.std.specs.Prelude.{ℕ, ◌≡◌, ◌≢◌, ◌≤◌, ◌==◌, Bool, true, false, List, [], ◌∷◌, Option, None, Some, IfSome, if◌then◌else◌}
-use Rattle.std.proofs.Common.{refl, sym, ap, subst, ◌∙◌, inl}
+use Rattle.std.proofs.Common.{refl, sym, subst, ◌∙◌}
 use Rattle.cl_base.specs.Limits.{most_nodes}
 use Rattle.cl_base.specs.Numbers.{numbers_to}
-use Rattle.cl_base.specs.declared.header.Version.{Version}
-use Rattle.cl_base.specs.declared.header.Version.TheVariants.{One, Two}
 use Rattle.cl_base.specs.declared.method.Outcome.{Outcome}
 use Rattle.cmm_member.specs.Records.{NodeRecord}
 use Rattle.device_queue.specs.Queue.{begins_plainly, due_device, next_of}
 use Rattle.heartbeats.specs.Peers.{heard}
 use Rattle.heartbeats.specs.Views.{receivers_of}
 use Rattle.heartbeats.specs.declared.due.Membership.{Membership}
-use Rattle.history.specs.Attempts.{configured_for}
+use Rattle.history.specs.Attempts.{before_tick, configured_for}
 use Rattle.history.specs.Moment.{Moment}
 use Rattle.history.specs.Setting.{Setting}
 use Rattle.history.specs.Trace.{ticked, up}
 use Rattle.node_model.specs.Clusters.{first_valid_of}
-use Rattle.config_cache.specs.InForce.{config_under}
-use Rattle.node_model.specs.Configurations.{configured_at, configured_by, configured_under}
+use Rattle.node_model.specs.Configurations.{configured_at}
 use Rattle.node_model.specs.Members.{beat_in, hearing, is_foreign}
-use Rattle.node_model.specs.Seats.{record_of, up_with, version_of}
+use Rattle.node_model.specs.Seats.{record_of, up_with}
 use Rattle.node_model.specs.Steps.{at_second}
 use Rattle.node_model.specs.Ticks.{heartbeat_of, heartbeats_to, later, membership_of, ticked_output}
 use Rattle.node_model.specs.Updates.{request_again}
@@ -46,7 +43,6 @@ use Rattle.run_attempts.proofs.Mild.{again_mild}
 use Rattle.run_attempts.proofs.Views.{calm_goes, tick_so, under_so}
 use Rattle.run_attempts.proofs.Walk.{under_up}
 use Rattle.run_attempts.specs.Judged.{IsSetOf}
-use Rattle.run_attempts.specs.Laws.{before_tick}
 use Rattle.run_attempts.specs.Steps.{IsCalm, IsDue, Never}
 use Rattle.run_history.proofs.Idle.{passing_append}
 use Rattle.run_history.proofs.Lists.{both, mapped}
@@ -61,7 +57,8 @@ use Rattle.wire.specs.declared.message.Message.{Message}
 use Rattle.run_packets.specs.views.Heard.{AllViews, BeatsAre, NodeIs}
 use Rattle.run_packets.specs.views.Laws.{Account, heard_age_of}
 use Rattle.run_packets.proofs.views.Ages.{beats_boot, beats_tick}
-use Rattle.run_packets.proofs.views.Begins.{InTick, TellsConfigured, judges_tick}
+use Rattle.run_packets.proofs.views.Alone.{Governs, KeptWish, both_go, tick_kept}
+use Rattle.run_packets.proofs.views.Begins.{DueWish, InTick, judges_tick}
 use Rattle.run_packets.proofs.views.Same.{AreStill, IsStill, Passed, SameAges, ages_then, beats_stay, mild_still, still_passed}
 use Rattle.run_packets.proofs.views.Walk.{Here, Judges, Went, all_go}
 
@@ -70,8 +67,8 @@ pub record Stepped (S : Setting) (f : Account) (n : ℕ) (before : List Moment) 
   pub own : NodeIs f after n node
   pub others : (k : ℕ) → k ≢ n → SameAges f k before after
 
-went_stepped : (S : Setting) (f : Account) (r : NodeRecord) (n : ℕ) (before : List Moment) (node : Node) (after : List Moment) → Went S f r n before node after → Stepped S f n before node after
-went_stepped S f r n before node after h = record { so = h.so; own = h.node; others = λ k ne. h.alike.ages k }
+went_stepped : (S : Setting) (f : Account) (n : ℕ) (before : List Moment) (node : Node) (after : List Moment) → Went S f n before node after → Stepped S f n before node after
+went_stepped S f n before node after h = record { so = h.so; own = h.node; others = λ k ne. h.alike.ages k }
 
 -- ---- a boot
 
@@ -104,18 +101,17 @@ none_stepped S f n s so = record { so = so; own = tt; others = λ k ne m. refl }
 
 -- ---- a node that is up, to which neither a tick nor a packet comes
 
-never_judges : (S : Setting) (f : Account) (r : NodeRecord) (n : ℕ) → Judges S f r n Never (λ ms. Unit {0})
-never_judges S f r n = record { stays = λ before after alike k. tt; begins_so = λ ms x p members k h kept own wish. absurd wish }
+never_judges : (S : Setting) (f : Account) (n : ℕ) → Judges S f n Never (λ ms. Unit {0})
+never_judges S f n = record { stays = λ before after alike k. tt; begins_so = λ ms x p members k h own wish. absurd wish }
 
 calm_stepped : (S : Setting) (f : Account) (c : Cluster) (n : ℕ) (replies : List Reply) (i : Input) (x : UpNode) (disk : NodeRecord) (k : Course) (s : Scene) → IsCalm k → (let ds : List Doing = under replies k in
     MayAll c n (delivered_by i) (site (Up x) disk) ds → AllSmall ds → AllViews S f s.moments → BeatsAre f s.moments n x.beats
     → Stepped S f n s.moments (after_all c n (site (Up x) disk) ds).node (passing n (given_all c n (site (Up x) disk) ds) s).moments)
 calm_stepped S f c n replies i x disk k s calm may small so h =
     let ds : List Doing = under replies k in
-    let r : NodeRecord = record_of x in
-    went_stepped S f r n s.moments _ _
-    (all_go S f r Never (λ ms. Unit {0}) c n (delivered_by i) (site (Up x) disk) ds s (never_judges S f r n) may small (under_so Never c n replies disk x k (calm_goes Never c n x k calm)) (under_up replies k) tt
-    (record { so = so; node = h; kept = inl refl }))
+    went_stepped S f n s.moments _ _
+    (all_go S f Never (λ ms. Unit {0}) c n (delivered_by i) (site (Up x) disk) ds s (never_judges S f n) may small (under_so Never c n replies disk x k (calm_goes Never c n x k calm)) (under_up replies k) tt
+    (record { so = so; node = h }))
 
 -- ---- a packet
 
@@ -154,9 +150,10 @@ packet_ready f c n now x from b ms h = (λ known. h.0 (sym (second_foreign c n n
 
 -- ---- a tick
 
--- what is configured where a tick comes to node n
-abbrev pub TickReady : Setting → Cluster → ℕ → UpNode → List Moment → Type 0
-TickReady S c n x moments = (y : UpNode) → record_of y ≡ record_of x → IfSome (configured_for S n moments) (IsSetOf (configured_at c y))
+-- what is configured where a tick comes to node n, and how it governs
+pub record TickReady (S : Setting) (c : Cluster) (n : ℕ) (x : UpNode) (moments : List Moment) : Type 0 where
+  pub known : (y : UpNode) → record_of y ≡ record_of x → IfSome (configured_for S n moments) (IsSetOf (configured_at c y))
+  pub governs : Governs n x.seat x.presidency
 
 tick_elsewhere : (f : Account) (n k : ℕ) (ms : List Moment) → k ≢ n → SameAges f k ms (ticked n ∷ ms)
 tick_elsewhere f n k ms ne m = if_false (n == k) _ (heard_age_of f k m ms) (not_same n k (λ e. ne (sym e)))
@@ -168,13 +165,6 @@ heartbeats_still x receivers = mapped IsStill (λ n. Sends n (heartbeat_of x)) (
 output_still : (c : Cluster) (x y : UpNode) → AreStill (ticked_output c x y)
 output_still c x y =
     both IsStill (heartbeats_to y (receivers_of y.beats (configured_at c y))) (request_again x) (heartbeats_still y (receivers_of y.beats (configured_at c y))) (mild_still (request_again x) (again_mild x))
-
-by_version : (v : Version) (c : Cluster) (x y : UpNode) → record_of y ≡ record_of x → configured_by v c y ≡ configured_by v c x
-by_version One c x y same = refl
-by_version Two c x y same = ap (λ (r : NodeRecord). configured_under (config_under c.header r.entries.committed).votes) same
-
-configured_by_record : (c : Cluster) (x : UpNode) → TellsConfigured c (record_of x) (configured_at c x)
-configured_by_record c x y same = by_version (version_of c) c x y same
 
 tick_stepped : (S : Setting) (f : Account) (c : Cluster) (n : ℕ) (ends : Outcome) (replies : List Reply) (x : UpNode) (disk : NodeRecord) (s : Scene) → 1 ≤ n → n ≤ 32
     → (let ds : List Doing = under replies (cuts.tick_course c n ends x) in
@@ -193,17 +183,16 @@ tick_stepped S f c n ends replies x disk s low high may small so h ready =
     let configured : ℕ = configured_at c x in
     let member : Option Membership = membership_of x.seat in
     let began : InTick S n configured t.moments = record {
-      known = subst (λ ms. IfSome (configured_for S n ms) (IsSetOf configured)) (sym (done.alike.ticks n ∙ start)) (ready x refl);
+      known = subst (λ ms. IfSome (configured_for S n ms) (IsSetOf configured)) (sym (done.alike.ticks n ∙ start)) (ready.known x refl);
     } in
-    let r : NodeRecord = record_of x in
-    let here : Here S f r n t.moments (Up y) = record {
+    let here : Here S f n t.moments (Up y) = record {
       so = done.so;
       node = beats_stay f first.moments t.moments n y.beats (done.alike.ages n) (beats_tick f s.moments n configured x.beats h);
-      kept = inl refl;
     } in
-    let went : Went S f r n t.moments (after_all c n (site (Up y) disk) ds).node (passing n more t).moments =
-    all_go S f r (IsDue c configured member) (InTick S n configured) c n None (site (Up y) disk) ds t (judges_tick S f c r n configured member low high (configured_by_record c x)) may.1 small.1
-    (under_so (IsDue c configured member) c n replies disk y rest (tick_so c n ends x)) (under_up replies rest) began here in
+    let went : Went S f n t.moments (after_all c n (site (Up y) disk) ds).node (passing n more t).moments =
+    all_go S f (DueWish c n configured member) (InTick S n configured) c n None (site (Up y) disk) ds t (judges_tick S f c n configured member low high) may.1 small.1
+    (under_so (DueWish c n configured member) c n replies disk y rest (both_go (IsDue c configured member) (KeptWish c n configured member) c n y rest (tick_so c n ends x) (tick_kept c n ends x low high ready.governs)))
+    (under_up replies rest) began here in
     subst (λ (z : Scene). Stepped S f n s.moments (after_all c n (site (Up y) disk) ds).node z.moments) (sym (passing_append n os more s))
     (record {
       so = went.so;
@@ -238,7 +227,7 @@ step_goes S f c n now ends replies (Commanded words) Down disk s low high may sm
 step_goes S f c n now ends replies (Reported r good) Down disk s low high may small so h = none_stepped S f n s so
 step_goes S f c n now ends replies (Client name client port) Down disk s low high may small so h = none_stepped S f n s so
 step_goes S f c n now ends replies Tick (Up x) disk s low high may small so h =
-    tick_stepped S f c n ends replies (at_second now x) disk s low high may.1 small.1 so h.0 (λ y same. h.1 y same)
+    tick_stepped S f c n ends replies (at_second now x) disk s low high may.1 small.1 so h.0 (record { known = λ y same. h.1.known y same; governs = h.1.governs })
 step_goes S f c n now ends replies (Packet from m) (Up x) disk s low high may small so h =
     packet_stepped S f c n ends replies from m (at_second now x) disk s may.1 small.1 so (packet_ready f c n now x from m.body s.moments h)
 step_goes S f c n now ends replies Boot (Up x) disk s low high may small so h = calm_stepped S f c n replies Boot (at_second now x) disk Stops s tt may.1 small.1 so h

@@ -1,24 +1,21 @@
 -- What is proved of each run of the world, as things that happen: no packet that comes is foreign to its receiver, and so each attempt has the nodes
 -- that its coordinator sees.
-use Rattle.std.specs.Prelude.{ℕ, ◌≡◌, ◌≤◌, ◌<◌, ◌^◌, Bool, true, false, List, length, Some, slice_get, IfSome}
+use Rattle.std.specs.Prelude.{ℕ, ◌≡◌, ◌≤◌, ◌<◌, ◌^◌, Bool, true, false, List, length, IfSome}
 use Rattle.std.specs.List.{AllByRecursion}
 use Rattle.cl_base.specs.Limits.{most_devices, most_nodes}
 use Rattle.cl_base.specs.declared.header.Header.{Header}
-use Rattle.history.specs.Attempts.{configured_for, has_reason, view_of}
-use Rattle.history.specs.Member.{member_of}
+use Rattle.history.specs.Attempts.{IsWanted, before_tick, configured_for, view_of}
 use Rattle.history.specs.Moment.{Moment}
-use Rattle.history.specs.Order.{Always, under_way}
+use Rattle.history.specs.Order.{Always}
 use Rattle.history.specs.Setting.{Setting, coordinator, nodes_of}
 use Rattle.history.specs.Trace.{attempt}
 use Rattle.history_setting.specs.Settings.{setting_of}
 use Rattle.node_model.specs.declared.cluster.Cluster.{Cluster}
 use Rattle.node_model.specs.declared.node.Node.{Node}
-use Rattle.run_attempts.specs.Laws.{before_tick}
 use Rattle.run_history.specs.Happenings.{Happening, MayAllHappen, all_happened}
 use Rattle.run_history.specs.Scenes.{first_scene}
 use Rattle.run_packets.specs.native.Laws.{BootsInHeader, OfEachPacket}
-use Rattle.run_packets.specs.views.Laws.{NoneForeign, NotAlone, is_foreign_to}
-use Rattle.schedule_text.specs.declared.event.Event.TheVariants.{Tick}
+use Rattle.run_packets.specs.views.Laws.{NoneForeign, is_foreign_to}
 use Rattle.wire.specs.declared.message.Body.{Body}
 use Rattle.wire.specs.declared.message.Body.TheVariants as body
 use Rattle.world_model.specs.First.{first_cluster}
@@ -119,21 +116,10 @@ AttemptsAreOfTheHeader = OfEachTold IsOfHeader
 abbrev pub ViewsAreToldInEachRun : Type 0
 ViewsAreToldInEachRun = OfEachTold HeaderViewIs
 
--- All that history asks of an attempt that begins (`IsWanted`), with what is configured, and the reason, read where the tick of its coordinator begins.
-pub record SeesHere (S : Setting) (before : List Moment) (c members : ℕ) (configured : ℕ → Bool) : Type 0 where
-  pub view : nodes_of members ≡ view_of S.header.nodes configured c before
-  pub not_alone : NotAlone before c members configured
-
-pub record WantedHere (S : Setting) (before : List Moment) (e members : ℕ) : Type 0 where
-  pub in_a_tick : under_way before ≡ Some (Tick (coordinator e))
-  pub seen : IfSome (configured_for S (coordinator e) (before_tick (coordinator e) before)) (SeesHere S before (coordinator e) members)
-  pub least : slice_get (nodes_of members) 0 ≡ Some (coordinator e)
-  pub reason :
-      has_reason (coordinator e) members (before_tick (coordinator e) before) (member_of (coordinator e) (before_tick (coordinator e) before)) ≡ true
-
-abbrev pub BeginsAsWanted : Setting → List Moment → Moment → Type 0
-BeginsAsWanted S before (attempt e members) = WantedHere S before e members
-BeginsAsWanted S before _ = Unit {0}
+-- All that history asks of an attempt that begins.
+abbrev pub BeginsAsHistory : Setting → List Moment → Moment → Type 0
+BeginsAsHistory S before (attempt e members) = IsWanted S before e members
+BeginsAsHistory S before _ = Unit {0}
 
 abbrev pub AttemptsBeginAsWanted : Type 0
-AttemptsBeginAsWanted = OfEachTold BeginsAsWanted
+AttemptsBeginAsWanted = OfEachTold BeginsAsHistory

@@ -1,16 +1,14 @@
 -- What a node keeps of the packets of the others, and what the lines tell of them.
-use Rattle.std.specs.Prelude.{ℕ, ◌≡◌, ◌⊎◌, ◌≤◌, nat_le, true, if◌then◌else◌, List, length, Option, None, Some}
-use Rattle.cmm_member.specs.Records.{NodeRecord}
+use Rattle.std.specs.Prelude.{ℕ, ◌≡◌, ◌≤◌, nat_le, if◌then◌else◌, List, length, Option, None, Some}
 use Rattle.heartbeats.specs.declared.peer.Peer.{Peer}
 use Rattle.heartbeats.specs.Peers.{peer_in}
 use Rattle.heartbeats.specs.State.{State}
 use Rattle.history.specs.Moment.{Moment}
 use Rattle.history.specs.Order.{Always}
 use Rattle.history.specs.Setting.{Setting}
-use Rattle.node_model.specs.Seats.{record_of}
 use Rattle.node_model.specs.declared.node.Node.{Node}
 use Rattle.node_model.specs.declared.node.Node.TheVariants.{Down, Up}
-use Rattle.run_packets.specs.views.Laws.{Account, BeginsNotAlone, ViewIs, has_saved, heard_age_of}
+use Rattle.run_packets.specs.views.Laws.{Account, BeginsNotAlone, ViewIs, heard_age_of}
 
 -- ages above 3 are one
 abbrev pub capped : ℕ → ℕ
@@ -30,11 +28,6 @@ pub record BeatsAre (foreign : Account) (moments : List Moment) (n : ℕ) (s : S
 abbrev pub NodeIs : Account → List Moment → ℕ → Node → Type 0
 NodeIs foreign moments n Down = Unit {0}
 NodeIs foreign moments n (Up x) = BeatsAre foreign moments n x.beats
-
--- its record is this one, unless it has saved something since its last tick
-abbrev pub KeepsRecord : NodeRecord → List Moment → ℕ → Node → Type 0
-KeepsRecord r moments n Down = Unit {0}
-KeepsRecord r moments n (Up x) = (record_of x ≡ r) ⊎ (has_saved n moments ≡ true)
 
 pub record Judged (S : Setting) (foreign : Account) (before : List Moment) (x : Moment) : Type 0 where
   pub view : ViewIs S foreign before x

@@ -1,20 +1,19 @@
 -- What is proved of each run of the world, as things that happen: the members of an attempt are exactly the nodes that its coordinator sees.
 use Rattle.std.specs.Prelude.{ℕ, ◌+◌, ◌≡◌, ◌≤◌, ◌<◌, ◌^◌, ◌==◌, ◌&&◌, ◌||◌, not, nat_lt, Bool, false, true, if◌then◌else◌, List, [], ◌∷◌, length, Option, None, Some, option_map, IfSome}
-use Rattle.std.specs.List.{AllByRecursion, filter, list_any}
+use Rattle.std.specs.List.{AllByRecursion, filter}
 use Rattle.cl_base.specs.Limits.{most_devices, most_nodes}
 use Rattle.cl_base.specs.declared.header.Header.{Header}
-use Rattle.history.specs.Attempts.{configured_for, is_recent, view_of}
+use Rattle.history.specs.Attempts.{before_tick, configured_for, is_recent, view_of}
 use Rattle.history.specs.Moment.{Moment}
-use Rattle.history.specs.Order.{Always, since}
+use Rattle.history.specs.Order.{Always}
 use Rattle.history.specs.Setting.{Setting, all_to, coordinator, nodes_of}
-use Rattle.history.specs.Trace.{attempt, delivered, saved, ticked, up}
+use Rattle.history.specs.Trace.{attempt, delivered, ticked, up}
 use Rattle.history_setting.specs.Laws.{OfEachRunIn}
 use Rattle.history_setting.specs.Settings.{setting_of}
 use Rattle.node_model.specs.Members.{is_foreign}
 use Rattle.node_model.specs.declared.cluster.Cluster.{Cluster}
 use Rattle.node_model.specs.declared.node.Node.{Node}
 use Rattle.node_model.specs.declared.node.Node.TheVariants.{Down, Up}
-use Rattle.run_attempts.specs.Laws.{before_tick, is_tick_of}
 use Rattle.run_history.specs.Happenings.{Arrives, Happening, MayAllHappen, all_happened, happened}
 use Rattle.run_history.specs.Scenes.{Scene, first_scene}
 use Rattle.wire.specs.declared.message.Body.{Body}
@@ -100,26 +99,14 @@ PlainViewsWhereNoneIsForeign = (h : Header) (cells : ℕ) (hs : List Happening) 
 
 -- ---- a node that is not configured begins no attempt alone
 
-abbrev pub is_saved : ℕ → Moment → Bool
-is_saved c (saved n) = n == c
-is_saved c _ = false
+-- it is configured, or another node is a member
+abbrev pub NotAlone : ℕ → ℕ → (ℕ → Bool) → Type 0
+NotAlone c members configured = (configured c || nat_lt 1 (length (nodes_of members))) ≡ true
 
--- whether c has saved something since its last tick
-abbrev pub has_saved : ℕ → List Moment → Bool
-has_saved c before = list_any (is_saved c) (since (is_tick_of c) before)
-
--- what was before the promise of an attempt was saved, which stands last
-abbrev pub before_promise : List Moment → List Moment
-before_promise [] = []
-before_promise (x ∷ before) = before
-
--- It is configured, or another node is a member, or something was saved in the tick before: then its configuration may be another.
-abbrev pub NotAlone : List Moment → ℕ → ℕ → (ℕ → Bool) → Type 0
-NotAlone before c members configured = (configured c || nat_lt 1 (length (nodes_of members)) || has_saved c (before_promise before)) ≡ true
-
+-- What is configured is read where the tick begins.
 abbrev pub BeginsNotAlone : Setting → List Moment → Moment → Type 0
 BeginsNotAlone S before (attempt e members) =
-    IfSome (configured_for S (coordinator e) (before_tick (coordinator e) before)) (NotAlone before (coordinator e) members)
+    IfSome (configured_for S (coordinator e) (before_tick (coordinator e) before)) (NotAlone (coordinator e) members)
 BeginsNotAlone S before _ = Unit {0}
 
 abbrev pub NoneBeginsAloneInEachRun : Type 0
