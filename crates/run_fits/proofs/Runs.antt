@@ -58,10 +58,10 @@ use Rattle.run_fits.specs.Known.{IfUp, RecordIn}
 use Rattle.run_fits.specs.Laws.{NoDiskFails, NoDiskFailsInEachRun}
 
 -- what is so of each scene, beside what it names
-record Fitting (c : Cluster) (v : Nodes) (ms : List Moment) : Type 0 where
-  names : AllName c v
-  grown : Grown c v
-  disks : DisksWhile v ms
+pub record Fitting (c : Cluster) (v : Nodes) (ms : List Moment) : Type 0 where
+  pub names : AllName c v
+  pub grown : Grown c v
+  pub disks : DisksWhile v ms
 
 -- ---- the cluster
 
@@ -71,7 +71,7 @@ numbered h few d is = let k : IsDevice h d = listed_is h d few is in (k.0, withi
     within : (a b : ℕ) → a ≤ b → b ≤ 16 → a ≤ 32
     within a b l m = omega (arith, l, m)
 
-sized : (h : Header) → IsSmall h → Sized (first_cluster h)
+pub sized : (h : Header) → IsSmall h → Sized (first_cluster h)
 sized h size = record { fits = (header_sized h size.few size.small).fits.devices.attached; numbered = numbered h size.few; listed = first_listed h size.few }
 
 -- ---- what comes
@@ -144,7 +144,7 @@ commanded_fits c s n d (Some x) q f = f
 
 -- ---- each thing that happens
 
-happening_fits : (c : Cluster) (s : Scene) (x : Happening) → Sized c → MayHappen c s x → SceneNamed c s → Fitting c s.nodes s.moments → Fitting c (happened c s x).nodes (happened c s x).moments
+pub happening_fits : (c : Cluster) (s : Scene) (x : Happening) → Sized c → MayHappen c s x → SceneNamed c s → Fitting c s.nodes s.moments → Fitting c (happened c s x).nodes (happened c s x).moments
 happening_fits c s (Speaks e) size may named f = armed_fits c e (adding (Said (line.Event e)) s) (line_fits c s.nodes s.moments (Said (line.Event e)) tt f)
 happening_fits c s (Begins e) size may named f = line_fits c s.nodes s.moments (Part e) tt f
 happening_fits c s (Notes e) size may named f = line_fits c s.nodes s.moments (Told (entry.Schedule e)) tt f
@@ -172,7 +172,7 @@ happening_fits c s (Refuses n d value cause) size may named f = line_fits c s.no
 
 -- ---- runs
 
-first_fits : (h : Header) (cells : ℕ) → IsSmall h → Fitting (first_cluster h) (first_scene h cells).nodes (first_scene h cells).moments
+pub first_fits : (h : Header) (cells : ℕ) → IsSmall h → Fitting (first_cluster h) (first_scene h cells).nodes (first_scene h cells).moments
 unfolding first_scene
 first_fits h cells size =
     let c : Cluster = first_cluster h in

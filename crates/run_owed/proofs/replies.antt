@@ -10,4 +10,9 @@ pub mod Walk
 pub mod Holding
 pub mod Answering
 pub mod Others
+pub mod Delivered
 pub mod Runs
+pub mod Promising
+pub mod Collects
+pub mod Preparing
+pub mod Prepares

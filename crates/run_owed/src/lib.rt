@@ -2,7 +2,7 @@
 //!
 //! - `prepares`: the Prepares of a proposal; and that all doings in one event are one node's.
 //! - `repeats`: the Prepares that lack their Prepared go again.
-//! - `replies`: Orders are answered.
+//! - `replies`: Orders, Collects and Prepares are answered.
 //!
 //! Each function here is a law. It has no body, and its contract is proved of every header, every list of lines, everything that happens and
 //! all agents.
@@ -10,7 +10,7 @@
 
 ghost use Rattle.run_owed.specs.prepares.Laws.{OneNodeOfEachRun, PreparesOfEachRun};
 ghost use Rattle.run_owed.specs.repeats.Laws.{PreparesAgainOfEachRun};
-ghost use Rattle.run_owed.specs.replies.Laws.{OrdersAreAnsweredInEachRun};
+ghost use Rattle.run_owed.specs.replies.Laws.{CollectsAreAnsweredInEachRun, OrdersAreAnsweredInEachRun, PreparesAreAnsweredInEachRun};
 
 /// All entries of an event are the doings of one node, or nobody's: a node tells of attempts and memberships that it coordinates, and of no others.
 pub fn one_node_of_each_run()
@@ -33,4 +33,16 @@ pub fn prepares_again_of_each_run()
 /// event behind which no packet number is left.
 pub fn orders_are_answered_in_each_run()
     ensures { OrdersAreAnsweredInEachRun }
+{}
+
+/// A Collect is answered by a Promise or by a Nack in the event in which it is delivered, unless the node goes down there. Nothing is said of an
+/// event behind which no packet number is left.
+pub fn collects_are_answered_in_each_run()
+    ensures { CollectsAreAnsweredInEachRun }
+{}
+
+/// A Prepare of a fellow member is answered by Prepared in the event in which it is delivered, unless the node goes down there. Nothing is said of an
+/// event behind which no packet number is left.
+pub fn prepares_are_answered_in_each_run()
+    ensures { PreparesAreAnsweredInEachRun }
 {}

@@ -48,7 +48,7 @@ use Rattle.pgr_device.specs.Device.{Device}
 use Rattle.pgr_device.specs.declared.command.PrCommand.{PrCommand}
 use Rattle.run_history.specs.Happenings.{commanded_at}
 use Rattle.run_owed.specs.prepares.Events.{IsLeft}
-use Rattle.run_owed.specs.repeats.Events.{StartsElse, AreSent, Awaits, EventLaw, Leaves, Opening}
+use Rattle.run_owed.specs.repeats.Events.{AlongRun, StartsElse, AreSent, Awaits, EventLaw, Leaves, Opening}
 use Rattle.run_owed.proofs.repeats.Sent.{Left, left_taking}
 
 same_onto : (xs ms : List Moment) → adding_to.onto xs ms ≡ onto ms xs
@@ -256,21 +256,36 @@ step_so P cells c F s (w ∷ wants) rounds h may b linked o f comes k = due_so P
 linked_of : (h : Header) (cells : ℕ) (s : Scene) → Reached (first_cluster h) (first_scene h cells) s → IsLinkedTo cells s
 linked_of h cells s r = subst (IsLinkedTo cells) r.is (links_of_each_run h cells r.happenings r.may).links
 
-run_so : (P : EventLaw) (h : Header) (cells : ℕ) → IsSmall h → (F : Scene → Type 0) → Opening P cells (first_cluster h) F → ((s : Scene) → Reached (first_cluster h) (first_scene h cells) s → F s) → (hs : List Happening) (s : Scene)
-    (d last : Due) → Reached (first_cluster h) (first_scene h cells) s → MayAllHappen (first_cluster h) s hs → ShapedFrom (first_cluster h) s d hs last → Awaits P cells (first_cluster h) s d.wants
+run_so : (P : EventLaw) (h : Header) (cells : ℕ) → IsSmall h → (F : Scene → Type 0) → Opening P cells (first_cluster h) F → (hs : List Happening) (s : Scene) (d last : Due) → Reached (first_cluster h) (first_scene h cells) s
+    → AlongRun F (first_cluster h) s hs → MayAllHappen (first_cluster h) s hs → ShapedFrom (first_cluster h) s d hs last → Awaits P cells (first_cluster h) s d.wants
     → Awaits P cells (first_cluster h) (all_happened (first_cluster h) s hs) last.wants
-run_so P h cells size F o known [] s d last r may shaped k = subst (λ (z : Due). Awaits P cells (first_cluster h) s z.wants) shaped k
-run_so P h cells size F o known (g ∷ hs) s d last r may shaped k =
+run_so P h cells size F o [] s d last r known may shaped k = subst (λ (z : Due). Awaits P cells (first_cluster h) s z.wants) shaped k
+run_so P h cells size F o (g ∷ hs) s d last r known may shaped k =
     let c : Cluster = first_cluster h in
     let more : Reached c (first_scene h cells) (happened c s g) = reached_more c (first_scene h cells) s g r may.0 in
-    run_so P h cells size F o known hs (happened c s g) (due_after c (happened c s g) d g) last more may.1 shaped.1
-    (step_so P cells c F s d.wants d.rounds g may.0 (stage_of h cells (happened c s g) size more) (linked_of h cells (happened c s g) more) o (known s r) shaped.0 k)
+    run_so P h cells size F o hs (happened c s g) (due_after c (happened c s g) d g) last more known.1 may.1 shaped.1
+    (step_so P cells c F s d.wants d.rounds g may.0 (stage_of h cells (happened c s g) size more) (linked_of h cells (happened c s g) more) o known.0 shaped.0 k)
+
+-- what is known of each scene that is reached
+pub along_reached : (h : Header) (cells : ℕ) (F : Scene → Type 0) → ((s : Scene) → Reached (first_cluster h) (first_scene h cells) s → F s) → (hs : List Happening) (s : Scene) → Reached (first_cluster h) (first_scene h cells) s
+    → MayAllHappen (first_cluster h) s hs → AlongRun F (first_cluster h) s hs
+along_reached h cells F known [] s r may = known s r
+along_reached h cells F known (g ∷ hs) s r may =
+    (known s r, along_reached h cells F known hs (happened (first_cluster h) s g) (reached_more (first_cluster h) (first_scene h cells) s g r may.0) may.1)
 
 first_awaits : (P : EventLaw) (h : Header) (cells : ℕ) → Awaits P cells (first_cluster h) (first_scene h cells) []
 unfolding first_scene
 first_awaits P h cells = record { ready = tt; events = λ later none. none }
 
+pub reached_first : (h : Header) (cells : ℕ) → Reached (first_cluster h) (first_scene h cells) (first_scene h cells)
+reached_first h cells = record { happenings = []; may = tt; is = refl }
+
+pub each_along_run : (P : EventLaw) (h : Header) (cells : ℕ) (hs : List Happening) → IsSmall h → (F : Scene → Type 0) → Opening P cells (first_cluster h) F → AlongRun F (first_cluster h) (first_scene h cells) hs
+    → MayAllHappen (first_cluster h) (first_scene h cells) hs → IsShaped (first_cluster h) (first_scene h cells) hs → EachEvent P (all_happened (first_cluster h) (first_scene h cells) hs).moments
+each_along_run P h cells hs size F o known may shaped =
+    (run_so P h cells size F o hs (first_scene h cells) nothing nothing (reached_first h cells) known may shaped (first_awaits P h cells)).events [] refl
+
 pub each_of_run : (P : EventLaw) (h : Header) (cells : ℕ) (hs : List Happening) → IsSmall h → (F : Scene → Type 0) → Opening P cells (first_cluster h) F → ((s : Scene) → Reached (first_cluster h) (first_scene h cells) s → F s)
     → MayAllHappen (first_cluster h) (first_scene h cells) hs → IsShaped (first_cluster h) (first_scene h cells) hs → EachEvent P (all_happened (first_cluster h) (first_scene h cells) hs).moments
 each_of_run P h cells hs size F o known may shaped =
-    (run_so P h cells size F o known hs (first_scene h cells) nothing nothing (record { happenings = []; may = tt; is = refl }) may shaped (first_awaits P h cells)).events [] refl
+    each_along_run P h cells hs size F o (along_reached h cells F known hs (first_scene h cells) (reached_first h cells) may) may shaped

@@ -95,7 +95,7 @@ taking_kept c s n now ends i low fits r known at good h =
       says = subst (λ os. AllSaySo (passing n os u).moments) cut.comes.given all.1;
     }
 
-told_among : (M : Memberships) (from : ℕ) (b : Body) (ls : List Letter) → IsAmong from b ls → AllByRecursion (λ (l : Letter). MessageTold M l.from l.body) ls → MessageTold M from b
+pub told_among : (M : Memberships) (from : ℕ) (b : Body) (ls : List Letter) → IsAmong from b ls → AllByRecursion (λ (l : Letter). MessageTold M l.from l.body) ls → MessageTold M from b
 told_among M from b [] h all = absurd h
 told_among M from b (l ∷ ls) (inl e) all = subst (λ z. MessageTold M z b) e.0 (subst (λ z. MessageTold M l.from z) e.1 all.0)
 told_among M from b (l ∷ ls) (inr h) all = told_among M from b ls h all.1

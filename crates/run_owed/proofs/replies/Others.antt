@@ -25,13 +25,23 @@ use Rattle.status_report.specs.declared.schedule_entry.ScheduleEntry.{ScheduleEn
 use Rattle.status_report.specs.declared.schedule_entry.SkipCause.{SkipCause}
 use Rattle.world_model.specs.Devices.{due_at}
 use Rattle.world_model.specs.Lines.{monitors}
-use Rattle.run_owed.specs.replies.Laws.{OrderReplies}
+use Rattle.run_owed.specs.replies.Laws.{CollectReplies, OrderReplies, PrepareReplies}
 
 -- where no delivery stands first nothing is owed
 pub else_replies : (S : Setting) (before : List Moment) (x : Moment) (entries : List Moment) → StartsElse entries → OrderReplies S before x entries
 else_replies S before x [] h = tt
 else_replies S before x (delivered p a n ∷ later) h = absurd h
 else_replies S before x (y ∷ later) h = tt
+
+pub else_no_collect : (S : Setting) (before : List Moment) (x : Moment) (entries : List Moment) → StartsElse entries → CollectReplies S before x entries
+else_no_collect S before x [] h = tt
+else_no_collect S before x (delivered p a n ∷ later) h = absurd h
+else_no_collect S before x (y ∷ later) h = tt
+
+pub else_no_prepare : (S : Setting) (before : List Moment) (x : Moment) (entries : List Moment) → StartsElse entries → PrepareReplies S before x entries
+else_no_prepare S before x [] h = tt
+else_no_prepare S before x (delivered p a n ∷ later) h = absurd h
+else_no_prepare S before x (y ∷ later) h = tt
 
 -- the event delivers a packet, if one is there
 abbrev pub IsNoDelivery : Event → Type 0

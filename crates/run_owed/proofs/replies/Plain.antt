@@ -1,5 +1,7 @@
--- Lines, and messages that are no orders.
+-- Lines, and messages that are neither orders nor Prepares.
 use Rattle.std.specs.Prelude.{ℕ, ◌+◌, ◌++◌, List, [], ◌∷◌, Option, None, Some, Ok}
+use Rattle.std.proofs.Common.{refl}
+use Rattle.std.specs.List.{AllByRecursion}
 use Rattle.ccr_commit.specs.Entries.{all_committed}
 use Rattle.ccr_tables.specs.State.{ConfigState}
 use Rattle.cl_base.specs.Limits.{most_nodes}
@@ -20,17 +22,18 @@ use Rattle.node_model.specs.declared.node.UpNode.{UpNode}
 use Rattle.node_model.specs.declared.output.Output.TheVariants.{Sends}
 use Rattle.node_model.specs.declared.presidency.Presidency.{Presidency}
 use Rattle.pgr_device.specs.declared.command.PrAnswer.TheVariants as given
-use Rattle.refinement.specs.Doings.{Change, adopted_by, first_lines, last_lines, saved_lines, start_lines, superseded_lines, write_lines}
 use Rattle.refinement.specs.Doings.Change.{Acks, Admits, Commits, Counts, Distrusts, Installs, Leads, Prepares, Promises, Proposes, Sits, Starts}
+use Rattle.refinement.specs.Doings.{Change, adopted_by, first_lines, last_lines, saved_lines, start_lines, superseded_lines, write_lines}
 use Rattle.request_queue.specs.Queue as requests
 use Rattle.request_queue.specs.declared.request.Request.{Request}
 use Rattle.rg_props.specs.declared.group.Resource.{Resource}
 use Rattle.rg_view.specs.States as states
 use Rattle.rg_view.specs.declared.view.GroupView.{GroupView}
 use Rattle.run_history.proofs.Lists.{both, mapped, of_each}
+use Rattle.run_owed.proofs.replies.Sending.{IsSendOf}
+use Rattle.run_owed.specs.replies.Orders.{NoOrderOut, NoOrders}
 use Rattle.seize.specs.Answers.{Answer}
 use Rattle.wire.specs.declared.message.Body.{Body}
-use Rattle.run_owed.specs.replies.Orders.{NoOrder, NoOrderOut, NoOrders}
 
 -- ---- changes
 
@@ -93,9 +96,9 @@ write_none n x d value (Ok given.Good) = (tt, tt)
 write_none n x d value (Ok given.Conflict) = (tt, tt)
 write_none n x d value _ = (tt, tt)
 
-pub spread_none : (receivers : ℕ) (b : Body) → NoOrder b → NoOrders (sent_to receivers b)
+pub spread_sends : (receivers : ℕ) (b : Body) → AllByRecursion (IsSendOf b) (sent_to receivers b)
 unfolding sent_to
-spread_none receivers b none = mapped NoOrderOut (λ k. Sends k b) (numbers_to receivers most_nodes) (λ k. none)
+spread_sends receivers b = mapped (IsSendOf b) (λ k. Sends k b) (numbers_to receivers most_nodes) (λ k. refl)
 
 again_to_none : (x : UpNode) (r : Option Request) (o : Option ℕ) → NoOrders (request_again_to x r o)
 again_to_none x (Some r) (Some president) = (tt, tt)

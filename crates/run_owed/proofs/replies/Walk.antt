@@ -1,6 +1,7 @@
 -- All that a node does in a step: its orders are of its membership, and are carried out in it.
-use Rattle.std.specs.Prelude.{ℕ, ◌≡◌, ◌++◌, All, List, [], ◌∷◌, Option, None, Some}
+use Rattle.std.specs.Prelude.{ℕ, ◌≡◌, ◌++◌, All, List, [], ◌∷◌, Option, None, Some, IsSome}
 use Rattle.std.proofs.Common.{refl, sym, subst, ◌∙◌}
+use Rattle.cmm_attempt.proofs.Basics.{false_true}
 use Rattle.cmm_attempt.specs.Calls.{IsDevice}
 use Rattle.cmm_member.specs.Records.{NodeRecord}
 use Rattle.history.specs.Member.{in_collect, member_of}
@@ -8,23 +9,23 @@ use Rattle.history.specs.Moment.{Moment}
 use Rattle.membership_machine.specs.Invariant.{Holds}
 use Rattle.membership_machine.specs.State.{Memberships}
 use Rattle.node_model.specs.Presidents.{sent_to}
-use Rattle.node_model.specs.Seats.{state_of}
+use Rattle.node_model.specs.Seats.{session_of, state_of}
 use Rattle.node_model.specs.Ticks.{later}
 use Rattle.node_model.specs.declared.cluster.Cluster.{Cluster}
-use Rattle.node_model.specs.declared.node.Node.{Node}
 use Rattle.node_model.specs.declared.node.Node.TheVariants.{Down, Up}
+use Rattle.node_model.specs.declared.node.Node.{Node}
 use Rattle.node_model.specs.declared.node.UpNode.{UpNode}
 use Rattle.node_model.specs.declared.output.Output.{Output}
 use Rattle.node_model.specs.declared.presidency.Presidency.{Presidency}
-use Rattle.node_model.specs.declared.seat.Seat.{Seat}
 use Rattle.node_model.specs.declared.seat.Seat.TheVariants.{Forming, Member}
+use Rattle.node_model.specs.declared.seat.Seat.{Seat}
 use Rattle.refinement.proofs.Acts.{does_one}
 use Rattle.refinement.proofs.Ties.{known_stays}
-use Rattle.refinement.specs.Doings.{Act, Doing, Site, after_all, effect, first_lines, given_all, gives, gone_line, last_lines, said, saved_lines, site}
 use Rattle.refinement.specs.Doings.Act.{Accepts, Dates, Ends, Gives, Goes_on, Hears, Makes, Minds, Notes, Queues, Spreads, Stores, Takes, Ticks, Waits, Works, Writes}
 use Rattle.refinement.specs.Doings.Doing.{Comes_up, Does, Forgets, Goes_down, Loses, Saves}
+use Rattle.refinement.specs.Doings.{Act, Doing, Site, after_all, effect, first_lines, given_all, gives, gone_line, last_lines, said, saved_lines, site}
 use Rattle.refinement.specs.Events.{of_doing}
-use Rattle.refinement.specs.Guards.{May, MayAct, MayAll}
+use Rattle.refinement.specs.Guards.{May, MayAct, MayAll, MayWrite, TellNothing}
 use Rattle.refinement.specs.Ties.{Delivered, GoesOn, Known, NodeTied, PresidentTied, SiteTied, setting_of}
 use Rattle.run_history.proofs.Idle.{passing_append}
 use Rattle.run_history.proofs.Lists.{both}
@@ -36,22 +37,34 @@ use Rattle.run_messages.proofs.Seats.{given_even}
 use Rattle.run_messages.specs.Laws.{IsSeated, membership_in}
 use Rattle.run_messages.specs.Outputs.{AreGood, AreStill}
 use Rattle.run_messages.specs.Steps.{AreCollected, Leads, collecting}
-use Rattle.run_owed.specs.replies.Orders.{ActOrders, AllOrders, AllSaySo, DoingOrders, GivesOf, NodeOf, NoOrderOut, OfficeOf}
 use Rattle.run_owed.proofs.replies.Nodes.{doing_of, office_held}
-use Rattle.run_owed.proofs.replies.Plain.{first_none, made_none, saved_none, spread_none, ticked_none, write_none}
-use Rattle.run_owed.proofs.replies.Sending.{orders_say, plain_says}
+use Rattle.run_owed.proofs.replies.Plain.{first_none, made_none, saved_none, spread_sends, ticked_none, write_none}
+use Rattle.run_owed.proofs.replies.Sending.{orders_say, plain_says, spreads_say}
+use Rattle.run_owed.specs.replies.Orders.{ActOrders, AllOrders, AllSaySo, BodySo, DoingOrders, GivesOf, NodeOf, NoOrder, NoOrderOut, OfficeOf}
+use Rattle.wire.specs.declared.message.Body.TheVariants as body
+use Rattle.wire.specs.declared.message.Body.{Body}
 
 -- what a node gives besides
-gives_say : (n : ℕ) (o : Option Presidency) (seat : Seat) (os : List Output) (s : Scene) → AreGood n os → AreStill n os → ((p : Presidency) → o ≡ Some p → member_of n s.moments ≡ Some (state_of seat).session) → OfficeOf (state_of seat).session o
+gives_say : (n : ℕ) (o : Option Presidency) (seat : Seat) (os : List Output) (s : Scene) → AreGood n os → AreStill n os → TellNothing os → ((p : Presidency) → o ≡ Some p → member_of n s.moments ≡ Some (state_of seat).session) → OfficeOf (state_of seat).session o
     → GivesOf o (state_of seat).session os → AllSaySo s.moments → AllSaySo (passing n os s).moments
-gives_say n None seat os s good still member office gives h = plain_says n os s good gives h
-gives_say n (Some p) seat os s good still member office gives h = orders_say n (state_of seat).session os s good still (gives office) (member p refl) h
+gives_say n None seat os s good still none member office gives h = plain_says n os s good gives h
+gives_say n (Some p) seat os s good still none member office gives h = orders_say n (state_of seat).session os s good still none (gives office) (member p refl) h
 
 -- a president is a member
 president_seated : (M : Memberships) (ms : List Moment) (n : ℕ) (o : Option Presidency) (seat : Seat) → PresidentTied M n o seat → member_of n ms ≡ membership_in seat → (p : Presidency) → o ≡ Some p
     → member_of n ms ≡ Some (state_of seat).session
 president_seated M ms n o (Forming t) tied seated p has = absurd (subst (λ z. PresidentTied M n z (Forming t)) has tied)
 president_seated M ms n o (Member t) tied seated p has = seated
+
+-- a Prepare is sent by a president, in its membership
+body_so : (ms : List Moment) (n : ℕ) (x : UpNode) (b : Body) → ((p : Presidency) → x.presidency ≡ Some p → member_of n ms ≡ Some (session_of x)) → NoOrder b → MayWrite x b → BodySo ms n b
+body_so ms n x (body.Order o) member none may = absurd none
+body_so ms n x (body.Prepare e v text) member none may = subst (λ k. member_of n ms ≡ Some k) (sym may.1) (by_office x.presidency refl may.0)
+  where
+    by_office : (o : Option Presidency) → x.presidency ≡ o → IsSome o → member_of n ms ≡ Some (session_of x)
+    by_office None is some = absurd (false_true some)
+    by_office (Some p) is some = member p is
+body_so ms n x b member none may = tt
 
 module _ (c : Cluster) (n : ℕ) (told : Delivered) where
   act_says : (M : Memberships) (x : UpNode) (disk : NodeRecord) (a : Act) (s : Scene) → NodeTied c M n disk (Up x) → MayAct c n told x a → ActOrders x a → IsSmallAct a → AreGood n (said c n x a) → IsSeated s.moments n (Up x)
@@ -65,11 +78,13 @@ module _ (c : Cluster) (n : ℕ) (told : Delivered) where
   act_says M x disk (Accepts kind e members d) s tied may so small good seated of h = h
   act_says M x disk (Takes at command a) s tied may so small good seated of h = plain_says n (said c n x (Takes at command a)) s good (tt, tt) h
   act_says M x disk (Stores d value a) s tied may so small good seated of h = plain_says n (said c n x (Stores d value a)) s good (tt, write_none n x d value a) h
-  act_says M x disk (Writes to b) s tied may so small good seated of h = plain_says n (said c n x (Writes to b)) s good (so, tt) h
+  act_says M x disk (Writes to b) s tied may so small good seated of h =
+      spreads_say n b (said c n x (Writes to b)) s (member_of n s.moments) (refl, tt) good (λ ms is. body_so ms n x b (λ p has. is ∙ president_seated M s.moments n x.presidency x.seat tied.1 seated p has) so may) refl h
   act_says M x disk (Makes change) s tied may so small good seated of h = plain_says n (first_lines n change ++ last_lines c n x change) s good (made_none c n x change) h
   act_says M x disk (Gives os) s tied may so small good seated of h =
-      gives_say n x.presidency x.seat os s good (evens_still n os (given_even os small may)) (president_seated M s.moments n x.presidency x.seat tied.1 seated) (office_held c M n x disk tied of) so h
-  act_says M x disk (Spreads receivers b) s tied may so small good seated of h = plain_says n (sent_to receivers b) s good (spread_none receivers b so) h
+      gives_say n x.presidency x.seat os s good (evens_still n os (given_even os small may)) may (president_seated M s.moments n x.presidency x.seat tied.1 seated) (office_held c M n x disk tied of) so h
+  act_says M x disk (Spreads receivers b) s tied may so small good seated of h =
+      spreads_say n b (sent_to receivers b) s (member_of n s.moments) (spread_sends receivers b) good (λ ms is. body_so ms n x b (λ p has. is ∙ president_seated M s.moments n x.presidency x.seat tied.1 seated p has) so may) refl h
   act_says M x disk (Minds q p) s tied may so small good seated of h = h
   act_says M x disk (Notes from place p) s tied may so small good seated of h = h
   act_says M x disk (Dates now) s tied may so small good seated of h = h

@@ -14,7 +14,7 @@ use Rattle.node_model.specs.declared.cluster.Cluster.{Cluster}
 use Rattle.node_model.specs.declared.input.Input.{Input}
 use Rattle.node_model.specs.declared.input.Input.TheVariants as input
 use Rattle.node_model.specs.declared.output.Output.{Output}
-use Rattle.run_history.specs.Happenings.{given_by, happened}
+use Rattle.run_history.specs.Happenings.{Happening, given_by, happened}
 use Rattle.run_history.specs.Happenings.Happening.{Speaks}
 use Rattle.run_history.specs.Scenes.{Scene, adding}
 use Rattle.run_history.specs.Shapes.{Want, brings}
@@ -85,3 +85,8 @@ pub record Awaits (P : EventLaw) (cells : ℕ) (c : Cluster) (s : Scene) (wants 
 pub record Opening (P : EventLaw) (cells : ℕ) (c : Cluster) (F : Scene → Type 0) : Type 0 where
   pub line_so : (s : Scene) (e : Event) (later : List Moment) → F s → Leaves cells c (happened c s (Speaks e)) (brings c (happened c s (Speaks e)) e) later → P s.moments (Said (line.Event e)) later
   pub part_so : (s : Scene) (e : Event) (later : List Moment) → F s → Leaves cells c (adding (Part e) s) (brings c (adding (Part e) s) e) later → P s.moments (Part e) later
+
+-- F is known of each scene of a run
+abbrev pub AlongRun : (Scene → Type 0) → Cluster → Scene → List Happening → Type 0
+AlongRun F c s [] = F s
+AlongRun F c s (h ∷ hs) = F s × AlongRun F c (happened c s h) hs

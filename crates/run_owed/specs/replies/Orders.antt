@@ -1,4 +1,4 @@
--- Orders are of the membership in which they are given and carried out.
+-- Orders are of the membership in which they are given and carried out, and Prepares of the one in which they are sent.
 use Rattle.std.specs.Prelude.{ℕ, ◌≡◌, List, [], ◌∷◌, Option, None, Some}
 use Rattle.std.specs.List.{AllByRecursion}
 use Rattle.history.specs.Member.{member_of}
@@ -39,10 +39,16 @@ OrdersOf e [] = Unit {0}
 OrdersOf e (Sends to (body.Order o) ∷ os) = (o.epoch ≡ e) × OrdersOf e os
 OrdersOf e (o ∷ os) = OrdersOf e os
 
+-- neither an order nor a Prepare
+abbrev pub IsAside : Body → Type 0
+IsAside (body.Order o) = ⊥
+IsAside (body.Prepare e v text) = ⊥
+IsAside _ = Unit {0}
+
 -- there is none
 abbrev pub NoOrderOut : Output → Type 0
 NoOrderOut (Tells e) = Unit {0}
-NoOrderOut (Sends to b) = NoOrder b
+NoOrderOut (Sends to b) = IsAside b
 
 abbrev pub NoOrders : List Output → Type 0
 NoOrders os = AllByRecursion NoOrderOut os
@@ -103,9 +109,10 @@ NodeOf (Up x) = SeatOf x.worker.epoch x.presidency x.seat
 
 -- ---- lines
 
--- an order is sent by a member, in its membership
+-- an order is sent by a member, in its membership, and so is a Prepare
 abbrev pub BodySo : List Moment → ℕ → Body → Type 0
 BodySo before n (body.Order o) = member_of n before ≡ Some o.epoch
+BodySo before n (body.Prepare e v text) = member_of n before ≡ Some e
 BodySo before n _ = Unit {0}
 
 abbrev pub SaysSo : List Moment → Moment → Type 0

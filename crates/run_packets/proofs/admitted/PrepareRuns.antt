@@ -41,7 +41,7 @@ use Rattle.run_packets.specs.admitted.Laws.{IsNativeAs, PreparesAreNative, is_pr
 use Rattle.run_packets.specs.admitted.Logged.{RunLogged}
 use Rattle.run_packets.proofs.admitted.Preparing.{arms_logged, prepare_good, step_logged}
 
-abbrev SceneLogged : Cluster → Scene → Type 0
+abbrev pub SceneLogged : Cluster → Scene → Type 0
 SceneLogged c s = RunLogged c s.nodes
 
 -- ---- each thing that happens
@@ -64,7 +64,7 @@ taking_logged h s n now ends i size is was joins k =
     let c : Cluster = first_cluster h in
     subst (RunLogged c) (sym (passing_nodes n (given_by c n now ends i s.nodes) _)) (step_logged c s.nodes n now ends i (header_sized h size.few size.small).fits.devices.attached is was joins k)
 
-happening_logged : (h : Header) (s : Scene) (x : Happening) → IsSmall h → MayHappen (first_cluster h) s x → Stage (first_cluster h) s → SceneLogged (first_cluster h) s
+pub happening_logged : (h : Header) (s : Scene) (x : Happening) → IsSmall h → MayHappen (first_cluster h) s x → Stage (first_cluster h) s → SceneLogged (first_cluster h) s
     → SceneLogged (first_cluster h) (happened (first_cluster h) s x)
 happening_logged h s (Speaks e) size may b k = armed_logged (first_cluster h) e (adding (Said (line.Event e)) s) k
 happening_logged h s (Begins e) size may b k = k
@@ -109,7 +109,7 @@ run_on h cells s (x ∷ hs) size at may k = (
   run_on h cells (happened (first_cluster h) s x) hs size (reached_more (first_cluster h) (first_scene h cells) s x at may.0) may.1 (happening_logged h s x size may.0 (stage_of h cells s size at) k),
 )
 
-first_logged : (h : Header) (cells : ℕ) → Stage (first_cluster h) (first_scene h cells) → SceneLogged (first_cluster h) (first_scene h cells)
+pub first_logged : (h : Header) (cells : ℕ) → Stage (first_cluster h) (first_scene h cells) → SceneLogged (first_cluster h) (first_scene h cells)
 unfolding first_scene
 first_logged h cells b = record { machine = b.machine; holds = b.holds; tied = λ n. (b.stands n).tied; sent = tt }
 
