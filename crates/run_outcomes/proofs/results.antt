@@ -2,7 +2,9 @@ pub mod Stays
 pub mod Words
 pub mod Answered
 pub mod Tasks
+pub mod Promises
 pub mod Entries
+pub mod Lacking
 pub mod Calm
 pub mod Passing
 pub mod Ups

@@ -4,7 +4,7 @@
 //!   hand are its own at the attempt and those that were promised to it since; it counts the votes of the newest.
 //! - `results`: which results of seizings an attempt names, where it ends for want of votes. Who is asked to seize a device has a path to it
 //!   (`specs/results/Paths`); how a seizing ended is told by the task, by its Seized and by the attempt, as the device lines show it since the attempt
-//!   began (`specs/results/Shown`).
+//!   began; and the Promises that an attempt has are those that were sent (`specs/results/Shown`).
 //! - `exclusions`: whom attempts exclude. What a node has installed is no older than its last `installed` line says, and its Promise tells it with its
 //!   members.
 //! - `panics`: which nodes panic since an attempt excluded them. An attempt that excludes its own coordinator makes it panic; another node is told by an
@@ -53,8 +53,9 @@ pub fn paths_of_each_run()
     ensures { PathsOfEachRun }
 {}
 
-/// Where an attempt ends for want of votes, each obstacle that it names is shown, but for keys that are not registered: no member has a path to the device, or
-/// device lines of a member since the attempt began show the greater word, the expelled member, the contended device or the failed command.
+/// Where an attempt ends for want of votes, each obstacle that it names is shown: no member has a path to the device, or device lines of a member since the
+/// attempt began show the greater word, the expelled member, the contended device or the failed command. Where keys are not registered, a member read the
+/// keys of the device since then, or each attached member but the coordinator has sent a Promise of the attempt that does not show the device as valid.
 pub fn results_of_each_run()
     ensures { ResultsOfEachRun }
 {}

@@ -62,7 +62,7 @@ all_told P f k (x ∷ hs) h = by_lack (f (device_of k x)) (h k (device_of k x) (
 
 -- ---- who has a path
 
-at_paths : (k : ℕ) (hs : List HeaderDevice) (d : ℕ) (a : AttachedDevice) → IsAt k hs d a → a.nodes ≡ paths_in (slice_get hs (d - k))
+pub at_paths : (k : ℕ) (hs : List HeaderDevice) (d : ℕ) (a : AttachedDevice) → IsAt k hs d a → a.nodes ≡ paths_in (slice_get hs (d - k))
 at_paths k [] d a at = absurd at
 at_paths k (x ∷ hs) d a (inl here) = ap (λ (z : AttachedDevice). z.nodes) here.1 ∙ ap (λ i. paths_in (slice_get (x ∷ hs) i)) (no_more k d here.0)
   where

@@ -39,12 +39,12 @@ use Rattle.status_report.specs.declared.entry.Entry.TheVariants as entry
 use Rattle.wire.specs.declared.message.Body.{Body}
 use Rattle.wire.specs.declared.message.Body.TheVariants as body
 use Rattle.run_outcomes.proofs.results.Calm.{AllCalm, IsMute, IsPlain, made_calm, minor_calm, spread_calm, ticked_calm, write_calm}
-use Rattle.run_outcomes.proofs.results.Entries.{lacks_shown}
+use Rattle.run_outcomes.proofs.results.Lacking.{lacks_shown}
 use Rattle.run_outcomes.proofs.results.Passing.{Lasts, idle_ends, idle_spares, passing_lasts, posting_lasts}
 use Rattle.run_outcomes.proofs.results.Stays.{hand_stays, node_stays, says_stay}
 use Rattle.run_outcomes.proofs.results.Tasks.{Ended, ended_shown}
 use Rattle.run_outcomes.proofs.results.Ups.{NoneLate, act_up, attempt_of}
-use Rattle.run_outcomes.specs.results.Shown.{AttemptShown, EndShown, EndsShown, HandShown, NodeShown, ObstacleShown, SaysShown, UpShown}
+use Rattle.run_outcomes.specs.results.Shown.{AttemptShown, EndShown, EndsShown, HandShown, NodeShown, ObstacleShown, OfHeader, SaysShown, UpShown}
 
 -- ---- in the step of a node
 
@@ -141,7 +141,7 @@ ends_votes h n told f x a have need lacking (Some l) ms is given k =
     let old : AttemptShown h ms (session_of x) t = subst (λ z. AttemptShown h ms (session_of x) z) given.0 so in
     subst (λ (z : AttemptState). AllByRecursion (λ (y : Lack). ObstacleShown h z.plan.epoch y.device ms y.obstacle) lacking) (sym given.0)
     (subst (λ zs. AllByRecursion (λ (y : Lack). ObstacleShown h t.plan.epoch y.device ms y.obstacle) zs) (sym (ap lacking_in short.is))
-    (lacks_shown h ms t.plan.epoch short.v t.plan t.devices t.plan.attached old.entries))
+    (lacks_shown h ms short.v t t.plan.attached (record { members = old.of.1; plan = old.plan; promises = old.promises; rests = old.rests })))
 
 ends_done : (h : Header) (n : ℕ) (told : Delivered) (f top : ℕ → ℕ) (x y : UpNode) (a : AttemptState) (why : AttemptEnd) (last more : Last) (s : Scene) → x.attempt ≡ Some a → IsGivenBy last a why
     → ((ms : List Moment) → Now h n told f (Up x) last ms → NodeShown h ms n (Up y)) → ((ms : List Moment) → Now h n told f (Up x) last ms → LastReached more) → Goes h n told f (Up x) last s.moments
@@ -219,7 +219,7 @@ act_reached h c n told f x (Writes to b) last ms may z = z.reached
 act_reached h c n told f x (Makes ch) last ms may z = change_reached h c n told f x ch last last ms may.0 z
 act_reached h c n told f x _ last ms may z = tt
 
-pub act_done : (h : Header) (c : Cluster) (n : ℕ) (told : Delivered) (f top : ℕ → ℕ) (g : Hand) (x : UpNode) (a : Act) (last : Last) (s : Scene) → All IsDevice c.attached → c.id ≡ h.cluster
+pub act_done : (h : Header) (c : Cluster) (n : ℕ) (told : Delivered) (f top : ℕ → ℕ) (g : Hand) (x : UpNode) (a : Act) (last : Last) (s : Scene) → All IsDevice c.attached → OfHeader h c
     → MayAct c n told x a → AtAct n told g x a → ActFits last x a → ActSo a → NoneLate f x → NoneNewer top x → Goes h n told f (Up x) last s.moments
     → Done h n told f top (Up (acted c n x a)) (last_by last a) (said c n x a) (passing n (said c n x a) s).moments
 act_done h c n told f top g x a last s fits id may at ends so late newer k = by_act a may at ends so

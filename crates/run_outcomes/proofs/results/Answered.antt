@@ -141,7 +141,8 @@ keys_shown h ms n d reading (Err e) s known fine own k = lost h ms n d command.K
 check_shown : (h : Header) (ms : List Moment) (n d : ℕ) (a : Answer) (s : SeizeState) → Known h ms n s → Fits command.Keys a
     → StepShown h (line n d command.Keys a ∷ ms) n s.epoch d (checked s (keys_told a))
 check_shown h ms n d (Ok (answer.Keys ks)) s known fine =
-    if_either (StepShown h (line n d command.Keys (Ok (answer.Keys ks)) ∷ ms) n s.epoch d) (has_key (own_key s) ks && s.valid) step.ReadWord (step.Ended (NotRegistered ks)) tt tt
+    if_either (StepShown h (line n d command.Keys (Ok (answer.Keys ks)) ∷ ms) n s.epoch d) (has_key (own_key s) ks && s.valid) step.ReadWord (step.Ended (NotRegistered ks)) tt
+    (shows h ms n s (line n d command.Keys (Ok (answer.Keys ks))) (λ m earlier y. reads_keys m d y) known (two_same n d))
 check_shown h ms n d (Ok answer.Good) s known fine = odd h ms n d command.Keys answer.Good s fine refl
 check_shown h ms n d (Ok answer.Conflict) s known fine = odd h ms n d command.Keys answer.Conflict s fine refl
 check_shown h ms n d (Ok answer.InvalidRelease) s known fine = odd h ms n d command.Keys answer.InvalidRelease s fine refl

@@ -56,7 +56,7 @@ use Rattle.run_outcomes.proofs.results.Tasks.{FirstHigh, ReadsOwn, tasks_taken}
 use Rattle.run_outcomes.proofs.results.Ups.{up_same}
 use Rattle.run_outcomes.proofs.results.Acted.{Done, Goes, Now, goes_last}
 use Rattle.run_outcomes.proofs.results.Walk.{Comes, all_done, inst, none_comes, then_comes}
-use Rattle.run_outcomes.specs.results.Shown.{TasksShown}
+use Rattle.run_outcomes.specs.results.Shown.{OfHeader, TasksShown}
 
 told_same : (a : Answer) → told_of a ≡ answer_told a
 told_same (Ok a) = refl
@@ -104,7 +104,7 @@ at_next c M n f x y os events z o = record { holds = o.holds; tied = o.tied; low
     at_most a b d i j = omega (arith, i, j)
 
 -- the small steps that follow, of a node that is so
-rest_done : (h : Header) (c : Cluster) (M : Memberships) (f : ℕ → ℕ) (n : ℕ) (z : UpNode) (disk : NodeRecord) (replies : List Reply) (rest : Course) (s : Scene) → All IsDevice c.attached → c.id ≡ h.cluster
+rest_done : (h : Header) (c : Cluster) (M : Memberships) (f : ℕ → ℕ) (n : ℕ) (z : UpNode) (disk : NodeRecord) (replies : List Reply) (rest : Course) (s : Scene) → All IsDevice c.attached → OfHeader h c
     → At c M n f (site (Up z) disk) → MayAll c n None (site (Up z) disk) (under replies rest) → AtAll c n None None (site (Up z) disk) (under replies rest)
     → AllFit c n None (site (Up z) disk) (under replies rest) → AllSo (under replies rest) → Goes h n None f (Up z) None s.moments → Comes h c M n None f (site (Up z) disk) (under replies rest) s
 rest_done h c M f n z disk replies rest s fits id at may asks ends so g =
@@ -120,7 +120,7 @@ first_comes h c M f n d k a y disk ds s o z =
 
 -- it takes the answer, and goes on so
 takes_comes : (h : Header) (c : Cluster) (M : Memberships) (f : ℕ → ℕ) (n d : ℕ) (k : PrCommand) (a : Answer) (y : UpNode) (disk : NodeRecord) (replies : List Reply) (rest : Course) (s : Scene)
-    → All IsDevice c.attached → c.id ≡ h.cluster → At c M n f (site (Up y) disk) → MayAll c n None (site (Up y) disk) (Does (Takes d k a) ∷ under replies rest)
+    → All IsDevice c.attached → OfHeader h c → At c M n f (site (Up y) disk) → MayAll c n None (site (Up y) disk) (Does (Takes d k a) ∷ under replies rest)
     → AtAll c n None None (site (Up (answered_so y a)) disk) (under replies rest) → AllFit c n None (site (Up (answered_so y a)) disk) (under replies rest) → AllSo (under replies rest)
     → Goes h n None f (Up (answered_so y a)) None (told_line n d k a ∷ s.moments) → Comes h c M n None f (site (Up y) disk) (Does (Takes d k a) ∷ under replies rest) s
 takes_comes h c M f n d k a y disk replies rest s fits id at may asks ends so g =
@@ -144,7 +144,7 @@ lost_comes h c M f n y disk d s o done = record {
 }
 
 answered_comes : (h : Header) (c : Cluster) (M : Memberships) (f : ℕ → ℕ) (n d : ℕ) (k : PrCommand) (a : Answer) (y : UpNode) (disk : NodeRecord) (replies : List Reply) (s : Scene)
-    → All IsDevice c.attached → c.id ≡ h.cluster → At c M n f (site (Up y) disk) → Goes h n None f (Up y) None s.moments
+    → All IsDevice c.attached → OfHeader h c → At c M n f (site (Up y) disk) → Goes h n None f (Up y) None s.moments
     → Goes h n None f (Up (answered_so y a)) None (told_line n d k a ∷ s.moments) → (p : Progress) → progress_after y.tasks a ≡ p
     → MayAll c n None (site (Up y) disk) (under replies (progress_course c n y d k a p)) → AllFit c n None (site (Up y) disk) (under replies (progress_course c n y d k a p))
     → AllSo (under replies (progress_course c n y d k a p)) → Comes h c M n None f (site (Up y) disk) (under replies (progress_course c n y d k a p)) s
@@ -207,7 +207,7 @@ NodeDue h a Down = Unit {0}
 NodeDue h a (Up x) = DueShown h a x
 
 pub answer_comes : (h : Header) (c : Cluster) (M : Memberships) (f : ℕ → ℕ) (n now : ℕ) (ends : method.Outcome) (a : Answer) (node : Node) (disk : NodeRecord) (replies : List Reply) (s : Scene)
-    → All IsDevice c.attached → c.id ≡ h.cluster → nat_le n 32 ≡ true → NodeDue h a node → Holds (setting_of c) M → NodeTied c M n disk node → ((k : ℕ) → f k ≤ inst M k)
+    → All IsDevice c.attached → OfHeader h c → nat_le n 32 ≡ true → NodeDue h a node → Holds (setting_of c) M → NodeTied c M n disk node → ((k : ℕ) → f k ≤ inst M k)
     → MayAll c n None (site node disk) (doings c n now ends replies (input.Answered a) node)
     → AllFit c n None (site node disk) (doings c n now ends replies (input.Answered a) node) → AllSo (doings c n now ends replies (input.Answered a) node)
     → Goes h n None f node None s.moments → Comes h c M n None f (site node disk) (doings c n now ends replies (input.Answered a) node) s

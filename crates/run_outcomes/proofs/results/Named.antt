@@ -21,7 +21,7 @@ obstacle_named : (h : Header) (e d : ℕ) (before : List Moment) (o : Obstacle) 
     → ObstacleIsShown h e d before o
 obstacle_named h e d before NoPath k path = sym path
 obstacle_named h e d before (Seizing (Held keys)) k path = absurd k
-obstacle_named h e d before (Seizing (NotRegistered keys)) k path = tt
+obstacle_named h e d before (Seizing (NotRegistered keys)) k path = k
 obstacle_named h e d before (Seizing (Greater w)) k path = k
 obstacle_named h e d before (Seizing Expelled) k path = k
 obstacle_named h e d before (Seizing (Contended key)) k path = k

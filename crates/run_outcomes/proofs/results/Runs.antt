@@ -10,9 +10,26 @@ use Rattle.run_outcomes.specs.results.Paths.{IsPathed}
 use Rattle.run_outcomes.proofs.counts.Runs.{lacking_of_each_run}
 use Rattle.run_outcomes.proofs.results.Named.{all_named}
 use Rattle.run_outcomes.proofs.results.Pathed.{run_pathed, whole_at}
-use Rattle.std.specs.Prelude.{List, None, Option, Some, [], length, slice_get, ℕ, ◌-◌, ◌≡◌, ◌≤◌, ◌∷◌, ◌≢◌, ◌⊎◌}
+use Rattle.cl_base.specs.Sets.{has}
+use Rattle.cl_base.specs.declared.header.HeaderDevice.{HeaderDevice}
+use Rattle.cmm_attempt.proofs.Basics.{none_some, same_some}
+use Rattle.cmm_attempt.specs.declared.attached.AttachedDevice.{AttachedDevice}
+use Rattle.history.specs.Letters.{Letter as Posting, letter_of, says}
+use Rattle.history.specs.Names.{named}
+use Rattle.history.specs.Setting.{paths_of}
+use Rattle.history.specs.Trace.{repeated, sent}
+use Rattle.run_devices.proofs.readings.Letters.{arrived_hand, found_carried}
+use Rattle.run_devices.specs.readings.Sites.{Carried, IsReading, Posted}
+use Rattle.run_seizings.proofs.Progress.{or_left, or_right, same_is}
+use Rattle.wire.specs.Reads.{whole_of}
+use Rattle.wire.specs.declared.message.Message.{Message}
+use Rattle.world_model.specs.First.{attached_from, first_cluster}
+use Rattle.run_outcomes.proofs.counts.Named.{at_paths}
+use Rattle.run_outcomes.proofs.counts.Places.{IsAt, at_device, device_of}
+use Rattle.run_outcomes.specs.results.Laws.{is_without, promised_without}
+use Rattle.std.specs.Prelude.{Bool, List, None, Option, Some, [], false, if◌then◌else◌, length, not, option_map, slice_get, true, ℕ, ◌&&◌, ◌+◌, ◌-◌, ◌==◌, ◌≡◌, ◌≤◌, ◌∷◌, ◌≢◌, ◌⊎◌}
 use Rattle.std.specs.List.{AllByRecursion}
-use Rattle.std.proofs.Common.{inl, inr, refl, subst, sym, arith}
+use Rattle.std.proofs.Common.{ap, inl, inr, refl, subst, sym, arith, ◌∙◌}
 use Rattle.cl_base.specs.declared.header.Header.{Header}
 use Rattle.cl_base.specs.declared.packet.DropCause.{DropCause}
 use Rattle.cl_base.specs.declared.packet.DropCause.TheVariants as drop
@@ -20,7 +37,7 @@ use Rattle.device_queue.specs.Queue.{next_of}
 use Rattle.history.specs.Contact.{AttemptsDiffer, IsNew}
 use Rattle.history.specs.Moment.{Moment, Part, Said, Told}
 use Rattle.interconnect.specs.Links as links
-use Rattle.interconnect.specs.Links.{Links, Packet, removing, sending}
+use Rattle.interconnect.specs.Links.{Links, Packet, packet_of, removing, sending}
 use Rattle.node_model.specs.declared.cluster.Cluster.{Cluster}
 use Rattle.node_model.specs.declared.input.Input.{Input}
 use Rattle.node_model.specs.declared.input.Input.TheVariants as input
@@ -38,10 +55,8 @@ use Rattle.run_history.specs.Scenes.{Scene, adding, dropped_so, first_scene, tel
 use Rattle.run_history.specs.Stages.{Sized, Stage}
 use Rattle.run_history.specs.Wholes.{IsWhole}
 use Rattle.run_messages.proofs.Reaching.{IsReached, IsSmall, holds_of_each, stage_of}
-use Rattle.run_devices.proofs.readings.Letters.{arrived_hand}
 use Rattle.run_devices.proofs.readings.Runs.{run_reads}
 use Rattle.run_devices.specs.readings.Readings.{StandsSo}
-use Rattle.run_devices.specs.readings.Sites.{IsReading}
 use Rattle.run_records.proofs.Sizes.{header_sized}
 use Rattle.run_seizings.proofs.Moments.{due_low, due_own, plain_no, plain_sent}
 use Rattle.run_seizings.proofs.Steps.{Ground, OwnKeysOnly, ground_of}
@@ -54,13 +69,12 @@ use Rattle.status_report.specs.declared.entry.Entry.TheVariants as entry
 use Rattle.status_report.specs.declared.packet_entry.PacketEntry.TheVariants as packet
 use Rattle.wire.specs.declared.message.Body.{Body}
 use Rattle.wire.specs.declared.message.Body.TheVariants as body
-use Rattle.world_model.specs.First.{first_cluster}
 use Rattle.run_outcomes.proofs.results.Answers.{NodeDue, answer_comes}
 use Rattle.run_outcomes.proofs.results.Dues.{NodeHigh, due_high}
-use Rattle.run_outcomes.proofs.results.Stays.{Spares, letters_grow, letters_stay, node_stays}
+use Rattle.run_outcomes.proofs.results.Stays.{Spares, both_true, letters_grow, letters_stay, node_stays, promised_stays}
 use Rattle.run_outcomes.proofs.results.Steps.{plain_comes, step_shown}
 use Rattle.run_outcomes.specs.results.Laws.{ResultsOfEachRun}
-use Rattle.run_outcomes.specs.results.Shown.{AsksOf, EndsShown, HandShown, IsShown, LetterShown, SaysShown, installed_in}
+use Rattle.run_outcomes.specs.results.Shown.{AsksOf, EndsShown, HandShown, IsPlaced, IsShown, LetterShown, OfHeader, PromisedSo, SaysShown, installed_in}
 
 -- ---- one moment more, and other links
 
@@ -120,6 +134,35 @@ asks_so h ms from (body.SeizeQuorum e members d) k = k
 asks_so h ms from (body.SeizeData e members d) k = k
 asks_so h ms from _ k = tt
 
+-- a letter that was sent says what its moment says
+letter_without : (e d number : ℕ) (l : Posting) (ms : List Moment) → letter_of number ms ≡ Some l → is_without e d (says l.bytes) ≡ true → promised_without e d l.from ms ≡ true
+letter_without e d number l [] is so = absurd (none_some l is)
+letter_without e d number l (sent q a b called bytes ∷ ms) is so = by_test (q == number) is (letter_without e d number l ms)
+  where
+    by_test : (t : Bool) → (if t then Some (record { from = a; to = b; name = named called; bytes = bytes; before = ms }) else letter_of number ms) ≡ Some l
+        → (letter_of number ms ≡ Some l → is_without e d (says l.bytes) ≡ true → promised_without e d l.from ms ≡ true)
+        → promised_without e d l.from (sent q a b called bytes ∷ ms) ≡ true
+    by_test true here next =
+        let same : record { from = a; to = b; name = named called; bytes = bytes; before = ms } ≡ l = same_some _ l here in
+        or_left ((a == l.from) && is_without e d (says bytes)) (promised_without e d l.from ms)
+        (both_true (a == l.from) (is_without e d (says bytes)) (subst (λ (z : Posting). (a == z.from) ≡ true) same (same_is a)) (subst (λ (z : Posting). is_without e d (says z.bytes) ≡ true) (sym same) so))
+    by_test false there next = or_right ((a == l.from) && is_without e d (says bytes)) (promised_without e d l.from ms) (next there so)
+letter_without e d number l (repeated q copy ∷ ms) is so = letter_without e d (if copy == number then q else number) l ms is so
+letter_without e d number l (_ ∷ ms) is so = letter_without e d number l ms is so
+
+-- a Promise that comes was sent so
+promised_at : (ms : List Moment) (number from : ℕ) (l : Posting) (b : Body) → letter_of number ms ≡ Some l → l.from ≡ from → says l.bytes ≡ Some b → PromisedSo ms from b
+promised_at ms number from l (body.Promise e newest members valid flagged committed pending) is sender told =
+    λ d none. subst (λ j. promised_without e d j ms ≡ true) sender
+    (letter_without e d number l ms is (subst (λ o. is_without e d o ≡ true) (sym told) (both_true (e == e) (not (has valid d)) (same_is e) (ap not none))))
+promised_at ms number from l _ is sender told = tt
+
+arrived_promised : (h : Header) (ms : List Moment) (l : Links) (number : ℕ) (x : Packet) (m : Message) → packet_of l.packets number ≡ Some x → whole_of x.bytes ≡ Some m → Carried h ms l
+    → PromisedSo ms x.from m.body
+arrived_promised h ms l number x m is whole all =
+    let k : Posted h ms l.next x = found_carried h ms l number x all is in
+    promised_at ms x.number x.from k.letter m.body k.sent_so k.sender (ap (λ bs. option_map (λ (z : Message). z.body) (whole_of bs)) k.bytes ∙ ap (λ (o : Option Message). option_map (λ (z : Message). z.body) o) whole)
+
 -- ---- a command at a device
 
 -- what it leaves, beside the device, is as before
@@ -135,6 +178,18 @@ left_at h c s n d k (Some x) g z = record { shown = record { nodes = z.nodes; se
 node_due : (h : Header) (a : Answer) (node : Node) → OwnKeysOnly h node a → NodeHigh node a → NodeDue h a node
 node_due h a Down own high = tt
 node_due h a (Up x) own high = ((λ k next reads. own (subst (λ z. next_of x.tasks ≡ Some z) reads next)), high)
+
+-- ---- the devices of the header
+
+placed_at : (h : Header) (k : ℕ) (hs : List HeaderDevice) → ((d : ℕ) (a : AttachedDevice) → IsAt k hs d a → a.nodes ≡ paths_of h a.device) → AllByRecursion (IsPlaced h) (attached_from k hs)
+placed_at h k [] f = tt
+placed_at h k (x ∷ hs) f = (f k (device_of k x) (inl (refl, refl)), placed_at h (k + 1) hs (λ d a at. f d a (inr at)))
+
+of_header : (h : Header) → OfHeader h (first_cluster h)
+of_header h = record {
+  id = refl;
+  places = placed_at h 1 h.devices (λ d a at. at_paths 1 h.devices d a at ∙ ap (λ j. paths_of h j) (sym (at_device 1 h.devices d a at)));
+}
 
 -- ---- each thing that happens
 
@@ -156,7 +211,7 @@ happening_shown h s (Notes e) may b k = more_shown h s s.links (Told (entry.Sche
 happening_shown h s (Takes n now ends i) may b k =
     let c : Cluster = first_cluster h in
     step_shown h c n now ends i s b.sized (ground_of c s b.stage) may.0 (plain_sent s.nodes i may.1)
-    (plain_comes h c (ground_of c s b.stage).machine n now ends i s.nodes _ b.sized refl (plain_no i may.1) may.2 (b.stage.fits.nodes n))
+    (plain_comes h c (ground_of c s b.stage).machine n now ends i s.nodes _ b.sized (of_header h) (plain_no i may.1) may.2 (b.stage.fits.nodes n))
     (plain_hand h (installed_in s.nodes) s.moments i may.1) b.differ k
 happening_shown h s (Arrives number x m now ends) may b k =
     let c : Cluster = first_cluster h in
@@ -164,9 +219,10 @@ happening_shown h s (Arrives number x m now ends) may b k =
     let t : Scene = telling (entry.Packet (packet.Delivered number x.from x.to)) (removed s number) in
     let come : IsShown h t = more_shown h s (removing s.links number) z tt (λ n. tt) tt k in
     step_shown h c x.to now ends (input.Packet x.from m) t b.sized (ground_of c s b.stage) may.3 may.4
-    (plain_comes h c (ground_of c s b.stage).machine x.to now ends (input.Packet x.from m) s.nodes _ b.sized refl tt may.5 (b.stage.fits.nodes x.to)) (
+    (plain_comes h c (ground_of c s b.stage).machine x.to now ends (input.Packet x.from m) s.nodes _ b.sized (of_header h) tt may.5 (b.stage.fits.nodes x.to)) (
       asks_so h (z ∷ s.moments) x.from m.body (arrived_hand h s.moments s.links number x m may.0 may.1 b.reading.carried).stands,
       among_shown h (installed_in s.nodes) (z ∷ s.moments) x.from m.body s.nodes.sent may.4 come.sent,
+      promised_stays s.moments z x.from m.body (arrived_promised h s.moments s.links number x m may.0 may.1 b.reading.carried),
     ) b.differ come
 happening_shown h s (Strays number x) may b k = more_shown h s (removing s.links number) (Told (entry.Packet (packet.Delivered number x.from x.to))) tt (λ n. tt) tt k
 happening_shown h s (Misses number x) may b k = more_shown h s (removing s.links number) (Told (entry.Packet (packet.Dropped number drop.Down))) tt (λ n. tt) tt k
@@ -184,13 +240,13 @@ happening_shown h s (Commands n d q now ends) may b k =
     (node_due h o.answer (s.nodes.node n) (due_own h s n d q (s.nodes.node n) b.whole may.2 low) (due_high h s n d q b.few b.places b.whole (b.paths.nodes n) may.2 low)) in
     step_shown h c n now ends (input.Answered o.answer) o.scene b.sized l.ground may.0 tt
     (λ replies m e so holds known tied less g. answer_comes h c l.ground.machine (installed_in o.scene.nodes) n now ends o.answer (o.scene.nodes.node n) (o.scene.nodes.disk n).kept replies _
-    b.sized.fits.devices.attached refl (low_number n may.0.1) due holds tied less m e so g) tt b.differ l.shown
+    b.sized.fits.devices.attached (of_header h) (low_number n may.0.1) due holds tied less m e so g) tt b.differ l.shown
 happening_shown h s (Writes n d value now ends) may b k =
     let c : Cluster = first_cluster h in
     let o : Commanded = commanded s n d (command.Write value) in
     let l : Left h c s o = left_at h c s n d (command.Write value) (slice_get s.devices (d - 1)) (ground_of c s b.stage) k in
     step_shown h c n now ends (input.Wrote d value o.answer) o.scene b.sized l.ground may.0 tt
-    (plain_comes h c l.ground.machine n now ends (input.Wrote d value o.answer) o.scene.nodes _ b.sized refl tt may.2 (l.ground.fits.nodes n)) tt b.differ l.shown
+    (plain_comes h c l.ground.machine n now ends (input.Wrote d value o.answer) o.scene.nodes _ b.sized (of_header h) tt may.2 (l.ground.fits.nodes n)) tt b.differ l.shown
 happening_shown h s (Refuses n d value cause) may b k =
     more_shown h s s.links (Told (entry.Device (device_entry.Refused n d value cause))) tt (λ m. tt) tt k
 

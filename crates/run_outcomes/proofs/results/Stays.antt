@@ -37,7 +37,12 @@ use Rattle.status_report.specs.declared.device_entry.DeviceEntry.TheVariants as 
 use Rattle.status_report.specs.declared.entry.Entry.TheVariants as entry
 use Rattle.wire.specs.declared.message.Body.{Body}
 use Rattle.wire.specs.declared.message.Body.TheVariants as body
-use Rattle.run_outcomes.specs.results.Shown.{AsksOf, AttemptIn, EndShown, EntryShown, HandShown, LetterShown, NodeShown, SaysShown, StepShown, TasksShown, UpShown, WorkShown, readings}
+use Rattle.run_outcomes.specs.results.Shown.{AsksOf, AttemptIn, EndShown, EntryTold, HandShown, LetterShown, NodeShown, PromiseShown, PromisedSo, SaysShown, StepShown, TasksShown, UpShown, Was, WorkShown, readings}
+use Rattle.run_outcomes.specs.results.Laws.{is_without, promised_without}
+use Rattle.history.specs.Letters.{says}
+use Rattle.history.specs.Trace.{sent}
+use Rattle.cmm_attempt.specs.declared.plan.Plan.{Plan}
+use Rattle.cmm_attempt.specs.declared.promised.Promised.{Promised}
 
 -- ---- results
 
@@ -47,6 +52,7 @@ ended_in h e d (Greater w) members ms = nat_lt e w && list_any (λ m. somewhere 
 ended_in h e d Expelled members ms = list_any (λ m. somewhere (shows_expelled h d m) ms) (nodes_of members)
 ended_in h e d (Contended key) members ms = list_any (λ m. somewhere (shows_contended h members d key m) ms) (nodes_of members)
 ended_in h e d Fault members ms = list_any (λ m. somewhere (shows_fault d m) ms) (nodes_of members)
+ended_in h e d (NotRegistered keys) members ms = list_any (λ m. somewhere (λ earlier x. reads_keys m d x) ms) (nodes_of members)
 ended_in h e d _ members ms = true
 
 any_more : (test : ℕ → List Moment → Moment → Bool) (x : Moment) (ms : List Moment) (ns : List ℕ) → list_any (λ m. somewhere (test m) ms) ns ≡ true
@@ -75,7 +81,7 @@ ended_more h e d (Greater w) members x ms k =
 ended_more h e d Expelled members x ms k = any_more (λ m. shows_expelled h d m) x ms (nodes_of members) k
 ended_more h e d (Contended key) members x ms k = any_more (λ m. shows_contended h members d key m) x ms (nodes_of members) k
 ended_more h e d (Held keys) members x ms k = refl
-ended_more h e d (NotRegistered keys) members x ms k = refl
+ended_more h e d (NotRegistered keys) members x ms k = any_more (λ m earlier y. reads_keys m d y) x ms (nodes_of members) k
 ended_more h e d Fault members x ms k = any_more (λ m. shows_fault d m) x ms (nodes_of members) k
 
 -- the moments since the attempt are one more
@@ -95,7 +101,7 @@ end_stays h e d (Greater w) x ms new begun k = ended_stays h e d (Greater w) x m
 end_stays h e d Expelled x ms new begun k = ended_stays h e d Expelled x ms new begun k
 end_stays h e d (Contended key) x ms new begun k = ended_stays h e d (Contended key) x ms new begun k
 end_stays h e d (Held keys) x ms new begun k = tt
-end_stays h e d (NotRegistered keys) x ms new begun k = tt
+end_stays h e d (NotRegistered keys) x ms new begun k = ended_stays h e d (NotRegistered keys) x ms new begun k
 end_stays h e d Fault x ms new begun k = ended_stays h e d Fault x ms new begun k
 
 -- ---- a moment that is no command of node n at a device, but for a write
@@ -213,11 +219,30 @@ tasks_stay h ms x n q (t ∷ ts) new spares k = (
 
 -- ---- attempts, nodes and messages
 
-entries_stay : (h : Header) (ms : List Moment) (x : Moment) (e : ℕ) (es : List Seizing) → IsNew ms x → list_any (is_attempt e) ms ≡ true
-    → AllByRecursion (EntryShown h ms e) es → AllByRecursion (EntryShown h (x ∷ ms) e) es
-entries_stay h ms x e [] new begun k = tt
-entries_stay h ms x e (s ∷ es) new begun k =
-    ((λ r is. end_stays h e s.attached.device (bare r) x ms new begun (k.0 r is)), entries_stay h ms x e es new begun k.1)
+entries_stay : (h : Header) (ms : List Moment) (x : Moment) (e : ℕ) (plan : Plan) (promises : List Promised) (es : List Seizing) → IsNew ms x → list_any (is_attempt e) ms ≡ true
+    → AllByRecursion (EntryTold (Was h ms e) plan promises) es → AllByRecursion (EntryTold (Was h (x ∷ ms) e) plan promises) es
+entries_stay h ms x e plan promises [] new begun k = tt
+entries_stay h ms x e plan promises (s ∷ es) new begun k = (
+  record { place = k.0.place; told = λ r some is. end_stays h e s.attached.device (bare r) x ms new begun (k.0.told r some is); nobody = k.0.nobody },
+  entries_stay h ms x e plan promises es new begun k.1,
+)
+
+-- what was sent stays so
+without_stays : (e d m : ℕ) (x : Moment) (ms : List Moment) → promised_without e d m ms ≡ true → promised_without e d m (x ∷ ms) ≡ true
+without_stays e d m (sent p n to called bytes) ms k = or_right ((n == m) && is_without e d (says bytes)) (promised_without e d m ms) k
+without_stays e d m _ ms k = k
+
+promise_stays : (ms : List Moment) (x : Moment) (e : ℕ) (p : Promised) → PromiseShown ms e p → PromiseShown (x ∷ ms) e p
+promise_stays ms x e p (inl own) = inl own
+promise_stays ms x e p (inr k) = inr (λ d none. without_stays e d p.shown.summary.node x ms (k d none))
+
+promises_stay : (ms : List Moment) (x : Moment) (e : ℕ) (ps : List Promised) → AllByRecursion (PromiseShown ms e) ps → AllByRecursion (PromiseShown (x ∷ ms) e) ps
+promises_stay ms x e [] k = tt
+promises_stay ms x e (p ∷ ps) k = (promise_stays ms x e p k.0, promises_stay ms x e ps k.1)
+
+pub promised_stays : (ms : List Moment) (x : Moment) (from : ℕ) (b : Body) → PromisedSo ms from b → PromisedSo (x ∷ ms) from b
+promised_stays ms x from (body.Promise e newest members valid flagged committed pending) k = λ d none. without_stays e d from x ms (k d none)
+promised_stays ms x from _ k = tt
 
 pub attempt_stays : (h : Header) (ms : List Moment) (x : Moment) (q : ℕ) (o : Option AttemptState) → IsNew ms x → AttemptIn h ms q o → AttemptIn h (x ∷ ms) q o
 attempt_stays h ms x q None new k = tt
@@ -226,7 +251,9 @@ attempt_stays h ms x q (Some a) new k = record {
   of = of_stays ms x a.plan.epoch a.plan.members new k.of;
   some = k.some;
   epoch = k.epoch;
-  entries = entries_stay h ms x a.plan.epoch a.devices new k.of.0 k.entries;
+  plan = k.plan;
+  promises = promises_stay ms x a.plan.epoch a.promises k.promises;
+  rests = record { early = k.rests.early; past = k.rests.past; entries = entries_stay h ms x a.plan.epoch a.plan a.promises a.devices new k.of.0 k.rests.entries };
 }
 
 pub up_stays : (h : Header) (ms : List Moment) (x : Moment) (n : ℕ) (y : UpNode) → IsNew ms x → Spares n x → UpShown h ms n y → UpShown h (x ∷ ms) n y
@@ -260,7 +287,7 @@ asks_stay ms x _ new k = tt
 
 pub hand_stays : (h : Header) (f : ℕ → ℕ) (ms : List Moment) (x : Moment) (told : Delivered) → IsNew ms x → HandShown h f ms told → HandShown h f (x ∷ ms) told
 hand_stays h f ms x None new k = tt
-hand_stays h f ms x (Some d) new k = (asks_stay ms x d.1.body new k.0, says_stay h f ms x d.1.body new k.1)
+hand_stays h f ms x (Some d) new k = (asks_stay ms x d.1.body new k.0, says_stay h f ms x d.1.body new k.1, promised_stays ms x d.0 d.1.body k.2)
 
 pub letters_stay : (h : Header) (f : ℕ → ℕ) (ms : List Moment) (x : Moment) (ls : List Letter) → IsNew ms x → AllByRecursion (LetterShown h f ms) ls
     → AllByRecursion (LetterShown h f (x ∷ ms)) ls

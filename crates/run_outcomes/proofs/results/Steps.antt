@@ -60,7 +60,7 @@ use Rattle.run_outcomes.proofs.results.Passing.{passing_all}
 use Rattle.run_outcomes.proofs.results.Stays.{SparedBy, Spares, letters_grow, letters_stay, node_stays}
 use Rattle.run_outcomes.proofs.results.Acted.{Done, Goes, Now, OutShown}
 use Rattle.run_outcomes.proofs.results.Walk.{Comes, all_done, inst, tied_installed}
-use Rattle.run_outcomes.specs.results.Shown.{HandShown, IsShown, LetterShown, NodeShown, installed_in}
+use Rattle.run_outcomes.specs.results.Shown.{HandShown, IsShown, LetterShown, NodeShown, OfHeader, installed_in}
 
 -- ---- what the others have
 
@@ -145,7 +145,7 @@ StepComes h c M n now ends i v s =
     → SiteTied c M n (site_of v n) → ((k : ℕ) → installed_in v k ≤ inst M k) → Goes h n (delivered_by i) (installed_in v) (v.node n) None s.moments
     → Comes h c M n (delivered_by i) (installed_in v) (site_of v n) (doings c n now ends replies i (v.node n)) s
 
-pub plain_comes : (h : Header) (c : Cluster) (M : Memberships) (n now : ℕ) (ends : method.Outcome) (i : Input) (v : Nodes) (s : Scene) → Sized c → c.id ≡ h.cluster → IsNoAnswer i → now < 2 ^ 64
+pub plain_comes : (h : Header) (c : Cluster) (M : Memberships) (n now : ℕ) (ends : method.Outcome) (i : Input) (v : Nodes) (s : Scene) → Sized c → OfHeader h c → IsNoAnswer i → now < 2 ^ 64
     → NodeFits c n (v.node n) → StepComes h c M n now ends i v s
 plain_comes h c M n now ends i v s sized id is time fit replies may fits so holds known tied low g =
     all_done h c M n (delivered_by i) (installed_in v) None (site_of v n) (doings c n now ends replies i (v.node n)) None s sized.fits.devices.attached id holds known tied low may

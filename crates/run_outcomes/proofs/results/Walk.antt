@@ -48,7 +48,7 @@ use Rattle.run_outcomes.proofs.results.Calm.{AllCalm, IsPlain, lost_calm, saved_
 use Rattle.run_outcomes.proofs.results.Passing.{passing_all, passing_lasts}
 use Rattle.run_outcomes.proofs.results.Stays.{says_grow}
 use Rattle.run_outcomes.proofs.results.Ups.{NoneLate, change_up}
-use Rattle.run_outcomes.specs.results.Shown.{NodeShown}
+use Rattle.run_outcomes.specs.results.Shown.{NodeShown, OfHeader}
 use Rattle.run_outcomes.proofs.results.Acted.{Done, Goes, NoneNewer, Now, OutShown, OutsShown, act_done, calm_done, calm_says, change_reached, goes_last, outs_last}
 
 -- ---- changes that are saved
@@ -74,10 +74,10 @@ begun_in c n x ch s differ p members is =
     subst (λ z. IsOf (passing n (first_lines n z ++ saved_lines c n x z) s).moments p members) (sym is)
     (leads_of c n x p members s (subst (λ z. AttemptsDiffer (passing n (first_lines n z ++ saved_lines c n x z) s).moments) is differ))
 
-saves_done : (h : Header) (c : Cluster) (n : ℕ) (told : Delivered) (f top : ℕ → ℕ) (x : UpNode) (ch : Change) (last : Last) (s : Scene) → All IsDevice c.attached → MayChange c n told x ch → AtChange x ch → NoneLate f x
+saves_done : (h : Header) (c : Cluster) (n : ℕ) (told : Delivered) (f top : ℕ → ℕ) (x : UpNode) (ch : Change) (last : Last) (s : Scene) → All IsDevice c.attached → OfHeader h c → MayChange c n told x ch → AtChange x ch → NoneLate f x
     → Goes h n told f (Up x) last s.moments
     → Done h n told f top (Up (changed c n x ch)) (last_by_change last ch) (first_lines n ch ++ saved_lines c n x ch) (passing n (first_lines n ch ++ saved_lines c n x ch) s).moments
-saves_done h c n told f top x ch last s fits may at late k =
+saves_done h c n told f top x ch last s fits id may at late k =
     let os : List Output = first_lines n ch ++ saved_lines c n x ch in
     let calm : AllCalm os = saved_calm c n x ch (at_plain x ch at) in
     let r : Scene = passing n os s in
@@ -85,7 +85,7 @@ saves_done h c n told f top x ch last s fits may at late k =
       goes = λ differ.
           let z : Now h n told f (Up x) last r.moments = passing_lasts (Goes h n told f (Up x) last) (goes_last h n told f (Up x) last) n os s calm k differ in
           record {
-            here = change_up h c f r.moments n told x ch fits may at z.hand late (begun_in c n x ch s differ) z.here;
+            here = change_up h c f r.moments n told x ch fits id may at z.hand late (begun_in c n x ch s differ) z.here;
             hand = z.hand;
             lines = z.lines;
             reached = change_reached h c n told f x ch last last r.moments may z;
@@ -146,11 +146,11 @@ fresh_up : (h : Header) (c : Cluster) (ms : List Moment) (n : ℕ) (disk : NodeR
 fresh_up h c ms n disk = record { tasks = tt; attempt = tt }
 
 pub doing_done : (h : Header) (c : Cluster) (n : ℕ) (told : Delivered) (f top : ℕ → ℕ) (g : Hand) (node : Node) (disk : NodeRecord) (d : Doing) (last : Last) (s : Scene) → All IsDevice c.attached
-    → c.id ≡ h.cluster → May c n told (site node disk) d → AtDoing n told g (site node disk) d → DoingFits last (site node disk) d → DoingSo d → NoneIn f top node → Goes h n told f node last s.moments
+    → OfHeader h c → May c n told (site node disk) d → AtDoing n told g (site node disk) d → DoingFits last (site node disk) d → DoingSo d → NoneIn f top node → Goes h n told f node last s.moments
     → Done h n told f top (effect c n (site node disk) d).node (last_after last d) (gives c n (site node disk) d) (passing n (gives c n (site node disk) d) s).moments
 doing_done h c n told f top g (Up x) disk (Does a) last s fits id may at ends so free k = act_done h c n told f top g x a last s fits id may at ends so free.0 free.1 k
 doing_done h c n told f top g Down disk (Does a) last s fits id may at ends so free k = absurd may
-doing_done h c n told f top g (Up x) disk (Saves ch) last s fits id may at ends so free k = saves_done h c n told f top x ch last s fits may at free.0 k
+doing_done h c n told f top g (Up x) disk (Saves ch) last s fits id may at ends so free k = saves_done h c n told f top x ch last s fits id may at free.0 k
 doing_done h c n told f top g Down disk (Saves ch) last s fits id may at ends so free k = absurd may
 doing_done h c n told f top g (Up x) disk (Loses ch why) last s fits id may at ends so free k =
     calm_done h n told f top (Up x) Down last None (first_lines n ch ++ gone_line n why) s (lost_calm n ch why (at_plain x ch at)) (λ ms z. tt) (λ ms z. tt) k
@@ -217,7 +217,7 @@ then_comes h c M n told f x d ds s t o z done = record {
 }
 
 pub all_done : (h : Header) (c : Cluster) (M : Memberships) (n : ℕ) (told : Delivered) (f : ℕ → ℕ) (g : Hand) (x : Site) (ds : List Doing) (last : Last) (s : Scene) → All IsDevice c.attached
-    → c.id ≡ h.cluster → Holds (setting_of c) M → Known M told → SiteTied c M n x → ((k : ℕ) → f k ≤ inst M k)
+    → OfHeader h c → Holds (setting_of c) M → Known M told → SiteTied c M n x → ((k : ℕ) → f k ≤ inst M k)
     → MayAll c n told x ds → AtAll c n told g x ds → AllFit c n last x ds → AllSo ds → Goes h n told f x.node last s.moments → Comes h c M n told f x ds s
 all_done h c M n told f g x [] last s fits id holds known tied low may at ends so k = none_comes h c M n told f x last s tied k
 all_done h c M n told f g x (d ∷ ds) last s fits id holds known tied low may at ends so k =
