@@ -6,6 +6,10 @@ pub mod Downs
 pub mod Ends
 pub mod Goes
 pub mod Happens
+pub mod Joinings
+pub mod Ascending
+pub mod Read
+pub mod Joined
 pub mod Histories
 pub mod Mild
 pub mod Moments

@@ -3,6 +3,7 @@ pub mod Shown
 pub mod Aside
 pub mod Tasks
 pub mod Apart
+pub mod Order
 pub mod Results
 pub mod Stays
 pub mod Letters

@@ -17,3 +17,4 @@ pub mod First
 pub mod Moments
 pub mod Wants
 pub mod Runs
+pub mod Agreeing

@@ -7,7 +7,8 @@
 //! - `installs`: an Install tells each seizing that the device lines show, and no other. An attempt has of each device how its seizing ended: a device
 //!   whose seizing ended otherwise than held was seized by nobody.
 //! - `validity`: which devices the record of a node holds valid. How far a joining is stands in its lines.
-//! - `queues`: the device queue of a node. Two things are left open: the joinings of an install, and the seizings of a coordinator itself.
+//! - `queues`: the device queue of a node. Two things are left open: the joinings of an install of a node to which a seized device is attached of which a
+//!   stop left open whether it is valid, and the seizings of a coordinator itself.
 //!
 //! What is kept by each small step of a node, and by each thing that happens, stands in the other files of each part's `specs`.
 //!

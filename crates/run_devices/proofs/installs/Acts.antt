@@ -40,11 +40,13 @@ use Rattle.run_seizings.proofs.Acts.{ActMay}
 use Rattle.run_seizings.specs.Seized.{Either, Fresh, IsInstalled, TasksSo, WorkSo, has_installed}
 use Rattle.run_devices.proofs.readings.Acts.{NoChange}
 use Rattle.run_devices.proofs.readings.Calls.{attempt_of}
-use Rattle.run_devices.specs.installs.Shown.{AllAreTold, BodyShown, EndedAs, IsCounted, Shown}
+use Rattle.run_devices.specs.installs.Shown.{AllAreTold, BodyShown, EndedAs, IsCounted, ReadInOrder, Shown}
 use Rattle.run_devices.proofs.installs.Calls.{Known, Mine, ShownNow, called, ended_reads}
-use Rattle.run_devices.proofs.installs.Fulls.{installs_apart}
+use Rattle.run_devices.proofs.installs.Fulls.{installs_apart, installs_order}
 use Rattle.run_devices.proofs.installs.Links.{Gives}
 use Rattle.run_devices.proofs.installs.Silent.{Silent, minor_gives, plain_spread, tick_gives, write_gives}
+use Rattle.run_devices.proofs.readings.Order.{apart_of}
+use Rattle.attempt_laws.specs.Asking.{numbers_of}
 
 abbrev pub OptMine : Shown → ℕ → Option AttemptState → Type 0
 OptMine K high None = Unit {0}
@@ -112,18 +114,19 @@ seized_shown h c M n told high K disk x ms e d r k first now (inr fault) = inl (
 
 install_shown : (h : Header) (c : Cluster) (M : Memberships) (n : ℕ) (told : Delivered) (high : ℕ) (K : Shown) (disk : NodeRecord) (x : UpNode) (ms : List Moment) (i : Install)
     → Known h c M n told high K disk x ms → OptMine K high x.attempt → OfAttempt (λ a. (a.phase ≡ Installing) × (i ≡ install_in a)) x.attempt
-    → AllAreTold K i.epoch i.readings × AreOfDevices i.readings
+    → AllAreTold K i.epoch i.readings × AreOfDevices i.readings × ReadInOrder i.readings
 install_shown h c M n told high K disk x ms i k mine may = by_attempt x.attempt refl mine may
   where
     by_attempt : (o : Option AttemptState) → x.attempt ≡ o → OptMine K high o → OfAttempt (λ a. (a.phase ≡ Installing) × (i ≡ install_in a)) o
-        → AllAreTold K i.epoch i.readings × AreOfDevices i.readings
+        → AllAreTold K i.epoch i.readings × AreOfDevices i.readings × ReadInOrder i.readings
     by_attempt None is m z = absurd z
     by_attempt (Some a) is m z = (
       subst (λ (j : Install). AllAreTold K j.epoch j.readings) (sym z.1)
           (subst (λ e. AllAreTold K e (install_in a).readings) (sym (install_epoch a)) (m.shown.installing z.0)),
       subst (λ (j : Install). AreOfDevices j.readings) (sym z.1)
           (installs_apart a (at_attempt c M n told disk x a (All IsDevice a.plan.attached) k.at is (λ y shows co. attached_of a co.reached))
-          (attempt_of h ms n (session_of x) x.attempt a is k.up.attempt).attached),
+          (apart_of (numbers_of a.plan.attached) (attempt_of h ms n (session_of x) x.attempt a is k.up.attempt).attached)),
+      subst (λ (j : Install). ReadInOrder j.readings) (sym z.1) (installs_order a (attempt_of h ms n (session_of x) x.attempt a is k.up.attempt).attached),
     )
 
 write_shown : (h : Header) (c : Cluster) (M : Memberships) (n : ℕ) (told : Delivered) (high : ℕ) (K : Shown) (disk : NodeRecord) (x : UpNode) (ms : List Moment) (g : Hand) (to : ℕ) (b : Body)

@@ -2,7 +2,7 @@
 use Rattle.std.specs.Prelude.{ℕ, ◌≡◌, nat_le, All, true, List, [], ◌∷◌, Option, None, Some}
 use Rattle.std.specs.List.{AllByRecursion}
 use Rattle.std.proofs.Common.{refl, sym, ap, subst, ◌∙◌}
-use Rattle.attempt_laws.specs.Asking.{AreApart, numbers_of}
+use Rattle.attempt_laws.specs.Asking.{numbers_of}
 use Rattle.cl_base.specs.declared.header.Header.{Header}
 use Rattle.cmm_attempt.proofs.Basics.{if_either}
 use Rattle.cmm_attempt.specs.Attempts.{AttemptState, install_in}
@@ -53,10 +53,10 @@ use Rattle.run_devices.proofs.readings.Earlier.{differ_before, rises_so}
 use Rattle.run_devices.proofs.readings.Goes.{Goes}
 use Rattle.run_devices.proofs.readings.Stays.{reads_stay}
 use Rattle.run_devices.specs.readings.Laws.{HeldAsRead, WasRead}
-use Rattle.run_devices.specs.readings.Readings.{AttemptSo, StandsSo}
+use Rattle.run_devices.specs.readings.Readings.{AreInOrder, AttemptSo, StandsSo}
 use Rattle.run_devices.specs.readings.Sites.{InHand}
 use Rattle.run_devices.proofs.valid.Lines.{same_keys}
-use Rattle.run_devices.specs.installs.Shown.{AllAreTold, AllInstall, BodyShown, DoingInstalls, InstallSo, Shown, shown_in}
+use Rattle.run_devices.specs.installs.Shown.{AllAreTold, AllInstall, BodyShown, DoingInstalls, InstallSo, ReadInOrder, Shown, shown_in}
 use Rattle.run_devices.proofs.installs.Acts.{MineIn, mine_of}
 use Rattle.run_devices.proofs.installs.Calls.{HandLow, HandShown, Installed, Known, ShownNow, installs_so}
 use Rattle.run_devices.proofs.installs.Doings.{AllStill, Done, Stirs, doing_mine, hand_later, installed_later, shown_now}
@@ -125,13 +125,14 @@ all_saved : (h : Header) (K : Shown) (n e : ℕ) (ms : List Moment) (rs : List R
 all_saved h K n e ms rs now all k d keys seized = all k d keys (now k e d ∙ (sym (same_keys h k e d (saved n) ms tt) ∙ seized))
 
 install_so : (h : Header) (K : Shown) (n : ℕ) (ms : List Moment) (r : NodeState) (i : Install) → AttemptsDiffer ms → ShownNow h K ms → AllAreTold K i.epoch i.readings → AreOfDevices i.readings
-    → AllByRecursion (WasRead h ms i.epoch) i.readings → r.me ≡ n → InstallSo h (saved n ∷ ms) n r i
-install_so h K n ms r i differ now all apart read me =
+    → ReadInOrder i.readings → AllByRecursion (WasRead h ms i.epoch) i.readings → r.me ≡ n → InstallSo h (saved n ∷ ms) n r i
+install_so h K n ms r i differ now all apart order read me =
     let later : AllByRecursion (WasRead h (saved n ∷ ms) i.epoch) i.readings = reads_stay h ms (saved n) i.epoch i.readings read in
     record {
       told = seizings_told h i.epoch (saved n ∷ ms) i.readings (tt, differ) (all_saved h K n i.epoch ms i.readings now all) later;
       read = later;
       apart = apart;
+      order = order;
       me = me;
     }
 
@@ -145,14 +146,14 @@ counts_install h c M n told high K disk x ms a q r i k now differ may at hand mi
     let epoch : t.plan.epoch ≡ a.plan.epoch = ap (λ (p : Plan). p.epoch) (call_keeps c told a q may.2).0 in
     let read : AllByRecursion (HeldAsRead h ms a.plan.epoch) t.devices =
     (call_reads h c ms n told x a q (at_attempt c M n told disk x a (a.plan.coordinator ≡ n) k.at may.0 (λ y shows co. co.coordinator)) may.2 at hand k.up so).0 in
-    install_so h K n ms r i differ now z.told z.apart
+    install_so h K n ms r i differ now z.told z.apart z.order
     (subst (λ (j : Install). AllByRecursion (WasRead h ms j.epoch) j.readings) (sym z.gives)
     (subst (λ e. AllByRecursion (WasRead h ms e) (install_in t).readings) (sym (install_epoch t))
     (reads_so h ms t (subst (λ e. AllByRecursion (HeldAsRead h ms e) t.devices) (sym epoch) read))))
     (ap (λ y. (state_of y).me) (sym may.1) ∙ me)
 
 hand_all : (K : Shown) (M : Memberships) (ms : List Moment) (told : Delivered) (i : Install) → Says (λ b. b ≡ body.Install i) told → HandShown K M ms told
-    → AllAreTold K i.epoch i.readings × AreOfDevices i.readings
+    → AllAreTold K i.epoch i.readings × AreOfDevices i.readings × ReadInOrder i.readings
 hand_all K M ms None i says hand = absurd says
 hand_all K M ms (Some d) i says hand = subst (λ b. BodyShown K M ms d.0 b) says hand
 
@@ -166,8 +167,8 @@ up_installs : (h : Header) (c : Cluster) (M : Memberships) (n : ℕ) (told : Del
 up_installs h c M n told high K v w disk x g (Saves (Counts a q r i)) s differ may guard k goes now mine me =
     counts_install h c M n told high K disk x s.moments a q r i k (now tt) differ may guard.0 goes.hand mine me
 up_installs h c M n told high K v w disk x g (Saves (Installs r i)) s differ may guard k goes now mine me =
-    let all : AllAreTold K i.epoch i.readings × AreOfDevices i.readings = hand_all K M s.moments told i may.1 k.hand in
-    install_so h K n s.moments r i differ (now tt) all.0 all.1 (hand_read h s.moments n told i may.1 goes.hand) (ap (λ y. (state_of y).me) (sym may.0) ∙ me)
+    let all : AllAreTold K i.epoch i.readings × AreOfDevices i.readings × ReadInOrder i.readings = hand_all K M s.moments told i may.1 k.hand in
+    install_so h K n s.moments r i differ (now tt) all.0 all.1 all.2 (hand_read h s.moments n told i may.1 goes.hand) (ap (λ y. (state_of y).me) (sym may.0) ∙ me)
 up_installs h c M n told high K v w disk x g _ s differ may guard k goes now mine me = tt
 
 down_installs : (h : Header) (c : Cluster) (n : ℕ) (told : Delivered) (disk : NodeRecord) (d : Doing) (ms : List Moment) → May c n told (site Down disk) d → DoingInstalls h n ms d
@@ -189,7 +190,7 @@ doing_installs h c M n told high K v w x g d s differ holds known tied may guard
 -- ---- one after another
 
 pub all_install : (h : Header) (c : Cluster) (M : Memberships) (n : ℕ) (told : Delivered) (high : ℕ) (end : Scene) (v w : Nodes) (x : Site) (g : Hand) (small : List Doing) (s : Scene)
-    → c.id ≡ h.cluster → nat_le n 32 ≡ true → All IsDevice c.attached → AreApart (numbers_of c.attached) → Holds (setting_of c) M → KnownIn M told → SiteTied c M n x → MayAll c n told x small
+    → c.id ≡ h.cluster → nat_le n 32 ≡ true → All IsDevice c.attached → AreInOrder (numbers_of c.attached) → Holds (setting_of c) M → KnownIn M told → SiteTied c M n x → MayAll c n told x small
     → AllSo small → AllMay h c n told g x small → AllFit n (given_all c n x small) → AttemptsDiffer end.moments → passing n (given_all c n x small) s ≡ end → AllStill c n x small
     → HandLow high told → HandShown (shown_in h end.moments) M s.moments told → Goes h n told v w x g s → MineIn (shown_in h end.moments) high x.node → MeIn n x.node
     → AllInstall h c n x small s

@@ -89,7 +89,7 @@ body_begins h S W M ms later from to (body.Seized e d r) order new told (inl cou
 body_begins h S W M ms later from to (body.Seized e d r) order new told (inr ended) =
     inr (same_ended h W ms later from e d new (ended_told (W.device d) e from r told) ∙ ended)
 body_begins h S W M ms later from to (body.Install i) order new told all =
-    ((λ k d keys seized. all.0 k d keys (sym (same_counted h S W ms later k i.epoch d order new (told.0 d)) ∙ seized)), all.1)
+    ((λ k d keys seized. all.0 k d keys (sym (same_counted h S W ms later k i.epoch d order new (told.0 d)) ∙ seized)), all.1, all.2)
 body_begins h S W M ms later from to _ order new told all = tt
 
 packets_begin : (h : Header) (S : Setting) (W : Whole) (M : Memberships) (ms later : List Moment) (xs : List Packet) → InOrder S W → NewSeizers h W ms later → AllByRecursion (PacketTold W) xs

@@ -5,7 +5,7 @@ use Rattle.std.proofs.Common.{sym, ap, subst, ◌∙◌, inl, inr, arith}
 use Rattle.attempt_laws.proofs.Goes.{chosen_reached, goes_by_call}
 use Rattle.attempt_laws.proofs.Stays.{granted_stays, installs_come_before}
 use Rattle.attempt_laws.proofs.Walk.{IsSeizing}
-use Rattle.attempt_laws.specs.Asking.{AreApart, numbers_of}
+use Rattle.attempt_laws.specs.Asking.{numbers_of}
 use Rattle.attempt_laws.specs.Staying.{IsBefore}
 use Rattle.cl_base.specs.Seizings.{SeizeResult}
 use Rattle.cl_base.specs.declared.header.Header.{Header}
@@ -40,12 +40,13 @@ use Rattle.run_seizings.specs.Seized.{has_installed}
 use Rattle.run_devices.proofs.readings.Calls.{attempt_of, call_keeps}
 use Rattle.run_devices.proofs.readings.Tasks.{ended_kept, kept_keys}
 use Rattle.run_devices.specs.readings.Laws.{held_keys}
-use Rattle.run_devices.specs.readings.Readings.{AttemptSo, TasksRead}
+use Rattle.run_devices.specs.readings.Readings.{AreInOrder, AttemptSo, TasksRead}
 use Rattle.run_devices.specs.readings.Sites.{UpSo}
-use Rattle.run_devices.specs.installs.Shown.{AllAreTold, AreOfPlan, AttemptShown, BodyShown, EndedAs, EntryShown, IsCounted, Shown}
+use Rattle.run_devices.specs.installs.Shown.{AllAreTold, AreOfPlan, AttemptShown, BodyShown, EndedAs, EntryShown, IsCounted, ReadInOrder, Shown}
 use Rattle.run_devices.proofs.installs.Asks.{IsLow, Sought, TellsSo, goes_on, installs_seized, promise_in}
-use Rattle.run_devices.proofs.installs.Fulls.{installs_all, installs_apart}
+use Rattle.run_devices.proofs.installs.Fulls.{installs_all, installs_apart, installs_order}
 use Rattle.run_devices.proofs.installs.Turns.{EndsSo, Rests, before_seizing, turn_ends}
+use Rattle.run_devices.proofs.readings.Order.{apart_of}
 
 -- ---- what is known of the node
 
@@ -156,7 +157,7 @@ rested : (h : Header) (c : Cluster) (M : Memberships) (n : ℕ) (told : Delivere
     → Known h c M n told high K disk x ms → ShownNow h K ms → x.attempt ≡ Some a → MayCall c told a q → AtCall x q → Mine K high a → Rested K a (turn a q).after
 rested h c M n told high K disk x ms a q k now is may at mine before =
     let so : AttemptSo h ms n (session_of x) a = attempt_of h ms n (session_of x) x.attempt a is k.up.attempt in
-    turn_ends (EndedAs K a.plan.epoch) a q so.attached (call_tells h c M n told high K disk x ms a q k now is may at before) before
+    turn_ends (EndedAs K a.plan.epoch) a q (apart_of (numbers_of a.plan.attached) so.attached) (call_tells h c M n told high K disk x ms a q k now is may at before) before
     (λ seizing. ((mine.shown.seizing seizing).0, so.apart, (mine.shown.seizing seizing).1))
 
 seizing_after : (K : Shown) (a t : AttemptState) → Keeps (λ d. Unit {0}) a t → Rested K a t → IsSeizing t.phase
@@ -199,6 +200,7 @@ pub record Installed (K : Shown) (high : ℕ) (t : AttemptState) (i : Install) :
   pub gives : i ≡ install_in t
   pub told : AllAreTold K i.epoch i.readings
   pub apart : AreOfDevices i.readings
+  pub order : ReadInOrder i.readings
 
 pub installs_so : (h : Header) (c : Cluster) (M : Memberships) (n : ℕ) (told : Delivered) (high : ℕ) (K : Shown) (disk : NodeRecord) (x : UpNode) (ms : List Moment) (a : AttemptState) (q : Call)
     (i : Install) → Known h c M n told high K disk x ms → ShownNow h K ms → x.attempt ≡ Some a → MayCall c told a q → AtCall x q → installs_in (turn a q).steps ≡ Some i → Mine K high a
@@ -214,6 +216,9 @@ installs_so h c M n told high K disk x ms a q i k now is may at some mine =
 
     epoch : t.plan.epoch ≡ a.plan.epoch
     epoch = ap (λ (p : Plan). p.epoch) keeps.0
+
+    plan_order : AreInOrder (numbers_of t.plan.attached)
+    plan_order = subst (λ (p : Plan). AreInOrder (numbers_of p.attached)) (sym keeps.0) (attempt_of h ms n (session_of x) x.attempt a is k.up.attempt).attached
 
     by_before : IsBefore a.phase → (NobodyHas K a.plan.epoch) ⊎ ((d : ℕ) → Sought K high a.plan.epoch d a) → Rests (EndedAs K a.plan.epoch) t × (all_settled t.devices ≡ true)
         → AllAreTold K a.plan.epoch (install_in t).readings
@@ -242,5 +247,6 @@ installs_so h c M n told high K disk x ms a q i k now is may at some mine =
           told = subst (λ (j : Install). AllAreTold K j.epoch j.readings) (sym gives.1) (subst (λ e. AllAreTold K e (install_in t).readings) (sym (install_epoch t ∙ epoch)) all);
           apart = subst (λ (j : Install). AreOfDevices j.readings) (sym gives.1)
               (installs_apart t (subst (λ (p : Plan). All IsDevice p.attached) (sym keeps.0) (attached_of a reached))
-              (subst (λ (p : Plan). AreApart (numbers_of p.attached)) (sym keeps.0) (attempt_of h ms n (session_of x) x.attempt a is k.up.attempt).attached));
+              (apart_of (numbers_of t.plan.attached) plan_order));
+          order = subst (λ (j : Install). ReadInOrder j.readings) (sym gives.1) (installs_order t plan_order);
         }

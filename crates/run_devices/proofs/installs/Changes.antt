@@ -3,7 +3,7 @@ use Rattle.std.specs.Prelude.{ℕ, ◌++◌, ◌≡◌, false, List, [], ◌∷�
 use Rattle.std.specs.List.{list_any}
 use Rattle.std.proofs.Common.{refl, sym, subst, ◌∙◌, inl}
 use Rattle.attempt_laws.proofs.Stays.{plan_begins}
-use Rattle.attempt_laws.specs.Asking.{AreApart, numbers_of}
+use Rattle.attempt_laws.specs.Asking.{numbers_of}
 use Rattle.ccr_commit.specs.Entries.{all_committed}
 use Rattle.cl_base.specs.declared.header.Header.{Header}
 use Rattle.cmm_attempt.proofs.Basics.{none_some}
@@ -34,6 +34,8 @@ use Rattle.run_devices.proofs.installs.Calls.{Known, Mine, NobodyHas, ShownNow, 
 use Rattle.run_devices.proofs.installs.Links.{Gives, Says, gives_append}
 use Rattle.run_devices.proofs.installs.Silent.{adopted_give, bases_give, superseded_gives, unknown_gives}
 use Rattle.run_devices.proofs.installs.Turns.{Rests, first_ends}
+use Rattle.run_devices.specs.readings.Readings.{AreInOrder}
+use Rattle.run_devices.proofs.readings.Order.{apart_of}
 
 -- those that rest on what the lines show by now
 abbrev pub StirsChange : Change → Type 0
@@ -56,7 +58,7 @@ nobody_yet h K ms p differ now new k d = now k p d ∙ by_keys (keys_seized h k 
     by_keys None is = is
     by_keys (Some keys) is = absurd (no_truth (sym new ∙ (seizer_member h ms k p d keys differ is).begun))
 
-begun_mine : (K : Shown) (high p members n : ℕ) (c : Cluster) (z : UpNode) → AreApart (numbers_of c.attached) → NobodyHas K p
+begun_mine : (K : Shown) (high p members n : ℕ) (c : Cluster) (z : UpNode) → AreInOrder (numbers_of c.attached) → NobodyHas K p
     → Mine K high (beginning p members (own_promise n z p) c.attached c.id).after
 begun_mine K high p members n c z apart nobody =
     let a : AttemptState = (beginning p members (own_promise n z p) c.attached c.id).after in
@@ -65,7 +67,7 @@ begun_mine K high p members n c z apart nobody =
       before = λ before. inl none;
       shown = record {
         seizing = λ is.
-            let r : Rests (EndedAs K a.plan.epoch) a = (first_ends (EndedAs K a.plan.epoch) p members (own_promise n z p) c.attached c.id apart).0 is in
+            let r : Rests (EndedAs K a.plan.epoch) a = (first_ends (EndedAs K a.plan.epoch) p members (own_promise n z p) c.attached c.id (apart_of (numbers_of c.attached) apart)).0 is in
             (r.0, r.2);
         installing = λ phase. λ k d keys seized. absurd (none_some keys (sym (none k d) ∙ seized));
       };
@@ -77,7 +79,7 @@ abbrev pub Changed : Header → Cluster → Memberships → ℕ → ℕ → Show
 Changed h c M n high K x ms ch = OptMine K high (changed c n x ch).attempt × Gives (BodyShown K M ms) n (last_lines c n x ch)
 
 pub change_mine : (h : Header) (c : Cluster) (M : Memberships) (n : ℕ) (told : Delivered) (high : ℕ) (K : Shown) (disk : NodeRecord) (x : UpNode) (ms : List Moment) (ch : Change)
-    → AreApart (numbers_of c.attached) → AttemptsDiffer ms → MayChange c n told x ch → ChangeMay h x ch → Known h c M n told high K disk x ms → (StirsChange ch → ShownNow h K ms)
+    → AreInOrder (numbers_of c.attached) → AttemptsDiffer ms → MayChange c n told x ch → ChangeMay h x ch → Known h c M n told high K disk x ms → (StirsChange ch → ShownNow h K ms)
     → ((p members : ℕ) → ch ≡ Leads p members → list_any (is_attempt p) ms ≡ false) → OptMine K high x.attempt → Changed h c M n high K x ms ch
 change_mine h c M n told high K disk x ms (Promises p) apart differ may guard k now new mine = (
   by_attempt x.attempt,

@@ -2,7 +2,7 @@
 use Rattle.std.specs.Prelude.{ℕ, ◌++◌, ◌≡◌, nat_le, All, true, false, List, [], ◌∷◌, None, Some}
 use Rattle.std.specs.List.{list_any}
 use Rattle.std.proofs.Common.{refl, sym, subst, ◌∙◌, inl, inr}
-use Rattle.attempt_laws.specs.Asking.{AreApart, numbers_of}
+use Rattle.attempt_laws.specs.Asking.{numbers_of}
 use Rattle.cl_base.specs.declared.header.Header.{Header}
 use Rattle.cmm_attempt.specs.Calls.{IsDevice}
 use Rattle.cmm_member.specs.Records.{NodeRecord}
@@ -59,6 +59,7 @@ use Rattle.run_devices.proofs.installs.Acts.{MineIn, StirsAct, act_mine}
 use Rattle.run_devices.proofs.installs.Calls.{HandLow, HandShown, Known, ShownNow}
 use Rattle.run_devices.proofs.installs.Changes.{Changed, StirsChange, change_mine, first_gives}
 use Rattle.run_devices.proofs.installs.Links.{Gives, gives_append, gives_later, passing_stays}
+use Rattle.run_devices.specs.readings.Readings.{AreInOrder}
 
 -- ---- what is so stays so
 
@@ -157,7 +158,7 @@ new_attempt c n x ch s differ p members is = leads (subst (λ z. AttemptsDiffer 
     leads k = (differ_before n (unknown_lines n x.requests.waiting) (telling (entry.Attempt (attempt_entry.Begun p members)) (telling (entry.Node n note.Saved) s)) k).0
 
 up_mine : (h : Header) (c : Cluster) (M : Memberships) (n : ℕ) (told : Delivered) (high : ℕ) (K : Shown) (v w : Nodes) (disk : NodeRecord) (x : UpNode) (g : Hand) (d : Doing) (s : Scene)
-    → AreApart (numbers_of c.attached) → AttemptsDiffer s.moments → May c n told (site (Up x) disk) d → DoingMay h n told g (site (Up x) disk) d → Known h c M n told high K disk x s.moments
+    → AreInOrder (numbers_of c.attached) → AttemptsDiffer s.moments → May c n told (site (Up x) disk) d → DoingMay h n told g (site (Up x) disk) d → Known h c M n told high K disk x s.moments
     → Goes h n told v w (site (Up x) disk) g s → (Stirs d → ShownNow h K s.moments) → AttemptsDiffer (passing n (gives c n (site (Up x) disk) d) s).moments → MineIn K high (Up x)
     → Done c M n high K (site (Up x) disk) s.moments d
 up_mine h c M n told high K v w disk x g Comes_up s apart differ may guard k goes now later mine = absurd may
@@ -192,7 +193,7 @@ down_mine c M n told high K disk (Loses ch why) ms may = absurd may
 down_mine c M n told high K disk (Forgets ch why) ms may = absurd may
 
 pub doing_mine : (h : Header) (c : Cluster) (M : Memberships) (n : ℕ) (told : Delivered) (high : ℕ) (K : Shown) (v w : Nodes) (x : Site) (g : Hand) (d : Doing) (s : Scene)
-    → AreApart (numbers_of c.attached) → AttemptsDiffer s.moments → Holds (setting_of c) M → KnownIn M told → SiteTied c M n x → May c n told x d → DoingMay h n told g x d
+    → AreInOrder (numbers_of c.attached) → AttemptsDiffer s.moments → Holds (setting_of c) M → KnownIn M told → SiteTied c M n x → May c n told x d → DoingMay h n told g x d
     → HandLow high told → HandShown K M s.moments told → Goes h n told v w x g s → (Stirs d → ShownNow h K s.moments) → AttemptsDiffer (passing n (gives c n x d) s).moments
     → MineIn K high x.node → Done c M n high K x s.moments d
 doing_mine h c M n told high K v w x g d s apart differ holds known tied may guard low hand goes now later mine = by_node x.node tied may guard goes later mine
@@ -226,7 +227,7 @@ shown_now h c n end x d small s ends quiet k e j =
     subst (λ (z : Scene). keys_seized h k e j z.moments ≡ keys_seized h k e j s.moments) ends (quiet_keys h n (given_all c n x (d ∷ small)) s quiet k e j)
 
 pub all_mine : (h : Header) (c : Cluster) (M : Memberships) (n : ℕ) (told : Delivered) (high : ℕ) (end : Scene) (v w : Nodes) (x : Site) (g : Hand) (small : List Doing) (s : Scene)
-    → c.id ≡ h.cluster → nat_le n 32 ≡ true → All IsDevice c.attached → AreApart (numbers_of c.attached) → Holds (setting_of c) M → KnownIn M told → SiteTied c M n x → MayAll c n told x small
+    → c.id ≡ h.cluster → nat_le n 32 ≡ true → All IsDevice c.attached → AreInOrder (numbers_of c.attached) → Holds (setting_of c) M → KnownIn M told → SiteTied c M n x → MayAll c n told x small
     → AllSo small → AllMay h c n told g x small → AllFit n (given_all c n x small) → AttemptsDiffer end.moments → passing n (given_all c n x small) s ≡ end → AllStill c n x small
     → HandLow high told → HandShown (shown_in h end.moments) M s.moments told → Goes h n told v w x g s → MineIn (shown_in h end.moments) high x.node
     → Went h c M n high (shown_in h end.moments) x small end.moments

@@ -1,5 +1,5 @@
 -- What an attempt installs tells each seizing: each device that is to be seized has a result, which is as the lines show it.
-use Rattle.std.specs.Prelude.{All, ℕ, ◌≡◌, ◌≢◌, ◌≤◌, ◌==◌, ◌⊎◌, Bool, true, false, List, [], ◌∷◌, Option, None, Some, find, if◌then◌else◌, is_some}
+use Rattle.std.specs.Prelude.{All, ℕ, ◌<◌, ◌≡◌, ◌≢◌, ◌≤◌, ◌==◌, ◌⊎◌, Bool, true, false, List, [], ◌∷◌, Option, None, Some, find, if◌then◌else◌, is_some}
 use Rattle.std.specs.List.{AllByRecursion, cons_option, filter_map, list_any}
 use Rattle.std.proofs.lemmas.List.Elements.{All-cons, All-head, All-nil, All-tail}
 use Rattle.std.proofs.Common.{refl, sym, ap, subst, ◌∙◌, inl, inr}
@@ -22,8 +22,9 @@ use Rattle.wire.specs.declared.lists.Reading.{Reading}
 use Rattle.run_devices.specs.readings.Laws.{held_keys, seizing_in, told_in}
 use Rattle.run_seizings.proofs.Progress.{if_not, if_so, no_truth, or_left, or_right, same_is}
 use Rattle.run_devices.proofs.readings.Apart.{or_false}
-use Rattle.run_devices.specs.installs.Shown.{AllAreTold, AreOfPlan, EntryShown, Shown}
+use Rattle.run_devices.specs.installs.Shown.{AllAreTold, AreOfPlan, EntryShown, ReadInOrder, Shown}
 use Rattle.run_devices.proofs.installs.Asks.{SeizedBy, found_is}
+use Rattle.run_devices.specs.readings.Readings.{AreInOrder}
 
 settled_found : (f : Seizing → Bool) (es : List Seizing) (x : Seizing) → all_settled es ≡ true → find f es ≡ Some x → is_some x.result ≡ true
 settled_found f [] x all is = absurd (none_some x is)
@@ -140,6 +141,33 @@ readings_apart devices (a ∷ attached) fits apart =
 pub installs_apart : (a : AttemptState) → All IsDevice a.plan.attached → AreApart (numbers_of a.plan.attached) → AreOfDevices (install_in a).readings
 installs_apart a fits apart =
     subst AreOfDevices (sym (readings_are a.plan (filter_map (reading_of a.devices) a.plan.attached) (find (is_from a.newest) a.promises))) (readings_apart a.devices a.plan.attached fits apart)
+
+-- ---- .. in order
+
+read_above : (devices : List Seizing) (d : ℕ) (attached : List AttachedDevice) → AllByRecursion (λ e. d < e) (numbers_of attached)
+    → AllByRecursion (λ (r : Reading). d < r.device) (filter_map (reading_of devices) attached)
+read_above devices d [] above = tt
+read_above devices d (a ∷ attached) above = by_reading (reading_of devices a) refl (read_above devices d attached above.1)
+  where
+    by_reading : (o : Option Reading) → reading_of devices a ≡ o → AllByRecursion (λ (r : Reading). d < r.device) (filter_map (reading_of devices) attached)
+        → AllByRecursion (λ (r : Reading). d < r.device) (cons_option o (filter_map (reading_of devices) attached))
+    by_reading None is rest = rest
+    by_reading (Some r) is rest =
+        (subst (λ z. d < z) (sym (entry_device devices a.device (find (λ (e : Seizing). e.attached.device == a.device) devices) r refl is)) above.0, rest)
+
+readings_order : (devices : List Seizing) (attached : List AttachedDevice) → AreInOrder (numbers_of attached) → ReadInOrder (filter_map (reading_of devices) attached)
+readings_order devices [] order = tt
+readings_order devices (a ∷ attached) order = by_reading (reading_of devices a) refl (readings_order devices attached order.1)
+  where
+    by_reading : (o : Option Reading) → reading_of devices a ≡ o → ReadInOrder (filter_map (reading_of devices) attached) → ReadInOrder (cons_option o (filter_map (reading_of devices) attached))
+    by_reading None is rest = rest
+    by_reading (Some r) is rest =
+        let at : a.device ≡ r.device = sym (entry_device devices a.device (find (λ (e : Seizing). e.attached.device == a.device) devices) r refl is) in
+        (subst (λ z. AllByRecursion (λ (o : Reading). z < o.device) (filter_map (reading_of devices) attached)) at (read_above devices a.device attached order.0), rest)
+
+pub installs_order : (a : AttemptState) → AreInOrder (numbers_of a.plan.attached) → ReadInOrder (install_in a).readings
+installs_order a order =
+    subst ReadInOrder (sym (readings_are a.plan (filter_map (reading_of a.devices) a.plan.attached) (find (is_from a.newest) a.promises))) (readings_order a.devices a.plan.attached order)
 
 -- ---- what is installed
 

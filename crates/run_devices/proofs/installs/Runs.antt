@@ -68,6 +68,7 @@ use Rattle.run_history.proofs.Flying.{dropped_links}
 use Rattle.run_seizings.proofs.Progress.{installed_stays}
 use Rattle.run_seizings.specs.Seized.{has_installed}
 use Rattle.run_devices.proofs.installs.Answered.{armed_shown, commands_shown, cut_quiet, dropped_brings, dropped_nodes, plain_none, quiet_brings, world_shown, writes_shown}
+use Rattle.run_devices.proofs.readings.Order.{header_order}
 
 -- ---- each thing that happens
 
@@ -112,7 +113,7 @@ happening_shown h s w x cut f may b differ = by_happening x cut f may b differ
         let quiet : AllQuiet (given_by c n now ends i s.nodes) =
         plain_quiet n (s.nodes.node n) i (given_by c n now ends i s.nodes) m.1 (commands_are_told c n now ends (s.nodes.node n) (s.nodes.disk n) i) in
         let z : Stepped h c M n 0 K s.nodes (stepped disk_rules c n now ends (s.nodes.node n) (s.nodes.disk n) i) (small_of c n now ends s.nodes i cut) end =
-        step_goes h c n now ends i s 0 refl (record { fits = w.cluster.fits; small = w.cluster.small }) w.cluster.apart (ground_of c s w) m.0 m.2
+        step_goes h c n now ends i s 0 refl (record { fits = w.cluster.fits; small = w.cluster.small }) (header_order h) (ground_of c s w) m.0 m.2
         (plain_sent s.nodes i m.1) (plain_fits i m.1) (plain_hand h s.moments n i m.1 m.3)
         (plain_may h c n now ends (s.nodes.node n) (s.nodes.disk n).kept i (plain_no i m.1) m.2 (w.fits.nodes n)) differ b.reading cut (cut_quiet c n now ends s.nodes i cut quiet)
         (subst (λ d. HandLow 0 d) (sym (plain_none i m.1)) tt) (subst (λ d. HandShown K M s.moments d) (sym (plain_none i m.1)) tt) (mine_at h s w end 0 n b) in
@@ -131,7 +132,7 @@ happening_shown h s w x cut f may b differ = by_happening x cut f may b differ
         let said : AllSay (BodyShown K M t.moments) s.links =
         say_later (BodyShown K M s.moments) (BodyShown K M t.moments) s.links (more_said h K M S (Told (entry.Packet (packet.Delivered number x.from x.to))) s.moments holds) (packets_begin h s w end b) in
         let z : Stepped h c M x.to high K s.nodes (stepped disk_rules c x.to now ends (s.nodes.node x.to) (s.nodes.disk x.to) i) (small_of c x.to now ends s.nodes i cut) end =
-        step_goes h c x.to now ends i t high refl (record { fits = w.cluster.fits; small = w.cluster.small }) w.cluster.apart (ground_of c s w) may.3 may.5 may.4 tt
+        step_goes h c x.to now ends i t high refl (record { fits = w.cluster.fits; small = w.cluster.small }) (header_order h) (ground_of c s w) may.3 may.5 may.4 tt
         (arrived_hand h s.moments s.links number x m may.0 may.1 b.reading.carried)
         (plain_may h c x.to now ends (s.nodes.node x.to) (s.nodes.disk x.to).kept i tt may.5 (w.fits.nodes x.to)) differ (delivered_reads h s number x.from x.to b.reading) cut
         (cut_quiet c x.to now ends s.nodes i cut quiet) (itself high) (packet_says (BodyShown K M t.moments) s.links number x said may.0 m may.1) (mine_at h s w end high x.to b) in

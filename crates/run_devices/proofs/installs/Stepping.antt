@@ -1,5 +1,5 @@
 -- In each step of a run, what a node installs tells the seizings that the history has, and no others.
-use Rattle.attempt_laws.specs.Asking.{AreApart, numbers_of}
+use Rattle.attempt_laws.specs.Asking.{numbers_of}
 use Rattle.cl_base.specs.Limits.{most_devices}
 use Rattle.cl_base.specs.declared.header.Header.{Header}
 use Rattle.cl_base.specs.declared.method.Outcome as method
@@ -80,6 +80,8 @@ use Rattle.std.specs.Prelude.{Bool, List, None, Option, Some, length, slice_get,
 use Rattle.wire.specs.Spelling.{IsNode}
 use Rattle.wire.specs.declared.message.Message.{Message}
 use Rattle.world_model.specs.First.{first_cluster}
+use Rattle.run_devices.specs.readings.Readings.{AreInOrder}
+use Rattle.run_devices.proofs.readings.Order.{header_order}
 
 -- ---- a step
 
@@ -88,7 +90,7 @@ abbrev pub StepInstalls : Header → Cluster → ℕ → ℕ → method.Outcome 
 StepInstalls h c n now ends i s = (replies : List Reply) → given_all c n (site_of s.nodes n) (doings c n now ends replies i (s.nodes.node n)) ≡ given_by c n now ends i s.nodes
     → AllInstall h c n (site_of s.nodes n) (doings c n now ends replies i (s.nodes.node n)) (record s { nodes = moved c s.nodes (Takes_in n now ends i) })
 
-step_installs : (h : Header) (c : Cluster) (n now : ℕ) (ends : method.Outcome) (i : Input) (s : Scene) (high : ℕ) → c.id ≡ h.cluster → Sized c → AreApart (numbers_of c.attached)
+step_installs : (h : Header) (c : Cluster) (n now : ℕ) (ends : method.Outcome) (i : Input) (s : Scene) (high : ℕ) → c.id ≡ h.cluster → Sized c → AreInOrder (numbers_of c.attached)
     → (b : Ground c s.nodes) → IsNode n → now < 2 ^ 64 → WasSent s.nodes i → AnswersFit i → InHand h s.moments n (delivered_by i)
     → ((replies : List Reply) → AllMay h c n (delivered_by i) None (site_of s.nodes n) (doings c n now ends replies i (s.nodes.node n)))
     → AttemptsDiffer (taking c n now ends i s).moments → IsReading h s
@@ -147,7 +149,7 @@ takes_install h s n now ends i z m differ =
     let b : Facts h s w end = facts_of h s z (Takes n now ends i) m in
     let quiet : AllQuiet (given_by c n now ends i s.nodes) =
     plain_quiet n (s.nodes.node n) i (given_by c n now ends i s.nodes) m.1 (commands_are_told c n now ends (s.nodes.node n) (s.nodes.disk n) i) in
-    step_installs h c n now ends i s 0 refl (record { fits = w.cluster.fits; small = w.cluster.small }) w.cluster.apart (ground_of c s w) m.0 m.2
+    step_installs h c n now ends i s 0 refl (record { fits = w.cluster.fits; small = w.cluster.small }) (header_order h) (ground_of c s w) m.0 m.2
     (plain_sent s.nodes i m.1) (plain_fits i m.1) (plain_hand h s.moments n i m.1 m.3)
     (plain_may h c n now ends (s.nodes.node n) (s.nodes.disk n).kept i (plain_no i m.1) m.2 (w.fits.nodes n)) differ b.reading (still_quiet c n now ends s.nodes i quiet)
     (subst (λ d. HandLow 0 d) (sym (plain_none i m.1)) tt) (subst (λ d. HandShown (shown_in h end) w.machine.memberships s.moments d) (sym (plain_none i m.1)) tt) (mine_at h s w end 0 n b)
@@ -171,7 +173,7 @@ arrives_install h s number x m now ends z may differ =
     let said : AllSay (BodyShown K M t.moments) s.links =
     say_later (BodyShown K M s.moments) (BodyShown K M t.moments) s.links (more_said h K M (setting_of c) (Told (entry.Packet (packet.Delivered number x.from x.to))) s.moments holds)
     (packets_begin h s w end b) in
-    step_installs h c x.to now ends i t (promise_in m.body) refl (record { fits = w.cluster.fits; small = w.cluster.small }) w.cluster.apart (ground_of c s w) may.3 may.5 may.4 tt
+    step_installs h c x.to now ends i t (promise_in m.body) refl (record { fits = w.cluster.fits; small = w.cluster.small }) (header_order h) (ground_of c s w) may.3 may.5 may.4 tt
     (arrived_hand h s.moments s.links number x m may.0 may.1 b.reading.carried)
     (plain_may h c x.to now ends (s.nodes.node x.to) (s.nodes.disk x.to).kept i tt may.5 (w.fits.nodes x.to)) differ (delivered_reads h s number x.from x.to b.reading)
     (still_quiet c x.to now ends s.nodes i quiet) (itself (promise_in m.body)) (packet_says (BodyShown K M t.moments) s.links number x said may.0 m may.1)
@@ -193,7 +195,7 @@ answer_installs h s w n now ends i devices faults b none is time was fits hand g
     let c : Cluster = first_cluster h in
     let t : Scene = scene_of s.nodes devices faults s.links s.moments in
     let end : List Moment = (taking c n now ends i t).moments in
-    step_installs h c n now ends i t 0 refl (record { fits = w.cluster.fits; small = w.cluster.small }) w.cluster.apart (ground_of c s w) is time was fits hand guard differ
+    step_installs h c n now ends i t 0 refl (record { fits = w.cluster.fits; small = w.cluster.small }) (header_order h) (ground_of c s w) is time was fits hand guard differ
     (record { sites = b.reading.sites; carried = b.reading.carried; says = b.reading.says; brings = b.reading.brings }) still
     (subst (λ d. HandLow 0 d) (sym none) tt) (subst (λ d. HandShown (shown_in h end) w.machine.memberships s.moments d) (sym none) tt) (mine_at h s w end 0 n b) (me_at h s w n)
 

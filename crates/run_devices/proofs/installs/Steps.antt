@@ -1,7 +1,7 @@
 -- A step of a node, from scene to scene.
 use Rattle.std.specs.Prelude.{Err, Ok, ℕ, ◌++◌, ◌<◌, ◌^◌, ◌≡◌, List, [], ◌∷◌, None}
 use Rattle.std.proofs.Common.{refl, ap, subst, sym}
-use Rattle.attempt_laws.specs.Asking.{AreApart, numbers_of}
+use Rattle.attempt_laws.specs.Asking.{numbers_of}
 use Rattle.cl_base.specs.declared.header.Header.{Header}
 use Rattle.cl_base.specs.declared.method.Outcome as method
 use Rattle.device_queue.specs.declared.progress.Progress.{Progress}
@@ -61,6 +61,7 @@ use Rattle.run_devices.proofs.installs.Acts.{MineIn}
 use Rattle.run_devices.proofs.installs.Calls.{HandLow, HandShown}
 use Rattle.run_devices.proofs.installs.Doings.{AllStill, Went, all_mine}
 use Rattle.run_devices.proofs.installs.Links.{Gives}
+use Rattle.run_devices.specs.readings.Readings.{AreInOrder}
 
 -- ---- a step
 
@@ -74,7 +75,7 @@ pub record Stepped (h : Header) (c : Cluster) (M : Memberships) (n high : ℕ) (
   pub mine : MineIn K high o.after
   pub gives : Gives (BodyShown K went.machine end) n o.given
 
-pub step_goes : (h : Header) (c : Cluster) (n now : ℕ) (ends : method.Outcome) (i : Input) (s : Scene) (high : ℕ) → c.id ≡ h.cluster → Sized c → AreApart (numbers_of c.attached)
+pub step_goes : (h : Header) (c : Cluster) (n now : ℕ) (ends : method.Outcome) (i : Input) (s : Scene) (high : ℕ) → c.id ≡ h.cluster → Sized c → AreInOrder (numbers_of c.attached)
     → (b : Ground c s.nodes) → IsNode n → now < 2 ^ 64 → WasSent s.nodes i → AnswersFit i → InHand h s.moments n (delivered_by i)
     → ((replies : List Reply) → AllMay h c n (delivered_by i) None (site_of s.nodes n) (doings c n now ends replies i (s.nodes.node n)))
     → AttemptsDiffer (taking c n now ends i s).moments → IsReading h s → (cut : StepCut c n now ends s.nodes i) → AllStill c n (site_of s.nodes n) (small_of c n now ends s.nodes i cut)

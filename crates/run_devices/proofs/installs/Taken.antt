@@ -59,6 +59,7 @@ use Rattle.run_devices.proofs.installs.Links.{AllSay, Gives, passing_says, say_l
 use Rattle.run_devices.proofs.installs.News.{NewSeizers}
 use Rattle.run_devices.proofs.installs.Sends.{passing_brings}
 use Rattle.run_devices.proofs.installs.Steps.{Stepped, small_of, step_goes}
+use Rattle.run_devices.proofs.readings.Order.{header_order}
 
 -- ---- a scene
 
@@ -172,7 +173,7 @@ answer_shown h s w n now ends i devices faults e others N cut b none is time was
     let o : Outcome DiskState = stepped disk_rules c n now ends (s.nodes.node n) (s.nodes.disk n) i in
     let u : Scene = record t { nodes = moved c s.nodes (Takes_in n now ends i) } in
     let z : Stepped h c M n 0 K s.nodes o (small_of c n now ends s.nodes i cut) end =
-    step_goes h c n now ends i t 0 refl (record { fits = w.cluster.fits; small = w.cluster.small }) w.cluster.apart (ground_of c s w) is time was fits hand guard differ
+    step_goes h c n now ends i t 0 refl (record { fits = w.cluster.fits; small = w.cluster.small }) (header_order h) (ground_of c s w) is time was fits hand guard differ
     (record { sites = b.reading.sites; carried = b.reading.carried; says = b.reading.says; brings = b.reading.brings }) cut still
     (subst (λ d. HandLow 0 d) (sym none) tt) (subst (λ d. HandShown K M s.moments d) (sym none) tt) (mine_at h s w end 0 n b) in
     taken_shown h c n now ends i t 0 M N cut z (run_same (setting_of c) M z.went.machine N (step_events c n now ends s.nodes i cut) z.went.run run) (sites_begin h s w end b) (packets_begin h s w end b)

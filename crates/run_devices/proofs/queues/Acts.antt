@@ -49,15 +49,17 @@ use Rattle.run_seizings.proofs.Acts.{ActMay}
 use Rattle.run_seizings.proofs.Goes as seizings
 use Rattle.run_seizings.proofs.Progress.{if_so, same_is}
 use Rattle.run_seizings.specs.Seized.{has_installed}
-use Rattle.run_devices.specs.queues.Kept.{NoJoins, Pending, Tells, UpSo}
+use Rattle.run_devices.specs.queues.Kept.{NoJoins, Pending, Tells, UpSo, joins_in}
 use Rattle.run_devices.specs.queues.Laws.{Same}
 use Rattle.run_devices.specs.queues.Told.{leads, told_after, told_tasks}
 use Rattle.run_devices.proofs.queues.Goes.{AreMild, Goes, goes_at, line_goes, outputs_go, posting_goes}
 use Rattle.run_devices.proofs.queues.Mild.{ended_mild, minors_mild, spread_mild, tick_mild, write_mild}
 use Rattle.run_devices.proofs.queues.Options.{Kept, Mapped, kept, mapped}
 use Rattle.run_devices.proofs.queues.Stills.{StillCommand}
-use Rattle.run_devices.proofs.queues.Tasks.{none_taken, same_taken}
+use Rattle.run_devices.proofs.queues.Tasks.{joins_taken, none_taken, same_taken}
 use Rattle.run_devices.proofs.queues.Ups.{leads_so, open_here, before_in, queued_up, up_same}
+use Rattle.run_devices.specs.validity.Kept.{DoingAgrees, JoinsFirst}
+use Rattle.refinement.specs.Doings.Doing.{Does}
 
 -- ---- what is delivered
 
@@ -132,32 +134,31 @@ line_told S ms n at k a tasks off is =
     (mapped (moved (told.answer_told (answer_told a))) (told_tasks S n ms) tasks
     (sym (if_so ((n == n) && not (is_write k)) (option_map (moved (told.answer_told (answer_told a))) (told_tasks S n ms)) (told_tasks S n ms) test) ∙ z.told))
 
-moved_none : (a : Answer) (ts us : List told.Task) → ts ≡ [] → moved a ts ≡ us → us ≡ []
-moved_none a ts us none is = sym is ∙ ap (moved a) none
-
-tells_taken : (o p : Option (List told.Task)) (x y : UpNode) (a : Answer) → session_of y ≡ session_of x → installed_of y ≡ installed_of x → y.tasks ≡ after_answer x.tasks a
+tells_taken : (o p : Option (List told.Task)) (x y : UpNode) (a : Answer) → JoinsFirst x → session_of y ≡ session_of x → installed_of y ≡ installed_of x → y.tasks ≡ after_answer x.tasks a
     → ((tasks : List told.Task) → p ≡ Some tasks → Mapped (moved a) o tasks) → Tells o None x → Tells p None y
-tells_taken o None x y a session installed tasks f k = tt
-tells_taken o (Some us) x y a session installed tasks f k =
+tells_taken o None x y a first session installed tasks f k = tt
+tells_taken o (Some us) x y a first session installed tasks f k =
     let m : Mapped (moved a) o us = f us refl in
     let l : Tells (Some m.inside) None x = subst (λ z. Tells z None x) m.found k in (
       λ is.
-          let two : (m.inside ≡ []) × NoJoins x.tasks = l.0 (sym installed ∙ (is ∙ session)) in
-          (moved_none a m.inside us two.0 m.gives, subst NoJoins (sym tasks) (none_taken x.tasks a two.1)),
+          let same : installed_of x ≡ session_of x = sym installed ∙ (is ∙ session) in
+          subst (λ ts. Same (joins_in ts) us) (sym tasks)
+          (subst (λ z. Same z us) (sym (joins_taken x.tasks a (first same)))
+          (subst (λ z. Same (after_answer (joins_in x.tasks) a) z) m.gives (same_taken (joins_in x.tasks) m.inside a (l.0 same)))),
       λ ne.
           subst (λ ts. Same ts us) (sym tasks)
           (subst (λ z. Same (after_answer x.tasks a) z) m.gives (same_taken x.tasks m.inside a (l.1 (λ is. ne (installed ∙ (is ∙ sym session)))))),
     )
 
 -- the line of a command, whose answer the node takes
-pub taken_up : (S : Setting) (ms : List Moment) (n at : ℕ) (x y : UpNode) (k : PrCommand) (a : Answer) → next_of x.tasks ≡ Some k → session_of y ≡ session_of x
+pub taken_up : (S : Setting) (ms : List Moment) (n at : ℕ) (x y : UpNode) (k : PrCommand) (a : Answer) → next_of x.tasks ≡ Some k → JoinsFirst x → session_of y ≡ session_of x
     → installed_of y ≡ installed_of x → y.tasks ≡ after_answer x.tasks a → UpSo S ms n None x → UpSo S (line_of n at k a ∷ ms) n None y
-taken_up S ms n at x y k a due session installed tasks up = record {
+taken_up S ms n at x y k a due first session installed tasks up = record {
   none = λ is. up.none (sym session ∙ is);
   fresh = λ some ne. ap (λ q. has_installed n q ms) session ∙ up.fresh (subst (λ q. 0 < q) session some) (λ is. ne (installed ∙ (is ∙ sym session)));
   done = λ some is. ap (λ q. has_installed n q ms) session ∙ up.done (subst (λ q. 0 < q) session some) (sym installed ∙ (is ∙ session));
   plain = λ ne. subst NoJoins (sym tasks) (none_taken x.tasks a (up.plain (λ is. ne (installed ∙ (is ∙ sym session)))));
-  tells = tells_taken (told_tasks S n ms) (told_tasks S n (line_of n at k a ∷ ms)) x y a session installed tasks
+  tells = tells_taken (told_tasks S n ms) (told_tasks S n (line_of n at k a ∷ ms)) x y a first session installed tasks
       (λ ts is. line_told S ms n at k a ts (due_writes x.tasks k due) is) up.tells;
 }
 
@@ -175,9 +176,9 @@ mild_at S n told v w p x y os s are session installed tasks k =
     goes_at S n told v w p p (Up x) (Up y) (passing n os s) (up_same S (passing n os s).moments n p x y session installed tasks t.here) t
 
 pub act_goes : (S : Setting) (c : Cluster) (n : ℕ) (told : Delivered) (v w : Nodes) (disk : NodeRecord) (x : UpNode) (g : Hand) (a : Act) (s : Scene) → (AsksIn told → ⊥)
-    → MayAct c n told x a → ActSo a → ActMay S.header n told g x a → IsSimple a → seizings.Goes S.header n told v w (site (Up x) disk) g s → Goes S n told v w None (Up x) s
+    → MayAct c n told x a → ActSo a → ActMay S.header n told g x a → IsSimple a → DoingAgrees S.header n (site (Up x) disk) s.moments (Does a) → seizings.Goes S.header n told v w (site (Up x) disk) g s → Goes S n told v w None (Up x) s
     → Goes S n told v w None (Up (acted c n x a)) (passing n (said c n x a) s)
-act_goes S c n told v w disk x g a s calm may so guard simple z k = by_act a may so guard simple
+act_goes S c n told v w disk x g a s calm may so guard simple agrees z k = by_act a may so guard simple agrees
   where
     mild_to : (y : UpNode) (os : List Output) → AreMild os → session_of y ≡ session_of x → installed_of y ≡ installed_of x → y.tasks ≡ x.tasks
         → Goes S n told v w None (Up y) (passing n os s)
@@ -191,24 +192,25 @@ act_goes S c n told v w disk x g a s calm may so guard simple z k = by_act a may
         (goes_at S n told v w None None (Up x) (Up (record x { tasks = after_seize x.tasks d q })) s
         (queued_up S s.moments n d x q (open_here S n s.moments (leads_so S.header n s.moments x b is (before_in b d kind g e) z.here.up)) k.here) k) k
 
-    by_act : (b : Act) → MayAct c n told x b → ActSo b → ActMay S.header n told g x b → IsSimple b → Goes S n told v w None (Up (acted c n x b)) (passing n (said c n x b) s)
-    by_act (Hears from b) m o e f = mild_to (acted c n x (Hears from b)) [] tt refl refl refl
-    by_act Ticks m o e f = mild_to (acted c n x Ticks) (said c n x Ticks) (tt, tick_mild c x) refl refl refl
-    by_act Waits m o e f = mild_to (acted c n x Waits) [] tt refl refl refl
-    by_act (Goes_on b q) m o e f = mild_to (acted c n x (Goes_on b q)) [] tt refl refl refl
-    by_act (Ends b end) m o e f = mild_to (acted c n x (Ends b end)) (said c n x (Ends b end)) (ended_mild b.plan.epoch end, tt) refl refl refl
-    by_act (Queues b d kind) m o e f = queues b d kind m e
-    by_act (Accepts kind p members d) m o e f = absurd (calm (says_asks kind p members d told e.0))
-    by_act (Takes at q b) m o e f =
+    by_act : (b : Act) → MayAct c n told x b → ActSo b → ActMay S.header n told g x b → IsSimple b → DoingAgrees S.header n (site (Up x) disk) s.moments (Does b)
+        → Goes S n told v w None (Up (acted c n x b)) (passing n (said c n x b) s)
+    by_act (Hears from b) m o e f i = mild_to (acted c n x (Hears from b)) [] tt refl refl refl
+    by_act Ticks m o e f i = mild_to (acted c n x Ticks) (said c n x Ticks) (tt, tick_mild c x) refl refl refl
+    by_act Waits m o e f i = mild_to (acted c n x Waits) [] tt refl refl refl
+    by_act (Goes_on b q) m o e f i = mild_to (acted c n x (Goes_on b q)) [] tt refl refl refl
+    by_act (Ends b end) m o e f i = mild_to (acted c n x (Ends b end)) (said c n x (Ends b end)) (ended_mild b.plan.epoch end, tt) refl refl refl
+    by_act (Queues b d kind) m o e f i = queues b d kind m e
+    by_act (Accepts kind p members d) m o e f i = absurd (calm (says_asks kind p members d told e.0))
+    by_act (Takes at q b) m o e f i =
         let y : UpNode = answered_so x b in
         let l : Entry = entry.Device (device_entry.Command n at q (answer_told b)) in
-        line_goes S n told v w None None (Up x) (Up y) s l refl (λ j ne. own_command j n q ne) (taken_up S s.moments n at x y q b e.1 refl refl refl k.here) k
-    by_act (Stores d value b) m o e f = mild_to x (said c n x (Stores d value b)) (tt, write_mild n x d value b) refl refl refl
-    by_act (Writes to b) m o e f = posting_goes S n told v w None (Up x) s to (record { sender = n; body = b }) k
-    by_act (Gives os) m o e f = mild_to x os (minors_mild os o) refl refl refl
-    by_act (Spreads receivers b) m o e f = mild_to x (said c n x (Spreads receivers b)) (spread_mild receivers b) refl refl refl
-    by_act (Minds q p) m o e f = mild_to (acted c n x (Minds q p)) [] tt refl refl refl
-    by_act (Notes from place p) m o e f = mild_to (acted c n x (Notes from place p)) [] tt refl refl refl
-    by_act (Dates second) m o e f = mild_to (acted c n x (Dates second)) [] tt refl refl refl
-    by_act (Works worker) m o e f = mild_to (acted c n x (Works worker)) [] tt refl refl refl
-    by_act (Makes change) m o e f = absurd f
+        line_goes S n told v w None None (Up x) (Up y) s l refl (λ j ne. own_command j n q ne) (taken_up S s.moments n at x y q b e.1 i refl refl refl k.here) k
+    by_act (Stores d value b) m o e f i = mild_to x (said c n x (Stores d value b)) (tt, write_mild n x d value b) refl refl refl
+    by_act (Writes to b) m o e f i = posting_goes S n told v w None (Up x) s to (record { sender = n; body = b }) k
+    by_act (Gives os) m o e f i = mild_to x os (minors_mild os o) refl refl refl
+    by_act (Spreads receivers b) m o e f i = mild_to x (said c n x (Spreads receivers b)) (spread_mild receivers b) refl refl refl
+    by_act (Minds q p) m o e f i = mild_to (acted c n x (Minds q p)) [] tt refl refl refl
+    by_act (Notes from place p) m o e f i = mild_to (acted c n x (Notes from place p)) [] tt refl refl refl
+    by_act (Dates second) m o e f i = mild_to (acted c n x (Dates second)) [] tt refl refl refl
+    by_act (Works worker) m o e f i = mild_to (acted c n x (Works worker)) [] tt refl refl refl
+    by_act (Makes change) m o e f i = absurd f

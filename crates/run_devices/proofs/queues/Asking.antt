@@ -43,7 +43,7 @@ use Rattle.run_devices.specs.queues.Told.{told_tasks}
 use Rattle.run_devices.proofs.queues.Acts.{mild_at}
 use Rattle.run_devices.proofs.queues.Goes.{Goes, goes_at, posting_goes}
 use Rattle.run_devices.proofs.queues.Requests.{pending_by, pending_of, state_for}
-use Rattle.run_devices.proofs.queues.Tasks.{none_begun}
+use Rattle.run_devices.proofs.queues.Tasks.{joins_begun, none_begun}
 
 -- ---- one that has begun the seizing begins none anew
 
@@ -64,7 +64,7 @@ kept_up S ms n p x same k =
 
 tells_begun : (o : Option (List told.Task)) (d : ℕ) (s : SeizeState) (x : UpNode) → Tells o (Some (d, s)) x → Tells o None (record x { tasks = after_seize x.tasks d s })
 tells_begun None d s x k = tt
-tells_begun (Some ts) d s x k = (λ is. ((k.0 is).0, none_begun d x.tasks s (k.0 is).1), λ ne. k.1 ne)
+tells_begun (Some ts) d s x k = (λ is. subst (λ z. Same z ts) (sym (joins_begun d x.tasks s)) (k.0 is), λ ne. k.1 ne)
 
 begun_up : (S : Setting) (ms : List Moment) (n d : ℕ) (s : SeizeState) (x : UpNode) → UpSo S ms n (Some (d, s)) x → UpSo S ms n None (record x { tasks = after_seize x.tasks d s })
 begun_up S ms n d s x k = record {

@@ -1,11 +1,8 @@
 -- What a node saves: a promise, an attempt of its own, an install.
-use Rattle.std.specs.Prelude.{ℕ, zero, suc, ◌-◌, ◌≡◌, ◌≢◌, ◌<◌, ◌≤◌, ◌==◌, ◌&&◌, ◌||◌, ◌⊎◌, ◌++◌, not, Bool, true, false, List, [], ◌∷◌, length, slice_get, Option, None, Some, is_some}
+use Rattle.std.specs.Prelude.{ℕ, ◌≡◌, ◌<◌, ◌≤◌, ◌==◌, ◌&&◌, ◌++◌, Bool, true, false, List, [], ◌∷◌, length, Option, None, Some}
 use Rattle.std.specs.List.{list_any}
-use Rattle.std.proofs.Common.{refl, sym, ap, subst, ◌∙◌, arith, inl, inr}
-use Rattle.std.proofs.lemmas.List.Folds.{list_any-append}
-use Rattle.cl_base.proofs.SetLemmas.{none_of_zero}
+use Rattle.std.proofs.Common.{refl, sym, ap, subst, ◌∙◌, arith}
 use Rattle.cl_base.specs.Sets.{has}
-use Rattle.cl_base.specs.declared.header.HeaderDevice.{HeaderDevice}
 use Rattle.attempt_laws.proofs.Goes.{chosen_reached, goes_by_call}
 use Rattle.attempt_laws.proofs.Stays.{plan_stays}
 use Rattle.cmm_attempt.proofs.Basics.{same_some}
@@ -14,11 +11,8 @@ use Rattle.cmm_attempt.specs.Calls.{Call, turn}
 use Rattle.cmm_attempt.specs.declared.plan.Plan.{Plan}
 use Rattle.cmm_member.specs.Nodes.{NodeState, installed_with}
 use Rattle.cmm_member.specs.Records.{NodeRecord}
-use Rattle.device_queue.specs.Queue.{after_join}
 use Rattle.device_queue.specs.declared.task.Task.{Task}
-use Rattle.machine_base.proofs.Puts.{same_or_not}
 use Rattle.membership_machine.specs.State.{Memberships}
-use Rattle.seize.specs.Joining as joining
 use Rattle.status_report.specs.declared.attempt_entry.AttemptEntry.TheVariants as tried
 use Rattle.status_report.specs.declared.entry.Entry.{Entry}
 use Rattle.status_report.specs.declared.entry.Entry.TheVariants as entry
@@ -31,14 +25,15 @@ use Rattle.history.specs.Member as member
 use Rattle.history.specs.Member.{in_collect}
 use Rattle.history.specs.Moment.{Moment}
 use Rattle.history.specs.Queue as told
+use Rattle.history.specs.Queue.{joinings}
 use Rattle.history.specs.Seizing.{seizing_of}
-use Rattle.history.specs.Setting.{Setting, all_to, coordinator, paths_in, paths_of}
+use Rattle.history.specs.Setting.{Setting, all_to, coordinator}
 use Rattle.history.specs.Trace.{attempt, installed, saved}
-use Rattle.node_model.specs.Attempts.{is_to_join, joining_from, joining_with}
-use Rattle.node_model.specs.Clusters.{has_path}
+use Rattle.history.specs.Validated.{validity}
+use Rattle.node_model.specs.Attempts.{joining_from}
 use Rattle.node_model.specs.Entries.{unknown_lines}
 use Rattle.node_model.specs.Members.{rested_by}
-use Rattle.node_model.specs.Seats.{installed_of, promised_of, promising, session_of, state_of}
+use Rattle.node_model.specs.Seats.{installed_of, promised_of, promising, record_of, session_of, state_of}
 use Rattle.node_model.specs.declared.cluster.Cluster.{Cluster}
 use Rattle.node_model.specs.declared.node.Node.TheVariants.{Up}
 use Rattle.node_model.specs.declared.node.UpNode.{UpNode}
@@ -53,14 +48,21 @@ use Rattle.run_history.proofs.Changes.{At, at_attempt, session_after}
 use Rattle.run_history.proofs.Walk.{passing_append}
 use Rattle.run_history.specs.Scenes.{Scene, passing, telling}
 use Rattle.run_seizings.proofs.Changes.{NoCollect, mid}
-use Rattle.run_seizings.proofs.Progress.{if_not, if_so, no_truth, or_left, or_right, same_is}
+use Rattle.run_seizings.proofs.Progress.{if_not, if_so, or_left, same_is}
 use Rattle.run_seizings.proofs.Promising.{and_both, same_so}
 use Rattle.run_seizings.specs.Seized.{ReadSo, has_installed}
+use Rattle.run_devices.specs.installs.Shown.{InstallSo, ReadInOrder}
+use Rattle.run_devices.specs.readings.Laws.{told_in}
+use Rattle.run_devices.specs.validity.Kept.{RecordAgrees}
+use Rattle.run_devices.specs.validity.Laws.{Agrees}
+use Rattle.run_devices.proofs.validity.Doings.{Fixed}
 use Rattle.run_devices.proofs.validity.Goes.{HasCollect, IsCollect}
 use Rattle.run_devices.proofs.validity.Installs.{Brings, mid_brings}
-use Rattle.run_devices.specs.queues.Kept.{NoJoins, Pending, Tells, UpSo}
+use Rattle.run_devices.specs.queues.Kept.{NoJoins, Pending, Tells, UpSo, joins_in}
 use Rattle.run_devices.specs.queues.Laws.{Same}
-use Rattle.run_devices.specs.queues.Told.{is_seized, joined, leads, told_after, told_tasks}
+use Rattle.run_devices.specs.queues.Told.{is_unsure, joined, leads, told_after, told_tasks}
+use Rattle.run_devices.proofs.queues.Joinings.{Paths, ReadAgrees, read_agrees}
+use Rattle.run_devices.proofs.queues.Joined.{joinings_same}
 use Rattle.run_devices.proofs.queues.Goes.{Goes, line_goes, mild_append, outputs_go}
 use Rattle.run_devices.proofs.queues.Mild.{superseded_mild, unknown_mild}
 use Rattle.run_devices.proofs.queues.Options.{Failed, Kept, failed, kept}
@@ -185,72 +187,23 @@ leads_go S c n told v w x p members b s order low may calm k =
 
 -- ---- an install
 
--- the paths that the node has are the header's
-abbrev pub Paths : Setting → Cluster → ℕ → Type 0
-Paths S c n = (d : ℕ) → 1 ≤ d → has_path c.attached n d ≡ has (paths_of S.header d) n
-
-path_in : (n : ℕ) (ds : List HeaderDevice) (j : ℕ) → has (paths_in (slice_get ds j)) n ≡ true → j < length ds
-path_in n [] j is = absurd (no_truth (sym (none_of_zero n) ∙ is))
-path_in n (x ∷ ds) zero is = above (length ds)
-  where
-    above : (k : ℕ) → 0 < suc k
-    above k = omega arith
-path_in n (x ∷ ds) (suc j) is = more j (length ds) (path_in n ds j is)
-  where
-    more : (a b : ℕ) → a < b → suc a < suc b
-    more a b l = omega (arith, l)
-
-up_to : (a k : ℕ) → 1 ≤ a → a - 1 < k → a ≤ k
-up_to a k l m = omega (arith, l, m)
-
-any_to : (P : ℕ → Bool) (k d : ℕ) → 1 ≤ d → d ≤ k → P d ≡ true → list_any P (all_to k) ≡ true
-any_to P zero d low high is = absurd (none d low high)
-  where
-    none : (a : ℕ) → 1 ≤ a → a ≤ 0 → ⊥
-    none a l m = omega (arith, l, m)
-any_to P (suc k) d low high is = list_any-append P (all_to k) (suc k ∷ []) ∙ by_place (same_or_not d (suc k)) (λ under. any_to P k d low under is)
-  where
-    below : (a b : ℕ) → a ≤ suc b → a ≢ suc b → a ≤ b
-    below a b l ne = omega (arith, l, ne)
-
-    by_place : (d ≡ suc k) ⊎ (d ≢ suc k) → (d ≤ k → list_any P (all_to k) ≡ true) → (list_any P (all_to k) || (P (suc k) || false)) ≡ true
-    by_place (inl same) f = or_right (list_any P (all_to k)) (P (suc k) || false) (or_left (P (suc k)) false (subst (λ e. P e ≡ true) same is))
-    by_place (inr ne) f = or_left (list_any P (all_to k)) (P (suc k) || false) (f (below d k high ne))
-
--- where no device with a path was seized nothing is to be joined
-none_to_join : (S : Setting) (c : Cluster) (n e joined_set : ℕ) (ms : List Moment) (r : Reading) → Paths S c n → 1 ≤ r.device
-    → is_some (seizing_of S.header e r.device ms) ≡ true → list_any (is_seized S n e ms) (all_to (length S.header.devices)) ≡ false → is_to_join c n joined_set r ≡ false
-none_to_join S c n e joined_set ms r paths low seized none = by_path (has_path c.attached n r.device) refl
-  where
-    by_path : (b : Bool) → has_path c.attached n r.device ≡ b → (b && not (has joined_set r.device)) ≡ false
-    by_path true is =
-        let at : has (paths_of S.header r.device) n ≡ true = sym (paths r.device low) ∙ is in
-        absurd (no_truth (sym none ∙ any_to (is_seized S n e ms) (length S.header.devices) r.device low
-        (up_to r.device (length S.header.devices) low (path_in n S.header.devices (r.device - 1) at))
-        (and_both (has (paths_of S.header r.device) n) (is_some (seizing_of S.header e r.device ms)) at seized)))
-    by_path false is = refl
-
-none_joined : (S : Setting) (c : Cluster) (n e f joined_set : ℕ) (ms : List Moment) (ts : List Task) (rs : List Reading) → Paths S c n → ReadSo S.header ms e rs
-    → list_any (is_seized S n e ms) (all_to (length S.header.devices)) ≡ false → joining_from c n f joined_set ts rs ≡ ts
-none_joined S c n e f joined_set ms ts [] paths reads none = refl
-none_joined S c n e f joined_set ms ts (r ∷ rs) paths reads none =
-    let one : joining_with c n f joined_set ts r ≡ ts =
-    if_not (is_to_join c n joined_set r) (after_join ts r.device (joining.begun f n c.id)) ts
-    (none_to_join S c n e joined_set ms r paths reads.0.0.0 reads.0.1 none) in
-    ap (λ z. joining_from c n f joined_set z rs) one ∙ none_joined S c n e f joined_set ms ts rs paths reads.1 none
+-- what holds of the run
+pub record Placed (S : Setting) (c : Cluster) (n : ℕ) : Type 0 where
+  pub fixed : Fixed S.header c n
+  pub paths : Paths S c n
 
 told_joined : (S : Setting) (n e : ℕ) (ms : List Moment) (ts : List told.Task) → told_tasks S n (installed n e ∷ ms) ≡ Some ts
-    → Failed (list_any (is_seized S n e ms) (all_to (length S.header.devices))) (Some []) ts
+    → Failed (list_any (is_unsure S n e ms) (all_to (length S.header.devices))) (Some (joinings S n e ms)) ts
 told_joined S n e ms ts is =
     let k : Kept (leads n (installed n e ∷ ms)) (told_after S n (installed n e) ms (told_tasks S n ms)) ts =
     kept (leads n (installed n e ∷ ms)) (told_after S n (installed n e) ms (told_tasks S n ms)) ts is in
-    failed (list_any (is_seized S n e ms) (all_to (length S.header.devices))) (Some []) ts
+    failed (list_any (is_unsure S n e ms) (all_to (length S.header.devices))) (Some (joinings S n e ms)) ts
     (sym (if_so (n == n) (joined S n e ms) (told_tasks S n ms) (same_is n)) ∙ k.told)
 
-installed_so : (S : Setting) (c : Cluster) (n e joined_set : ℕ) (told : Delivered) (v w : Nodes) (x y : UpNode) (ts : List Task) (rs : List Reading) (s : Scene) → Paths S c n
-    → e ≡ session_of y → e ≡ installed_of y → session_of y ≡ session_of x → ReadSo S.header s.moments e rs → y.tasks ≡ joining_from c n e joined_set ts rs → NoJoins ts
-    → Goes S n told v w None (Up x) s → Goes S n told v w None (Up y) (telling (entry.Node n (note.Installed e)) s)
-installed_so S c n e joined_set told v w x y ts rs s paths session here same reads tasks plain k =
+installed_so : (S : Setting) (c : Cluster) (n e joined_set : ℕ) (told : Delivered) (v w : Nodes) (x y : UpNode) (ts : List Task) (rs : List Reading) (s : Scene) → Placed S c n
+    → e ≡ session_of y → e ≡ installed_of y → session_of y ≡ session_of x → ReadSo S.header s.moments e rs → ReadAgrees S n e joined_set s.moments rs
+    → ReadInOrder rs → ((d : ℕ) → told_in rs d ≡ seizing_of S.header e d s.moments) → y.tasks ≡ joining_from c n e joined_set ts rs → NoJoins ts → Goes S n told v w None (Up x) s → Goes S n told v w None (Up y) (telling (entry.Node n (note.Installed e)) s)
+installed_so S c n e joined_set told v w x y ts rs s placed session here same reads agrees order seizings tasks plain k =
     line_goes S n told v w None None (Up x) (Up y) s (entry.Node n (note.Installed e)) refl (λ j ne is. ne (sym is)) (record {
       none = λ is. k.here.none (sym same ∙ is);
       fresh = λ some ne. absurd (ne (sym here ∙ session));
@@ -259,17 +212,20 @@ installed_so S c n e joined_set told v w x y ts rs s paths session here same rea
           (and_both (n == n) (e == session_of y) (same_is n) (same_so e (session_of y) session));
       plain = λ ne. absurd (ne (sym here ∙ session));
       tells = tells_by (told_tasks S n (installed n e ∷ s.moments)) None y (λ us is.
-          let f : Failed (list_any (is_seized S n e s.moments) (all_to (length S.header.devices))) (Some []) us = told_joined S n e s.moments us is in (
-            (λ at. (sym (same_some [] us f.told), subst NoJoins (sym (tasks ∙ none_joined S c n e e joined_set s.moments ts rs paths reads f.so)) plain)),
+          let f : Failed (list_any (is_unsure S n e s.moments) (all_to (length S.header.devices))) (Some (joinings S n e s.moments)) us = told_joined S n e s.moments us is in (
+            (λ at.
+                subst (λ z. Same (joins_in z) us) (sym tasks)
+                (subst (λ z. Same (joins_in (joining_from c n e joined_set ts rs)) z) (same_some (joinings S n e s.moments) us f.told)
+                (joinings_same S c n e joined_set s.moments ts rs placed.paths placed.fixed.id reads agrees order f.so seizings plain))),
             (λ ne. absurd (ne (sym here ∙ session))),
           ));
     }) k
 
 pub counts_go : (S : Setting) (c : Cluster) (M : Memberships) (n : ℕ) (told : Delivered) (v w : Nodes) (disk : NodeRecord) (x : UpNode) (a : AttemptState) (q : Call) (r : NodeState)
-    (i : Install) (b : Bool) (s : Scene) → Paths S c n → At c M n told disk x → MayChange c n told x (Counts a q r i) → Brings S.header s.moments i
-    → (b ≡ true → NoCollect told) → Goes S n told v w None (Up x) s
+    (i : Install) (b : Bool) (s : Scene) → Placed S c n → At c M n told disk x → disk ≡ record_of x → MayChange c n told x (Counts a q r i) → Brings S.header s.moments i
+    → InstallSo S.header (passing n (mid b n) s).moments n r i → RecordAgrees S.header n (passing n (mid b n) s).moments disk → (b ≡ true → NoCollect told) → Goes S n told v w None (Up x) s
     → Goes S n told v w None (Up (changed c n x (Counts a q r i))) (passing n (mid b n ++ last_lines c n x (Counts a q r i)) s)
-counts_go S c M n told v w disk x a q r i b s paths at may brings calm k =
+counts_go S c M n told v w disk x a q r i b s placed at kept may brings so agrees calm k =
     let t : Scene = passing n (mid b n) s in
     let l : Goes S n told v w None (Up x) t = mid_goes S n told v w x s b calm k in
     let y : UpNode = changed c n x (Counts a q r i) in
@@ -282,13 +238,16 @@ counts_go S c M n told v w disk x a q r i b s paths at may brings calm k =
     let own : a.plan.epoch ≡ session_of x = at_attempt c M n told disk x a (a.plan.epoch ≡ session_of x) at may.0 (λ z shows co. co.epoch ∙ (sym shows ∙ sight.session)) in
     let after : session_of y ≡ session_of x = session_after c n told x (Counts a q r i) may tt (λ p e. cc) in
     subst (λ z. Goes S n told v w None (Up y) z) (sym (passing_append n (mid b n) (last_lines c n x (Counts a q r i)) s))
-    (installed_so S c n i.epoch (installed_with r i).joined told v w x y [] i.readings t paths (epoch ∙ (own ∙ sym after)) refl after
-    (mid_brings S.header n i b s brings).reads refl tt l)
+    (installed_so S c n i.epoch (installed_with r i).joined told v w x y [] i.readings t placed (epoch ∙ (own ∙ sym after)) refl after
+    (mid_brings S.header n i b s brings).reads
+    (read_agrees S n t.moments r i placed.fixed.many placed.fixed.few so
+    (λ d is. subst (λ z. Agrees (validity S.header n d t.moments) (has z d)) (ap (λ (z : NodeRecord). z.valid) kept ∙ ap (λ z. (state_of z).saved.valid) may.1) (agrees d is))) so.order so.told refl tt l)
 
-pub joins_go : (S : Setting) (c : Cluster) (n : ℕ) (told : Delivered) (v w : Nodes) (x : UpNode) (r : NodeState) (i : Install) (b : Bool) (s : Scene) → Paths S c n
-    → MayChange c n told x (Installs r i) → Brings S.header s.moments i → (b ≡ true → NoCollect told) → Goes S n told v w None (Up x) s
+pub joins_go : (S : Setting) (c : Cluster) (n : ℕ) (told : Delivered) (v w : Nodes) (disk : NodeRecord) (x : UpNode) (r : NodeState) (i : Install) (b : Bool) (s : Scene) → Placed S c n
+    → disk ≡ record_of x → MayChange c n told x (Installs r i) → Brings S.header s.moments i → InstallSo S.header (passing n (mid b n) s).moments n r i
+    → RecordAgrees S.header n (passing n (mid b n) s).moments disk → (b ≡ true → NoCollect told) → Goes S n told v w None (Up x) s
     → Goes S n told v w None (Up (changed c n x (Installs r i))) (passing n (mid b n ++ last_lines c n x (Installs r i)) s)
-joins_go S c n told v w x r i b s paths may brings calm k =
+joins_go S c n told v w disk x r i b s placed kept may brings so agrees calm k =
     let t : Scene = passing n (mid b n) s in
     let l : Goes S n told v w None (Up x) t = mid_goes S n told v w x s b calm k in
     let y : UpNode = changed c n x (Installs r i) in
@@ -297,5 +256,7 @@ joins_go S c n told v w x r i b s paths may brings calm k =
     let after : session_of y ≡ session_of x = session_after c n told x (Installs r i) may tt (λ p e. cc) in
     let other : installed_of x ≡ session_of x → ⊥ = λ is. may.4 (ap (λ (z : NodeState). z.saved.installed) (sym seat) ∙ (is ∙ sym at)) in
     subst (λ z. Goes S n told v w None (Up y) z) (sym (passing_append n (mid b n) (last_lines c n x (Installs r i)) s))
-    (installed_so S c n i.epoch (installed_with r i).joined told v w x y x.tasks i.readings t paths (at ∙ sym after) refl after
-    (mid_brings S.header n i b s brings).reads refl (l.here.plain other) l)
+    (installed_so S c n i.epoch (installed_with r i).joined told v w x y x.tasks i.readings t placed (at ∙ sym after) refl after
+    (mid_brings S.header n i b s brings).reads
+    (read_agrees S n t.moments r i placed.fixed.many placed.fixed.few so
+    (λ d is. subst (λ z. Agrees (validity S.header n d t.moments) (has z d)) (ap (λ (z : NodeRecord). z.valid) kept ∙ ap (λ (z : NodeState). z.saved.valid) seat) (agrees d is))) so.order so.told refl (l.here.plain other) l)

@@ -75,5 +75,5 @@ up_goes S c n told v w disk s k =
       tells = tells_by (told_tasks S n (up n ∷ s.moments)) None _
           (λ ts is.
           let none : ts ≡ [] = told_dropped S n (up n) s.moments ts drops is in
-          ((λ at. (none, tt)), (λ ne. subst (λ us. Same [] us) (sym none) tt)));
+          ((λ at. subst (λ us. Same [] us) (sym none) tt), (λ ne. subst (λ us. Same [] us) (sym none) tt)));
     }) k

@@ -1,5 +1,5 @@
 -- In a session that is installed no seizing of the node is queued, by the machine of the whole cluster.
-use Rattle.std.specs.Prelude.{ℕ, ◌≡◌, ◌<◌, not, Bool, true, false, List, [], ◌∷◌, filter, is_some}
+use Rattle.std.specs.Prelude.{ℕ, ◌≡◌, ◌<◌, not, Bool, true, false, List, [], ◌∷◌, filter, is_some, if◌then◌else◌}
 use Rattle.std.specs.List.{AllByRecursion}
 use Rattle.std.proofs.Common.{refl, sym, ap, ◌∙◌, arith}
 use Rattle.cluster_machine.proofs.Whole.{InOrder}
@@ -24,8 +24,8 @@ use Rattle.refinement.proofs.Changes.{Sees, sees}
 use Rattle.refinement.specs.Doings.{site}
 use Rattle.refinement.specs.Ties.{setting_of}
 use Rattle.run_history.specs.Sites.{SiteAt}
-use Rattle.run_seizings.proofs.Progress.{if_not, no_truth}
-use Rattle.run_devices.specs.queues.Kept.{NoJoins}
+use Rattle.run_seizings.proofs.Progress.{if_not, if_so, no_truth}
+use Rattle.run_devices.specs.queues.Kept.{joins_in}
 
 -- what the machine has of the node at a device
 record AtIt (x : UpNode) (v : Initiator) : Type 0 where
@@ -68,12 +68,19 @@ work_over : (c : Cluster) (W : Whole) (n d : ℕ) (x : UpNode) (w : Work) → At
 work_over c W n d x (Seizing s) at same none k = ap not (seizing_over c W n d x s s.step at same k)
 work_over c W n d x (Joining j) at same none k = absurd (no_truth (sym none))
 
-none_queued : (c : Cluster) (W : Whole) (n : ℕ) (x : UpNode) (ts : List Task) → ((d : ℕ) → AtIt x ((W.device d).node n)) → installed_of x ≡ session_of x → NoJoins ts
-    → AllByRecursion (TaskAt c W n) ts → filter is_queued ts ≡ []
-none_queued c W n x [] at same none k = refl
-none_queued c W n x (t ∷ ts) at same none k =
-    if_not (is_queued t) (t ∷ filter is_queued ts) (filter is_queued ts) (work_over c W n t.device x t.work (at t.device) same none.0 k.0) ∙ none_queued c W n x ts at same none.1 k.1
+-- what is queued is a joining
+joins_queued : (c : Cluster) (W : Whole) (n : ℕ) (x : UpNode) (ts : List Task) → ((d : ℕ) → AtIt x ((W.device d).node n)) → installed_of x ≡ session_of x
+    → AllByRecursion (TaskAt c W n) ts → filter is_queued ts ≡ filter is_queued (joins_in ts)
+joins_queued c W n x [] at same k = refl
+joins_queued c W n x (t ∷ ts) at same k = by_kind (is_joining t.work) refl (joins_queued c W n x ts at same k.1)
+  where
+    by_kind : (j : Bool) → is_joining t.work ≡ j → filter is_queued ts ≡ filter is_queued (joins_in ts) → filter is_queued (t ∷ ts) ≡ filter is_queued (joins_in (t ∷ ts))
+    by_kind true is rest =
+        ap (λ z. if is_queued t then t ∷ z else z) rest ∙ sym (ap (λ z. filter is_queued z) (if_so (is_joining t.work) (t ∷ joins_in ts) (joins_in ts) is))
+    by_kind false is rest =
+        if_not (is_queued t) (t ∷ filter is_queued ts) (filter is_queued ts) (work_over c W n t.device x t.work (at t.device) same is k.0)
+        ∙ (rest ∙ sym (ap (λ z. filter is_queued z) (if_not (is_joining t.work) (t ∷ joins_in ts) (joins_in ts) is)))
 
-pub all_over : (c : Cluster) (W : Whole) (n : ℕ) (disk : NodeRecord) (x : UpNode) → InOrder (setting_of c) W → SiteAt c W n (site (Up x) disk) → installed_of x ≡ session_of x
-    → NoJoins x.tasks → filter is_queued x.tasks ≡ []
-all_over c W n disk x order at same none = none_queued c W n x x.tasks (λ d. at_it c W n d disk x order at) same none at.at.tasks
+pub only_joins : (c : Cluster) (W : Whole) (n : ℕ) (disk : NodeRecord) (x : UpNode) → InOrder (setting_of c) W → SiteAt c W n (site (Up x) disk) → installed_of x ≡ session_of x
+    → filter is_queued x.tasks ≡ filter is_queued (joins_in x.tasks)
+only_joins c W n disk x order at same = joins_queued c W n x x.tasks (λ d. at_it c W n d disk x order at) same at.at.tasks

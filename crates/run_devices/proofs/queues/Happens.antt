@@ -50,7 +50,8 @@ use Rattle.run_devices.proofs.queues.Paths.{path_so}
 use Rattle.run_devices.specs.validity.Laws.{InMemory}
 use Rattle.run_devices.proofs.queues.Acts.{AsksBody}
 use Rattle.run_devices.proofs.queues.Asking.{request_goes}
-use Rattle.run_devices.proofs.queues.Doings.{Placed}
+use Rattle.run_devices.proofs.queues.Changes.{Placed}
+use Rattle.run_devices.proofs.validity.Moments.{AgreesAt}
 use Rattle.run_devices.proofs.queues.Goes.{Goes}
 use Rattle.run_devices.proofs.queues.Moments.{IsRequest, armed_strict, asked_around, asking_or, brought_hand, calm_strict, nobody, part_strict, pending_in, plain_calm, plain_hand, repeated_strict, said_strict, strays_strict, told_strict}
 use Rattle.run_devices.proofs.queues.Steps.{Strict, plain_step, step_around}
@@ -81,12 +82,12 @@ ValidAt S s x = Unit {0}
 -- ---- steps of nodes
 
 takes_strict : (S : Setting) (s : Scene) (n now : ℕ) (ends : method.Outcome) (i : Input) → MayHappen (first_cluster S.header) s (Takes n now ends i) → Known S s
-    → Differs S s (Takes n now ends i) → Strict S s → Strict S (happened (first_cluster S.header) s (Takes n now ends i))
-takes_strict S s n now ends i may b differ k =
+    → Differs S s (Takes n now ends i) → AgreesAt S.header s (Takes n now ends i) → Strict S s → Strict S (happened (first_cluster S.header) s (Takes n now ends i))
+takes_strict S s n now ends i may b differ agrees k =
     let c : Cluster = first_cluster S.header in
     plain_step S c n now ends i s (sized_of S s b) (ground_of c s b.stage) may.0 may.2 (plain_sent s.nodes i may.1) (plain_fits i may.1) (plain_hand s.moments n i may.1 may.3)
     (plain_calm i may.1) (plain_may S.header c n now ends (s.nodes.node n) (s.nodes.disk n).kept i (plain_no i may.1) may.2 (b.stage.fits.nodes n))
-    (record { placed = placed_of S s n b may.0.1; seizing = b.seizing; hand = lines.plain_hand S.header s.moments n i may.1 may.3; differ = differ }) k
+    (record { placed = placed_of S s n b may.0.1; seizing = b.seizing; hand = lines.plain_hand S.header s.moments n i may.1 may.3; differ = differ; agrees = agrees }) k
 
 -- the walk of a node that is up
 request_walk : (S : Setting) (c : Cluster) (n now : ℕ) (ends : method.Outcome) (v w : Nodes) (node : Node) (replies : List Reply) (from : ℕ) (m : Message) (r : IsRequest m.body) (t : Scene)
@@ -98,9 +99,10 @@ request_walk S c n now ends v w (Up x) replies from m r t is k =
     request_goes S c n now ends (Some (from, m)) v w (v.disk n).kept x replies from r.epoch r.members r.device r.kind m t r.is k
 
 arrives_strict : (S : Setting) (s : Scene) (number : ℕ) (x : Packet) (m : Message) (now : ℕ) (ends : method.Outcome)
-    → MayHappen (first_cluster S.header) s (Arrives number x m now ends) → Known S s → Differs S s (Arrives number x m now ends) → ValidAt S s (Arrives number x m now ends) → Strict S s
+    → MayHappen (first_cluster S.header) s (Arrives number x m now ends) → Known S s → Differs S s (Arrives number x m now ends) → ValidAt S s (Arrives number x m now ends) → AgreesAt S.header s (Arrives number x m now ends)
+    → Strict S s
     → Strict S (happened (first_cluster S.header) s (Arrives number x m now ends))
-arrives_strict S s number x m now ends may b differ valid k = by_body (asking_or m.body)
+arrives_strict S s number x m now ends may b differ valid agrees k = by_body (asking_or m.body)
   where
     c : Cluster
     c = first_cluster S.header
@@ -118,6 +120,7 @@ arrives_strict S s number x m now ends may b differ valid k = by_body (asking_or
           seizing = lines.delivered_seizes S.header s number x.from x.to b.seizing;
           hand = letters.arrived_hand S.header s.moments s.links number x m may.0 may.1 b.seizing.carried;
           differ = differ;
+          agrees = agrees;
         })
         (calm_strict S s number x m may.0 may.1 ban b.seizing k)
     by_body (inr r) =
@@ -129,8 +132,9 @@ arrives_strict S s number x m now ends may b differ valid k = by_body (asking_or
           seizing = lines.delivered_seizes S.header s number x.from x.to b.seizing;
           hand = letters.arrived_hand S.header s.moments s.links number x m may.0 may.1 b.seizing.carried;
           differ = differ;
+          agrees = agrees;
         })
-        (λ replies w u small differs z l. request_walk S c x.to now ends s.nodes w (s.nodes.node x.to) replies x.from m r u may.2 l)
+        (λ replies w u small differs agree z l. request_walk S c x.to now ends s.nodes w (s.nodes.node x.to) replies x.from m r u may.2 l)
         (asked_around S s number x m r b.many may.0 may.1 valid b.seizing k)
 
 -- a command at a device leaves nodes and lines
@@ -147,8 +151,8 @@ left_moments s n d k None = refl
 left_moments s n d k (Some x) = refl
 
 writes_strict : (S : Setting) (s : Scene) (n d value now : ℕ) (ends : method.Outcome) → MayHappen (first_cluster S.header) s (Writes n d value now ends) → Known S s
-    → Differs S s (Writes n d value now ends) → Strict S s → Strict S (happened (first_cluster S.header) s (Writes n d value now ends))
-writes_strict S s n d value now ends may b differ k =
+    → Differs S s (Writes n d value now ends) → AgreesAt S.header s (Writes n d value now ends) → Strict S s → Strict S (happened (first_cluster S.header) s (Writes n d value now ends))
+writes_strict S s n d value now ends may b differ agrees k =
     let c : Cluster = first_cluster S.header in
     let o : Commanded = commanded s n d (command.Write value) in
     let device : Option Device = slice_get s.devices (d - 1) in
@@ -162,12 +166,13 @@ writes_strict S s n d value now ends may b differ k =
       seizing = (lines.left_at S.header c s n d (command.Write value) device (ground_of c s b.stage) b.seizing).seizing;
       hand = quiet;
       differ = differ;
+      agrees = agrees;
     })
     (left_strict S s n d (command.Write value) device k)
 
 commands_strict : (S : Setting) (s : Scene) (n d : ℕ) (q : PrCommand) (now : ℕ) (ends : method.Outcome) → MayHappen (first_cluster S.header) s (Commands n d q now ends) → Known S s
-    → Differs S s (Commands n d q now ends) → Strict S s → Strict S (happened (first_cluster S.header) s (Commands n d q now ends))
-commands_strict S s n d q now ends may b differ k =
+    → Differs S s (Commands n d q now ends) → AgreesAt S.header s (Commands n d q now ends) → Strict S s → Strict S (happened (first_cluster S.header) s (Commands n d q now ends))
+commands_strict S s n d q now ends may b differ agrees k =
     let c : Cluster = first_cluster S.header in
     let o : Commanded = commanded s n d q in
     let device : Option Device = slice_get s.devices (d - 1) in
@@ -188,28 +193,29 @@ commands_strict S s n d q now ends may b differ k =
       seizing = (lines.left_at S.header c s n d q device (ground_of c s b.stage) b.seizing).seizing;
       hand = quiet;
       differ = differ;
+      agrees = agrees;
     })
     (left_strict S s n d q device k)
 
 -- ---- each
 
-pub happening_strict : (S : Setting) (s : Scene) (x : Happening) → MayHappen (first_cluster S.header) s x → Known S s → Differs S s x → ValidAt S s x → Strict S s
+pub happening_strict : (S : Setting) (s : Scene) (x : Happening) → MayHappen (first_cluster S.header) s x → Known S s → Differs S s x → ValidAt S s x → AgreesAt S.header s x → Strict S s
     → Strict S (happened (first_cluster S.header) s x)
-happening_strict S s (Speaks e) may b differ valid k = armed_strict S (first_cluster S.header) e (adding (Said (line.Event e)) s) (said_strict S s e k)
-happening_strict S s (Begins e) may b differ valid k = part_strict S s e k
-happening_strict S s (Notes e) may b differ valid k = told_strict S s s.links (entry.Schedule e) (λ n. still S s.moments n (entry.Schedule e) tt) k
-happening_strict S s (Takes n now ends i) may b differ valid k = takes_strict S s n now ends i may b differ k
-happening_strict S s (Arrives number x m now ends) may b differ valid k = arrives_strict S s number x m now ends may b differ valid k
-happening_strict S s (Strays number x) may b differ valid k = strays_strict S s number x may.0 may.1 b.seizing k
-happening_strict S s (Misses number x) may b differ valid k =
+happening_strict S s (Speaks e) may b differ valid agrees k = armed_strict S (first_cluster S.header) e (adding (Said (line.Event e)) s) (said_strict S s e k)
+happening_strict S s (Begins e) may b differ valid agrees k = part_strict S s e k
+happening_strict S s (Notes e) may b differ valid agrees k = told_strict S s s.links (entry.Schedule e) (λ n. still S s.moments n (entry.Schedule e) tt) k
+happening_strict S s (Takes n now ends i) may b differ valid agrees k = takes_strict S s n now ends i may b differ agrees k
+happening_strict S s (Arrives number x m now ends) may b differ valid agrees k = arrives_strict S s number x m now ends may b differ valid agrees k
+happening_strict S s (Strays number x) may b differ valid agrees k = strays_strict S s number x may.0 may.1 b.seizing k
+happening_strict S s (Misses number x) may b differ valid agrees k =
     let e : Entry = entry.Packet (packet.Dropped number drop.Down) in
     told_strict S s (removing s.links number) e (λ n. still S s.moments n e tt) k
-happening_strict S s (Loses number x) may b differ valid k =
+happening_strict S s (Loses number x) may b differ valid agrees k =
     let e : Entry = entry.Packet (packet.Lost number) in
     told_strict S s (removing s.links number) e (λ n. still S s.moments n e tt) k
-happening_strict S s (Repeats number x) may b differ valid k = repeated_strict S s number x k
-happening_strict S s (Commands n d q now ends) may b differ valid k = commands_strict S s n d q now ends may b differ k
-happening_strict S s (Writes n d value now ends) may b differ valid k = writes_strict S s n d value now ends may b differ k
-happening_strict S s (Refuses n d value cause) may b differ valid k =
+happening_strict S s (Repeats number x) may b differ valid agrees k = repeated_strict S s number x k
+happening_strict S s (Commands n d q now ends) may b differ valid agrees k = commands_strict S s n d q now ends may b differ agrees k
+happening_strict S s (Writes n d value now ends) may b differ valid agrees k = writes_strict S s n d value now ends may b differ agrees k
+happening_strict S s (Refuses n d value cause) may b differ valid agrees k =
     let e : Entry = entry.Device (device.Refused n d value cause) in
     told_strict S s s.links e (λ n. still S s.moments n e tt) k

@@ -1,10 +1,8 @@
 -- What is told is what the history has.
-use Rattle.std.specs.Prelude.{ℕ, ◌≡◌, ◌==◌, ◌&&◌, ◌||◌, not, Bool, true, false, List, [], ◌∷◌, filter, length, map, Option, None, Some, is_some, option_map, if◌then◌else◌}
+use Rattle.std.specs.Prelude.{ℕ, ◌≡◌, ◌==◌, ◌&&◌, not, Bool, true, false, List, [], ◌∷◌, length, Option, None, Some, option_map, if◌then◌else◌}
 use Rattle.std.specs.List.{list_any}
 use Rattle.std.proofs.Common.{refl, sym, ap, subst, ◌∙◌}
-use Rattle.cl_base.specs.Sets.{has}
 use Rattle.cmm_attempt.proofs.Basics.{none_some, same_some}
-use Rattle.seize.specs.Joining as joining
 use Rattle.status_report.specs.declared.attempt_entry.AttemptEntry.{AttemptEntry}
 use Rattle.status_report.specs.declared.attempt_entry.AttemptEntry.TheVariants as tried
 use Rattle.status_report.specs.declared.device_entry.DeviceEntry.{DeviceEntry}
@@ -21,14 +19,14 @@ use Rattle.history.specs.Moment.{Moment, Part, Said, Told}
 use Rattle.history.specs.Names as name
 use Rattle.history.specs.Names.{Name}
 use Rattle.history.specs.Queue as whole
-use Rattle.history.specs.Queue.{Task, all_promised, answer_told, is_write, joinings, moved, must_join, newest_in_hand, own_tasks, requested, requested_in, tasks_of, with_own}
-use Rattle.history.specs.Seizing.{Seizing, acts_for, seizing_of}
-use Rattle.history.specs.Setting.{Setting, all_to, coordinator, paths_of}
+use Rattle.history.specs.Queue.{Task, all_promised, answer_told, holds_valid, is_write, joinings, moved, must_join, newest_in_hand, own_tasks, requested, requested_in, tasks_of, with_own}
+use Rattle.history.specs.Seizing.{acts_for}
+use Rattle.history.specs.Setting.{Setting, all_to, coordinator}
 use Rattle.history.specs.Trace.{attempt, delivered, device}
 use Rattle.history.specs.UnderWay.{is_under_way}
 use Rattle.run_seizings.proofs.Progress.{if_not, no_truth}
-use Rattle.run_devices.specs.queues.Told.{ToldAsInHistory, brought, is_seized, joined, leads, leads_for, sought, told_after, told_tasks}
-use Rattle.run_devices.proofs.queues.Options.{Failed, Kept, Mapped, failed, kept, mapped, passed}
+use Rattle.run_devices.specs.queues.Told.{ToldAsInHistory, brought, is_unsure, joined, leads, leads_for, sought, told_after, told_tasks}
+use Rattle.run_devices.proofs.queues.Options.{Kept, Mapped, failed, kept, mapped, passed}
 
 -- what was told before was so
 abbrev Before : Setting → ℕ → List Moment → Option (List Task) → Type 0
@@ -72,29 +70,9 @@ attempted S n e false o ms told old tasks off k is = k tasks is
 
 -- ---- an install
 
-none_seized : (S : Setting) (n d : ℕ) (b : Bool) (o : Option Seizing) (ms : List Moment) → (b && is_some o) ≡ false → (b && must_join S n d o ms) ≡ false
-none_seized S n d false o ms off = refl
-none_seized S n d true None ms off = refl
-none_seized S n d true (Some s) ms off = absurd (no_truth (sym off))
-
-or_off : (a b : Bool) → (a || b) ≡ false → (a ≡ false) × (b ≡ false)
-or_off true b off = absurd (no_truth (sym off))
-or_off false b off = (refl, off)
-
-none_kept : (P Q : ℕ → Bool) (ds : List ℕ) → ((d : ℕ) → Q d ≡ false → P d ≡ false) → list_any Q ds ≡ false → filter P ds ≡ []
-none_kept P Q [] f off = refl
-none_kept P Q (d ∷ ds) f off =
-    let two : (Q d ≡ false) × (list_any Q ds ≡ false) = or_off (Q d) (list_any Q ds) off in
-    if_not (P d) (d ∷ filter P ds) (filter P ds) (f d two.0) ∙ none_kept P Q ds f two.1
-
 joined_so : (S : Setting) (n e : ℕ) (ms : List Moment) (tasks : List Task) → joined S n e ms ≡ Some tasks → joinings S n e ms ≡ tasks
 joined_so S n e ms tasks is =
-    let f : Failed (list_any (is_seized S n e ms) (all_to (length S.header.devices))) (Some []) tasks =
-    failed (list_any (is_seized S n e ms) (all_to (length S.header.devices))) (Some []) tasks is in
-    ap (λ ds. map (λ d. record { device = d; work = whole.Joins (joining.begun e n S.header.cluster) }) ds)
-    (none_kept (λ d. has (paths_of S.header d) n && must_join S n d (seizing_of S.header e d ms) ms) (is_seized S n e ms) (all_to (length S.header.devices))
-    (λ d off. none_seized S n d (has (paths_of S.header d) n) (seizing_of S.header e d ms) ms off) f.so)
-    ∙ same_some [] tasks f.told
+    same_some (joinings S n e ms) tasks (failed (list_any (is_unsure S n e ms) (all_to (length S.header.devices))) (Some (joinings S n e ms)) tasks is).told
 
 -- ---- a request
 

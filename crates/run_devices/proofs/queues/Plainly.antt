@@ -35,6 +35,7 @@ use Rattle.run_devices.proofs.queues.Changes.{mid_goes}
 use Rattle.run_devices.proofs.queues.Goes.{AreMild, Goes, goes_at, line_goes, mild_append, outputs_go}
 use Rattle.run_devices.proofs.queues.Mild.{adopted_mild, bases_mild}
 use Rattle.run_devices.proofs.queues.Ups.{up_same}
+use Rattle.run_devices.specs.validity.Kept.{JoinsFirst}
 
 -- all but these: a promise, an install, and the answer to a command
 abbrev pub IsPlain : Change → Type 0
@@ -126,14 +127,14 @@ plain_goes S c n told v w x ch b s may is calm k =
 
 -- the answer by which it has joined a device
 pub admits_goes : (S : Setting) (c : Cluster) (n : ℕ) (told : Delivered) (v w : Nodes) (x : UpNode) (at : ℕ) (k : PrCommand) (a : Answer) (d : ℕ) (b : Bool) (s : Scene)
-    → (b ≡ true → NoCollect told) → next_of x.tasks ≡ Some k → Goes S n told v w None (Up x) s
+    → (b ≡ true → NoCollect told) → next_of x.tasks ≡ Some k → JoinsFirst x → Goes S n told v w None (Up x) s
     → Goes S n told v w None (Up (changed c n x (Admits at k a d))) (passing n (first_lines n (Admits at k a d) ++ (mid b n ++ last_lines c n x (Admits at k a d))) s)
-admits_goes S c n told v w x at k a d b s calm due l =
+admits_goes S c n told v w x at k a d b s calm due first l =
     let z : Entry = entry.Device (device_entry.Command n at k (answer_told a)) in
     let y : UpNode = changed c n x (Admits at k a d) in
     let t : NodeState = with_joined (state_of (answered_so x a).seat) d in
     let state : state_of y.seat ≡ t = same_state (answered_so x a).seat t in
     let one : Goes S n told v w None (Up y) (telling z s) =
     line_goes S n told v w None None (Up x) (Up y) s z refl (λ j ne. own_command j n k ne)
-    (taken_up S s.moments n at x y k a due (ap (λ (u : NodeState). u.session) state) (ap (λ (u : NodeState). u.saved.installed) state) refl l.here) l in
+    (taken_up S s.moments n at x y k a due first (ap (λ (u : NodeState). u.session) state) (ap (λ (u : NodeState). u.saved.installed) state) refl l.here) l in
     subst (λ m. Goes S n told v w None (Up y) m) (sym (passing_append n (mid b n) [] (telling z s))) (mid_goes S n told v w y (telling z s) b calm one)

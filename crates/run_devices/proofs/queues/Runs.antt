@@ -20,7 +20,6 @@ use Rattle.node_model.specs.Seats.{installed_of, session_of}
 use Rattle.node_model.specs.declared.cluster.Cluster.{Cluster}
 use Rattle.node_model.specs.declared.node.Node.{Node}
 use Rattle.node_model.specs.declared.node.Node.TheVariants.{Down, Up}
-use Rattle.node_model.specs.declared.node.UpNode.{UpNode}
 use Rattle.refinement.proofs.Changes.{sees}
 use Rattle.refinement.specs.Doings.{site}
 use Rattle.refinement.specs.Ties.{NodeTied, setting_of}
@@ -46,15 +45,16 @@ use Rattle.run_seizings.proofs.Runs.{run_seizes}
 use Rattle.run_devices.specs.validity.Laws.{Agrees, InMemory}
 use Rattle.run_devices.proofs.installs.Stepping.{standing_at}
 use Rattle.run_devices.proofs.validity.Acts.{strict}
+use Rattle.run_devices.proofs.validity.Agreeing.{agrees_at}
 use Rattle.run_devices.proofs.validity.First.{first_told}
 use Rattle.run_devices.proofs.validity.Moments as validity
 use Rattle.run_devices.proofs.validity.Steps as validity_at
 use Rattle.run_devices.proofs.validity.Wants.{Kept, step_so}
-use Rattle.run_devices.specs.queues.Kept.{NodeSo, Tells}
+use Rattle.run_devices.specs.queues.Kept.{NodeSo, Tells, joins_in}
 use Rattle.run_devices.specs.queues.Laws.{HasTold, NodeHas, QueuesOfEachRun, Same, WorkOfEachRun, queued}
 use Rattle.run_devices.specs.queues.Told.{told_tasks}
-use Rattle.run_devices.proofs.queues.Ends.{all_over}
-use Rattle.run_devices.proofs.queues.Happens.{Known, ValidAt, happening_strict}
+use Rattle.run_devices.proofs.queues.Ends.{only_joins}
+use Rattle.run_devices.proofs.queues.Happens.{Differs, Known, ValidAt, happening_strict}
 use Rattle.run_devices.proofs.queues.Steps.{Strict}
 use Rattle.run_devices.proofs.queues.Histories.{told_as_in_history}
 use Rattle.run_devices.proofs.queues.Queues.{work_same}
@@ -119,10 +119,12 @@ comes_more S cells few small s d x may due k =
     let c : Cluster = first_cluster S.header in
     let b : Known S s = known_at S cells s few small k.reached in
     let next : Reached c (first_scene S.header cells) (happened c s x) = reached_more c (first_scene S.header cells) s x k.reached may in
+    let z : validity.Known S.header s = valid_known S cells s few small k.reached b in
+    let differ : Differs S s x = (stage_at S.header cells (happened c s x) few small next).laws.once in
     record {
       reached = next;
-      valid = step_so S.header s d x due may (valid_known S cells s few small k.reached b) (stage_at S.header cells (happened c s x) few small next).laws.once k.valid;
-      so = happening_strict S s x may b (stage_at S.header cells (happened c s x) few small next).laws.once (valid_at S s d x due b k.valid) k.so;
+      valid = step_so S.header s d x due may z differ k.valid;
+      so = happening_strict S s x may b differ (valid_at S s d x due b k.valid) (agrees_at S.header s d x due may z differ k.valid) k.so;
     }
 
 run_so : (S : Setting) (cells : ℕ) → length S.header.devices ≤ most_devices → S.header.cluster < 2 ^ 32 → (xs : List Happening) (s : Scene) (d last : Due)
@@ -156,10 +158,6 @@ comes_to S cells xs last few small disks may shaped =
 
 -- ---- the law
 
-queue_none : (x : UpNode) (ts : List told.Task) → ts ≡ [] → filter is_queued x.tasks ≡ [] → Same (filter is_queued x.tasks) (queued ts)
-queue_none x ts none over =
-    subst (λ us. Same (filter is_queued x.tasks) (queued us)) (sym none) (subst (λ us. Same us []) (sym over) tt)
-
 has_so : (S : Setting) (s : Scene) (n : ℕ) (node : Node) (ts : List told.Task) → Known S s → node ≡ s.nodes.node n → NodeSo S s.moments n None node
     → told_tasks S n s.moments ≡ Some ts → NodeHas node ts
 has_so S s n Down ts b at k is = tt
@@ -173,8 +171,9 @@ has_so S s n (Up x) ts b at k is =
     by_session : Tells (Some ts) None x → SiteAt (first_cluster S.header) b.whole.machine n (site (Up x) (s.nodes.disk n).kept)
         → (installed_of x ≡ session_of x) ⊎ (installed_of x ≢ session_of x) → Same (filter is_queued x.tasks) (queued ts)
     by_session l it (inl same) =
-        queue_none x ts (l.0 same).0
-        (all_over (first_cluster S.header) b.whole.machine n (s.nodes.disk n).kept x (in_order (setting_of (first_cluster S.header)) b.whole.machine b.whole.reached) it same (l.0 same).1)
+        subst (λ z. Same z (queued ts))
+        (sym (only_joins (first_cluster S.header) b.whole.machine n (s.nodes.disk n).kept x (in_order (setting_of (first_cluster S.header)) b.whole.machine b.whole.reached) it same))
+        (same_queue (joins_in x.tasks) ts (l.0 same))
     by_session l it (inr ne) = same_queue x.tasks ts (l.1 ne)
 
 pub has_told : (S : Setting) (cells : ℕ) (s : Scene) (wants : List Want) (n : ℕ) → length S.header.devices ≤ most_devices → S.header.cluster < 2 ^ 32 → Comes_to S cells s wants

@@ -34,10 +34,12 @@ use Rattle.run_seizings.proofs.Goes as seizings
 use Rattle.run_seizings.proofs.Steps.{Ground}
 use Rattle.run_devices.proofs.validity.Downs.{Small, all_lost}
 use Rattle.run_devices.proofs.validity.Goes.{HandSo}
-use Rattle.run_devices.proofs.validity.Steps.{ready_of}
+use Rattle.run_devices.specs.validity.Kept.{AllAgree}
+use Rattle.run_devices.proofs.validity.Steps.{StepAgrees, ready_of}
 use Rattle.run_devices.specs.queues.Kept.{NodeSo, Pending}
 use Rattle.run_devices.proofs.queues.Acts.{AsksIn}
-use Rattle.run_devices.proofs.queues.Doings.{Placed, all_go}
+use Rattle.run_devices.proofs.queues.Changes.{Placed}
+use Rattle.run_devices.proofs.queues.Doings.{all_go}
 use Rattle.run_devices.proofs.queues.Goes.{Goes}
 
 -- ---- all nodes, with what one is to begin yet
@@ -67,12 +69,14 @@ pub record Beside (S : Setting) (c : Cluster) (n now : ℕ) (ends : method.Outco
   pub seizing : IsSeizing S.header s
   pub hand : InHand S.header s.moments n (delivered_by i)
   pub differ : AttemptsDiffer (taking c n now ends i s).moments
+  pub agrees : StepAgrees S.header c n now ends i s
 
 -- the walk through the small steps of it
 abbrev pub Walk : Setting → Cluster → ℕ → ℕ → method.Outcome → Input → Nodes → Pending → Type 0
 Walk S c n now ends i v p = (replies : List Reply) (w : Nodes) (t : Scene)
     → Small S.header c n (delivered_by i) None (site_of v n) (doings c n now ends replies i (v.node n))
     → AttemptsDiffer (passing n (given_all c n (site_of v n) (doings c n now ends replies i (v.node n))) t).moments
+    → AllAgree S.header c n (site_of v n) (doings c n now ends replies i (v.node n)) t
     → seizings.Goes S.header n (delivered_by i) v w (site_of v n) None t → Goes S n (delivered_by i) v w p (v.node n) t
     → Goes S n (delivered_by i) v w None (after_all c n (site_of v n) (doings c n now ends replies i (v.node n))).node
     (passing n (given_all c n (site_of v n) (doings c n now ends replies i (v.node n))) t)
@@ -101,6 +105,7 @@ step_around S c n now ends i s p sized b is time was answer hand guard beside wa
       fit = subst (λ os. AllFit n os) (sym cut.comes.given) (all_spelled n o.given is widths.given);
     })
     (subst (λ os. AttemptsDiffer (passing n os t).moments) (sym cut.comes.given) beside.differ)
+    beside.agrees
     (record {
       here = beside.seizing.sites n;
       there = λ j ne. beside.seizing.sites j;
@@ -125,6 +130,6 @@ pub plain_step : (S : Setting) (c : Cluster) (n now : ℕ) (ends : method.Outcom
     → Beside S c n now ends i s → Strict S s → Strict S (taking c n now ends i s)
 plain_step S c n now ends i s sized b is time was answer hand calm guard beside k =
     step_around S c n now ends i s None sized b is time was answer hand guard beside
-    (λ replies w t small differ z l.
+    (λ replies w t small differ agrees z l.
     all_go S c b.machine n (delivered_by i) s.nodes w (site_of s.nodes n) None (doings c n now ends replies i (s.nodes.node n)) t beside.placed calm (ready_of c s.nodes n i sized b was)
-    small differ z l) (around S s n k)
+    small differ agrees z l) (around S s n k)

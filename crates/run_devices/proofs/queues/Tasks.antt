@@ -3,7 +3,7 @@ use Rattle.std.specs.Prelude.{ℕ, ◌+◌, ◌≡◌, nat_lt, ◌==◌, ◌&&�
 use Rattle.std.proofs.Common.{refl, sym, ap, subst, ◌∙◌}
 use Rattle.cl_base.specs.declared.seizing.SeizeEnd.TheVariants.{Held, NotRegistered, Greater, Expelled, Contended, Fault}
 use Rattle.cmm_attempt.proofs.Basics.{if_either}
-use Rattle.device_queue.specs.Queue.{after_answer, after_seize, put_unless, seizure_of}
+use Rattle.device_queue.specs.Queue.{after_answer, after_seize, first_of, put_unless, seizure_of}
 use Rattle.device_queue.specs.Tasks.{answered, is_joining, is_over, is_queued, is_seizing, work_answered}
 use Rattle.device_queue.specs.declared.task.Task.{Task}
 use Rattle.device_queue.specs.declared.task.Work.{Work}
@@ -18,8 +18,8 @@ use Rattle.seize.specs.declared.step.SeizeStep.{SeizeStep}
 use Rattle.seize.specs.declared.step.SeizeStep.TheVariants.{Check, Register, ReadWord, Swap, Reserve, ReadKeys, Preempt, Confirm, Ended}
 use Rattle.history.specs.Queue as told
 use Rattle.run_history.proofs.Lists.{both}
-use Rattle.run_seizings.proofs.Progress.{no_truth}
-use Rattle.run_devices.specs.queues.Kept.{NoJoins}
+use Rattle.run_seizings.proofs.Progress.{if_not, if_so, no_truth}
+use Rattle.run_devices.specs.queues.Kept.{NoJoins, joins_in}
 use Rattle.run_devices.specs.queues.Laws.{Same, SameTask, SameWork}
 
 -- ---- a seizing is at its check at first alone
@@ -211,3 +211,42 @@ none_taken (t ∷ ts) a k = by_test (is_queued t) (none_taken ts a k.1)
     by_test : (b : Bool) → NoJoins (after_answer ts a) → NoJoins (if b then answered a t ∷ ts else t ∷ after_answer ts a)
     by_test true rest = (answered_kind a t.work ∙ k.0, k.1)
     by_test false rest = (k.0, rest)
+
+-- ---- the joinings among them
+
+pub joins_taken : (ts : List Task) (a : Answer) → ((t : Task) → first_of ts ≡ Some t → is_joining t.work ≡ true) → joins_in (after_answer ts a) ≡ after_answer (joins_in ts) a
+joins_taken [] a first = refl
+joins_taken (t ∷ ts) a first = by_queue (is_queued t) refl (λ off. joins_taken ts a (λ u found. first u (if_not (is_queued t) (Some t) (first_of ts) off ∙ found)))
+  where
+    by_kind : is_queued t ≡ false → (j : Bool) → is_joining t.work ≡ j → joins_in (after_answer ts a) ≡ after_answer (joins_in ts) a
+        → joins_in (t ∷ after_answer ts a) ≡ after_answer (joins_in (t ∷ ts)) a
+    by_kind off true is rest =
+        if_so (is_joining t.work) (t ∷ joins_in (after_answer ts a)) (joins_in (after_answer ts a)) is
+        ∙ (ap (λ z. t ∷ z) rest
+        ∙ (sym (if_not (is_queued t) (answered a t ∷ joins_in ts) (t ∷ after_answer (joins_in ts) a) off)
+        ∙ sym (ap (λ z. after_answer z a) (if_so (is_joining t.work) (t ∷ joins_in ts) (joins_in ts) is))))
+    by_kind off false is rest =
+        if_not (is_joining t.work) (t ∷ joins_in (after_answer ts a)) (joins_in (after_answer ts a)) is
+        ∙ (rest ∙ sym (ap (λ z. after_answer z a) (if_not (is_joining t.work) (t ∷ joins_in ts) (joins_in ts) is)))
+
+    by_queue : (q : Bool) → is_queued t ≡ q → (is_queued t ≡ false → joins_in (after_answer ts a) ≡ after_answer (joins_in ts) a) → joins_in (after_answer (t ∷ ts) a) ≡ after_answer (joins_in (t ∷ ts)) a
+    by_queue true is rest =
+        let joins : is_joining t.work ≡ true = first t (if_so (is_queued t) (Some t) (first_of ts) is) in
+        ap joins_in (if_so (is_queued t) (answered a t ∷ ts) (t ∷ after_answer ts a) is)
+        ∙ (if_so (is_joining (work_answered a t.work)) (answered a t ∷ joins_in ts) (joins_in ts) (answered_kind a t.work ∙ joins)
+        ∙ (sym (if_so (is_queued t) (answered a t ∷ joins_in ts) (t ∷ after_answer (joins_in ts) a) is)
+        ∙ sym (ap (λ z. after_answer z a) (if_so (is_joining t.work) (t ∷ joins_in ts) (joins_in ts) joins))))
+    by_queue false is rest =
+        ap joins_in (if_not (is_queued t) (answered a t ∷ ts) (t ∷ after_answer ts a) is)
+        ∙ by_kind is (is_joining t.work) refl (rest is)
+
+joins_more : (ts : List Task) (t : Task) → is_joining t.work ≡ false → joins_in (ts ++ t ∷ []) ≡ joins_in ts
+joins_more [] t off = if_not (is_joining t.work) (t ∷ []) [] off
+joins_more (x ∷ ts) t off = ap (λ z. if is_joining x.work then x ∷ z else z) (joins_more ts t off)
+
+pub joins_begun : (d : ℕ) (ts : List Task) (s : SeizeState) → joins_in (after_seize ts d s) ≡ joins_in ts
+joins_begun d ts s = by_old (seizure_of ts d)
+  where
+    by_old : (o : Option Task) → joins_in (put_unless o (record { device = d; work = Seizing s }) ts) ≡ joins_in ts
+    by_old None = joins_more ts (record { device = d; work = Seizing s }) refl
+    by_old (Some t) = refl

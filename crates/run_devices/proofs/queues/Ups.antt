@@ -22,7 +22,7 @@ use Rattle.run_seizings.proofs.Progress.{no_truth, same_is}
 use Rattle.run_seizings.proofs.Promising.{and_both}
 use Rattle.run_seizings.specs.Seized.{AttemptSo, has_installed}
 use Rattle.run_seizings.specs.Sites as seizings
-use Rattle.run_devices.specs.queues.Kept.{NoJoins, Pending, Tells, UpSo, begun_with}
+use Rattle.run_devices.specs.queues.Kept.{NoJoins, Pending, Tells, UpSo, begun_with, joins_in}
 use Rattle.run_devices.specs.queues.Laws.{Same}
 use Rattle.run_devices.specs.queues.Told.{leads, leads_for, told_after, told_tasks, unless}
 use Rattle.run_devices.proofs.queues.Tasks.{none_begun}
@@ -31,9 +31,7 @@ use Rattle.run_devices.proofs.queues.Tasks.{none_begun}
 tells_same : (o : Option (List told.Task)) (p : Pending) (x y : UpNode) → session_of y ≡ session_of x → installed_of y ≡ installed_of x → y.tasks ≡ x.tasks → Tells o p x → Tells o p y
 tells_same None p x y session installed tasks k = tt
 tells_same (Some ts) p x y session installed tasks k = (
-  λ is.
-      let l : (ts ≡ []) × NoJoins x.tasks = k.0 (sym installed ∙ (is ∙ session)) in
-      (l.0, subst NoJoins (sym tasks) l.1),
+  λ is. subst (λ (z : List Task). Same (joins_in z) ts) (sym tasks) (k.0 (sym installed ∙ (is ∙ session))),
   λ ne. subst (λ (z : List Task). Same (begun_with p z) ts) (sym tasks) (k.1 (λ is. ne (installed ∙ (is ∙ sym session)))),
 )
 

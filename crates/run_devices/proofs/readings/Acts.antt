@@ -11,7 +11,6 @@ use Rattle.cmm_attempt.specs.Calls.{turn}
 use Rattle.cmm_attempt.specs.declared.phase.Phase.TheVariants.{Installing}
 use Rattle.cmm_member.specs.Records.{NodeRecord}
 use Rattle.device_queue.specs.Queue.{after_answer, after_seize}
-use Rattle.history.specs.Member as member
 use Rattle.history.specs.Moment.{Moment, Told}
 use Rattle.membership_machine.specs.State.{Memberships}
 use Rattle.node_model.specs.Attempts.{seizing_here}

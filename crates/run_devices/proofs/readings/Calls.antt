@@ -3,7 +3,7 @@ use Rattle.std.specs.Prelude.{All, Bool, List, None, Option, Some, [], false, na
 use Rattle.std.specs.List.{AllByRecursion, list_any}
 use Rattle.std.proofs.Common.{ap, inl, inr, refl, subst, sym, ◌∙◌}
 use Rattle.std.proofs.lemmas.List.Elements.{All-head, All-tail}
-use Rattle.attempt_laws.specs.Asking.{AreApart, numbers_of}
+use Rattle.attempt_laws.specs.Asking.{numbers_of}
 use Rattle.attempt_laws.specs.Sending.{IsOwn, IsOwnStep}
 use Rattle.cl_base.specs.Seizings.{SeizeResult}
 use Rattle.cl_base.specs.declared.header.Header.{Header}
@@ -41,8 +41,9 @@ use Rattle.run_devices.proofs.readings.Goes.{HandSo}
 use Rattle.run_devices.proofs.readings.Results.{Fact, Rests, Tells, turn_reads}
 use Rattle.run_devices.proofs.readings.Tasks.{ended_kept, kept_keys}
 use Rattle.run_devices.specs.readings.Laws.{HeldAsRead, WasRead, held_keys}
-use Rattle.run_devices.specs.readings.Readings.{AttemptIn, AttemptSo, ReadOr, SentSo, StandsSo, TasksRead}
+use Rattle.run_devices.specs.readings.Readings.{AreInOrder, AttemptIn, AttemptSo, ReadOr, SentSo, StandsSo, TasksRead}
 use Rattle.run_devices.specs.readings.Sites.{Brought, InHand, UpSo}
+use Rattle.run_devices.proofs.readings.Order.{apart_of}
 
 pub attempt_of : (h : Header) (ms : List Moment) (n q : ℕ) (o : Option AttemptState) (a : AttemptState) → o ≡ Some a → AttemptIn h ms n q o → AttemptSo h ms n q a
 attempt_of h ms n q o a is k = subst (λ z. AttemptIn h ms n q z) is k
@@ -95,7 +96,7 @@ call_tells h c ms n told x a Tick me may at hand up so d giver keys before tells
 pub call_reads : (h : Header) (c : Cluster) (ms : List Moment) (n : ℕ) (told : Delivered) (x : UpNode) (a : AttemptState) (k : Call) → a.plan.coordinator ≡ n
     → MayCall c told a k → AtCall x k → InHand h ms n told → UpSo h ms n x → AttemptSo h ms n (session_of x) a → Rests (Was h ms a.plan.epoch) (turn a k).after
 call_reads h c ms n told x a k me may at hand up so =
-    turn_reads (Was h ms a.plan.epoch) a k so.attached (call_tells h c ms n told x a k me may at hand up so) (so.read, so.apart)
+    turn_reads (Was h ms a.plan.epoch) a k (apart_of (numbers_of a.plan.attached) so.attached) (call_tells h c ms n told x a k me may at hand up so) (so.read, so.apart)
 
 -- the attempt after it
 pub turned_so : (h : Header) (ms : List Moment) (n q : ℕ) (a t : AttemptState) → (t.phase ≡ Installing → has_installed n a.plan.epoch ms ≡ true)
@@ -114,7 +115,7 @@ turned_so h ms n q a t installs k rests so =
       installs = λ is. ap (λ e. has_installed n e ms) epoch ∙ installs is;
       read = subst (λ e. AllByRecursion (HeldAsRead h ms e) t.devices) (sym epoch) rests.0;
       apart = rests.1;
-      attached = subst (λ (p : Plan). AreApart (numbers_of p.attached)) (sym same) so.attached;
+      attached = subst (λ (p : Plan). AreInOrder (numbers_of p.attached)) (sym same) so.attached;
     }
 
 -- ---- what is sent

@@ -4,7 +4,7 @@ use Rattle.std.specs.List.{AllByRecursion, list_any}
 use Rattle.std.proofs.Common.{ap, inl, inr, refl, subst, sym, ◌∙◌}
 use Rattle.attempt_laws.proofs.Goes.{chosen_reached, goes_by_call}
 use Rattle.attempt_laws.proofs.Stays.{plan_stays}
-use Rattle.attempt_laws.specs.Asking.{AreApart, numbers_of}
+use Rattle.attempt_laws.specs.Asking.{numbers_of}
 use Rattle.attempt_laws.specs.Staying.{IsBefore}
 use Rattle.ccr_commit.specs.Entries.{all_committed, texts_of}
 use Rattle.cl_base.specs.declared.header.Header.{Header}
@@ -64,7 +64,7 @@ use Rattle.run_devices.proofs.readings.Promising.{After, Rises, Step, and_both, 
 use Rattle.run_devices.proofs.readings.Results.{Rests}
 use Rattle.run_devices.proofs.readings.Stays.{all_read_stay}
 use Rattle.run_devices.specs.readings.Laws.{HeldAsRead}
-use Rattle.run_devices.specs.readings.Readings.{AttemptIn, AttemptSo, StandsSo}
+use Rattle.run_devices.specs.readings.Readings.{AreInOrder, AttemptIn, AttemptSo, StandsSo}
 use Rattle.run_devices.specs.readings.Sites.{InHand}
 
 -- ---- installs
@@ -125,7 +125,7 @@ counts_go h c M n told v w disk x a q r i g b s step may rises guard calm k =
           read = all_read_stay h ms (installed n i.epoch) z.plan.epoch z.devices
               (subst (λ e. AllByRecursion (HeldAsRead h ms e) z.devices) (sym epoch) rests.0);
           apart = rests.1;
-          attached = subst (λ (y : Plan). AreApart (numbers_of y.attached)) (sym keeps.0) before.attached;
+          attached = subst (λ (y : Plan). AreInOrder (numbers_of y.attached)) (sym keeps.0) before.attached;
         }
 
 install_told : (h : Header) (ms : List Moment) (n : ℕ) (told : Delivered) (i : Install) → Says (λ b. b ≡ body.Install i) told → InHand h ms n told

@@ -2,7 +2,7 @@
 use Rattle.std.specs.Prelude.{All, List, None, [], false, nat_le, true, ℕ, ◌++◌, ◌<◌, ◌==◌, ◌∷◌, ◌≡◌, ◌≤◌}
 use Rattle.std.specs.List.{list_any}
 use Rattle.std.proofs.Common.{arith, refl, subst, sym, ◌∙◌}
-use Rattle.attempt_laws.specs.Asking.{AreApart, numbers_of}
+use Rattle.attempt_laws.specs.Asking.{numbers_of}
 use Rattle.cl_base.specs.declared.header.Header.{Header}
 use Rattle.cmm_attempt.specs.Calls.{IsDevice}
 use Rattle.cmm_member.specs.Records.{NodeRecord}
@@ -57,6 +57,7 @@ use Rattle.run_devices.proofs.readings.Goes.{Goes, goes_at, line_goes, mild_goes
 use Rattle.run_devices.proofs.readings.Promising.{Step, below, left_begun}
 use Rattle.run_devices.specs.readings.Sites.{SiteSo}
 use Rattle.run_devices.proofs.readings.Earlier.{differ_before, rises_so}
+use Rattle.run_devices.specs.readings.Readings.{AreInOrder}
 
 -- ---- a node goes down, or comes up
 
@@ -251,7 +252,7 @@ down_goes h c n told v w disk g (Loses ch why) s may k = absurd may
 down_goes h c n told v w disk g (Forgets ch why) s may k = absurd may
 
 pub doing_goes : (h : Header) (c : Cluster) (M : Memberships) (n : ℕ) (told : Delivered) (v w : Nodes) (x : Site) (g : Hand) (d : Doing) (s : Scene)
-    → c.id ≡ h.cluster → nat_le n 32 ≡ true → AreApart (numbers_of c.attached) → Holds (setting_of c) M → Known M told → SiteTied c M n x
+    → c.id ≡ h.cluster → nat_le n 32 ≡ true → AreInOrder (numbers_of c.attached) → Holds (setting_of c) M → Known M told → SiteTied c M n x
     → May c n told x d → DoingSo d → DoingMay h n told g x d → x.disk.promised ≤ (effect c n x d).disk.promised → AllFit n (gives c n x d)
     → AttemptsDiffer (passing n (gives c n x d) s).moments → Goes h n told v w x g s
     → Done h c n told v w x g d s
@@ -268,7 +269,7 @@ doing_goes h c M n told v w x g d s id low apart i known tied may so guard rises
 -- ---- one after another
 
 pub all_go : (h : Header) (c : Cluster) (M : Memberships) (n : ℕ) (told : Delivered) (v w : Nodes) (x : Site) (g : Hand) (small : List Doing) (s : Scene)
-    → c.id ≡ h.cluster → nat_le n 32 ≡ true → All IsDevice c.attached → AreApart (numbers_of c.attached)
+    → c.id ≡ h.cluster → nat_le n 32 ≡ true → All IsDevice c.attached → AreInOrder (numbers_of c.attached)
     → Holds (setting_of c) M → Known M told → SiteTied c M n x → MayAll c n told x small → AllSo small → AllMay h c n told g x small → AllFit n (given_all c n x small)
     → AttemptsDiffer (passing n (given_all c n x small) s).moments → Goes h n told v w x g s
     → Goes h n told v w (after_all c n x small) (hand_all g small) (passing n (given_all c n x small) s)

@@ -4,7 +4,7 @@ use Rattle.std.specs.List.{list_any}
 use Rattle.std.specs.Option.{option_and_then}
 use Rattle.std.proofs.Common.{ap, arith, refl, subst, sym, ◌∙◌}
 use Rattle.attempt_laws.proofs.Stays.{plan_begins}
-use Rattle.attempt_laws.specs.Asking.{AreApart, numbers_of}
+use Rattle.attempt_laws.specs.Asking.{numbers_of}
 use Rattle.cl_base.specs.declared.header.Header.{Header}
 use Rattle.cmm_attempt.specs.Attempts.{AttemptState, beginning}
 use Rattle.cmm_member.specs.Records.{NodeRecord}
@@ -50,14 +50,15 @@ use Rattle.run_devices.proofs.readings.Calls.{Was}
 use Rattle.run_devices.proofs.readings.Changes.{mid_goes, superseded_can, unknown_can}
 use Rattle.run_devices.proofs.readings.Goes.{Goes, can_append, line_goes, outputs_go}
 use Rattle.run_devices.proofs.readings.Results.{Fact, Rests, first_reads}
-use Rattle.run_devices.specs.readings.Readings.{AttemptSo, TasksRead}
+use Rattle.run_devices.specs.readings.Readings.{AreInOrder, AttemptSo, TasksRead}
 use Rattle.run_devices.specs.readings.Sites.{Brought, InHand, UpSo}
+use Rattle.run_devices.proofs.readings.Order.{apart_of}
 
 -- in a step of node n
 pub record Step (h : Header) (c : Cluster) (M : Memberships) (n : ℕ) (told : Delivered) (disk : NodeRecord) (x : UpNode) : Type 0 where
   pub id : c.id ≡ h.cluster
   pub low : nat_le n 32 ≡ true
-  pub apart : AreApart (numbers_of c.attached)
+  pub apart : AreInOrder (numbers_of c.attached)
   pub at : At c M n told disk x
 
 -- the node with its disk, once it is saved
@@ -170,7 +171,7 @@ promises_go h c M n told v w disk x p g s step may rises fit k =
 
 begun_so : (h : Header) (ms : List Moment) (n p members : ℕ) (a : AttemptState) → coordinator p ≡ n → 0 < p → a.plan.epoch ≡ p → a.plan.members ≡ members
     → has_installed n p ms ≡ false
-    → ((P : ℕ → Type 0) → First P a) → ((P : Fact) → Rests P a) → AreApart (numbers_of a.plan.attached) → AttemptSo h (attempt p members ∷ ms) n p a
+    → ((P : ℕ → Type 0) → First P a) → ((P : Fact) → Rests P a) → AreInOrder (numbers_of a.plan.attached) → AttemptSo h (attempt p members ∷ ms) n p a
 begun_so h ms n p members a own some epoch of none first rests attached =
     let same : (p == a.plan.epoch) ≡ true = same_so p a.plan.epoch (sym epoch) in
     record {
@@ -228,8 +229,8 @@ leads_go h c M n told v w disk x p members g b s step may rises calm fit new k =
             (not_true (has_installed n p t.moments)
             (λ is. too_low p disk.promised (promised_of x) (l.here.low p is) (ap (λ (r : NodeRecord). r.promised) sight.disk_so) may.0))
             (λ P. first_so P p members (own_promise n z p) c.attached c.id)
-            (λ P. first_reads P p members (own_promise n z p) c.attached c.id step.apart)
-            (subst (λ xs. AreApart (numbers_of xs)) (sym (plan_begins p members (own_promise n z p) c.attached c.id).of_attached) step.apart);
+            (λ P. first_reads P p members (own_promise n z p) c.attached c.id (apart_of (numbers_of c.attached) step.apart))
+            (subst (λ xs. AreInOrder (numbers_of xs)) (sym (plan_begins p members (own_promise n z p) c.attached c.id).of_attached) step.apart);
       };
     }) l))
   where

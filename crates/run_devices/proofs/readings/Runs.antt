@@ -51,6 +51,7 @@ use Rattle.run_devices.proofs.readings.Tasks.{kept_keys}
 use Rattle.run_devices.specs.readings.Laws.{AttemptAsRead, AttemptsHoldWhatWasRead, AttemptsIn, HasSeizedSo, ReadingsAreOfSeizers, SeizedsSayWhatWasRead, TasksThatSeizedAreTold, WhatWasReadStays}
 use Rattle.run_devices.specs.readings.Readings.{AttemptIn}
 use Rattle.run_devices.specs.readings.Sites.{IsReading, UpIn}
+use Rattle.run_devices.proofs.readings.Order.{header_order}
 
 -- ---- each thing that happens
 
@@ -68,14 +69,14 @@ happening_reads h s (Notes e) may b k =
     (carried_stays h s.moments (Told (entry.Schedule e)) s.links tt (λ p. refl) k.carried) tt tt k
 happening_reads h s (Takes n now ends i) may b k =
     let c : Cluster = first_cluster h in
-    step_reads h c n now ends i s refl (record { fits = b.whole.cluster.fits; small = b.whole.cluster.small }) b.whole.cluster.apart (ground_of c s b.stage) may.0 may.2
+    step_reads h c n now ends i s refl (record { fits = b.whole.cluster.fits; small = b.whole.cluster.small }) (header_order h) (ground_of c s b.stage) may.0 may.2
     (plain_sent s.nodes i may.1) (plain_fits i may.1)
     (plain_hand h s.moments n i may.1 may.3)
     (plain_may h c n now ends (s.nodes.node n) (s.nodes.disk n).kept i (plain_no i may.1) may.2 (b.stage.fits.nodes n)) b.differ k
 happening_reads h s (Arrives number x m now ends) may b k =
     let c : Cluster = first_cluster h in
     let t : Scene = telling (entry.Packet (packet.Delivered number x.from x.to)) (removed s number) in
-    step_reads h c x.to now ends (input.Packet x.from m) t refl (record { fits = b.whole.cluster.fits; small = b.whole.cluster.small }) b.whole.cluster.apart
+    step_reads h c x.to now ends (input.Packet x.from m) t refl (record { fits = b.whole.cluster.fits; small = b.whole.cluster.small }) (header_order h)
     (ground_of c s b.stage) may.3 may.5 may.4 tt
     (arrived_hand h s.moments s.links number x m may.0 may.1 k.carried)
     (plain_may h c x.to now ends (s.nodes.node x.to) (s.nodes.disk x.to).kept (input.Packet x.from m) tt may.5 (b.stage.fits.nodes x.to)) b.differ
@@ -94,7 +95,7 @@ happening_reads h s (Commands n d q now ends) may b k =
     (node_due c n d q (Some (s.nodes.node n)) b.whole.cluster.small may.0.1
     (λ node at. subst (λ z. NodeFits c n z) (same_some (s.nodes.node n) node at) (b.stage.fits.nodes n)) may.2)
     (b.stage.devices (d - 1) x is) in
-    step_reads h c n now ends (input.Answered o.answer) o.scene refl (record { fits = b.whole.cluster.fits; small = b.whole.cluster.small }) b.whole.cluster.apart l.ground may.0 may.3 tt
+    step_reads h c n now ends (input.Answered o.answer) o.scene refl (record { fits = b.whole.cluster.fits; small = b.whole.cluster.small }) (header_order h) l.ground may.0 may.3 tt
     (answer_fits c s n d q (slice_get s.devices (d - 1)) keeps) (ap arrived l.moments ∙ may.4)
     (answer_may h c n now ends (o.scene.nodes.node n) (o.scene.nodes.disk n).kept o.answer
     (subst (λ (v : Nodes). OwnKeysOnly h (v.node n) o.answer) (sym l.nodes) (due_own h s n d q (s.nodes.node n) b.whole may.2 low))) b.differ l.reading
@@ -103,7 +104,7 @@ happening_reads h s (Writes n d value now ends) may b k =
     let o : Commanded = commanded s n d (command.Write value) in
     let l : Left h c s o = left_at h c s n d (command.Write value) (slice_get s.devices (d - 1)) (ground_of c s b.stage) k in
     step_reads h c n now ends (input.Wrote d value o.answer) o.scene refl
-    (record { fits = b.whole.cluster.fits; small = b.whole.cluster.small }) b.whole.cluster.apart l.ground may.0 may.2 tt tt
+    (record { fits = b.whole.cluster.fits; small = b.whole.cluster.small }) (header_order h) l.ground may.0 may.2 tt tt
     (ap arrived l.moments ∙ may.3) (plain_may h c n now ends (o.scene.nodes.node n) (o.scene.nodes.disk n).kept (input.Wrote d value o.answer) tt may.2
     (l.ground.fits.nodes n)) b.differ l.reading
 happening_reads h s (Refuses n d value cause) may b k =

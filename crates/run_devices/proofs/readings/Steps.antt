@@ -1,7 +1,7 @@
 -- A step of a node, from scene to scene.
 use Rattle.std.specs.Prelude.{List, None, [], ℕ, ◌<◌, ◌^◌, ◌≡◌}
 use Rattle.std.proofs.Common.{refl, subst, sym}
-use Rattle.attempt_laws.specs.Asking.{AreApart, numbers_of}
+use Rattle.attempt_laws.specs.Asking.{numbers_of}
 use Rattle.cl_base.specs.declared.header.Header.{Header}
 use Rattle.cl_base.specs.declared.method.Outcome as method
 use Rattle.history.specs.Contact.{AttemptsDiffer}
@@ -39,10 +39,11 @@ use Rattle.run_seizings.proofs.Steps.{Ground}
 use Rattle.run_devices.proofs.readings.Doings.{all_go}
 use Rattle.run_devices.proofs.readings.Goes.{Goes}
 use Rattle.run_devices.specs.readings.Sites.{InHand, IsReading, SiteSo}
+use Rattle.run_devices.specs.readings.Readings.{AreInOrder}
 
 -- ---- a step
 
-pub step_reads : (h : Header) (c : Cluster) (n now : ℕ) (ends : method.Outcome) (i : Input) (s : Scene) → c.id ≡ h.cluster → Sized c → AreApart (numbers_of c.attached) → Ground c s.nodes
+pub step_reads : (h : Header) (c : Cluster) (n now : ℕ) (ends : method.Outcome) (i : Input) (s : Scene) → c.id ≡ h.cluster → Sized c → AreInOrder (numbers_of c.attached) → Ground c s.nodes
     → IsNode n → now < 2 ^ 64 → WasSent s.nodes i → AnswersFit i
     → InHand h s.moments n (delivered_by i) →
     ((replies : List Reply) → AllMay h c n (delivered_by i) None (site_of s.nodes n) (doings c n now ends replies i (s.nodes.node n)))

@@ -51,11 +51,12 @@ use Rattle.run_seizings.proofs.Doings.{differ_before, doing_goes, rises_so}
 use Rattle.run_seizings.proofs.Goes as seizings
 use Rattle.run_seizings.proofs.Promising.{ChangeMay}
 use Rattle.run_seizings.proofs.Changes.{IsPromise, NoCollect, fit_parts}
+use Rattle.history.specs.Moment.{Moment}
 use Rattle.history.specs.Validated.{validity}
 use Rattle.run_devices.specs.installs.Shown.{AllInstall, DoingInstalls}
-use Rattle.run_devices.specs.validity.Kept.{NoExcuse, readying}
+use Rattle.run_devices.specs.validity.Kept.{AllAgree, DoingAgrees, NoExcuse, RecordAgrees, SiteSo, readying}
 use Rattle.run_devices.specs.validity.Laws.{Agrees}
-use Rattle.run_devices.proofs.validity.Acts.{act_goes}
+use Rattle.run_devices.proofs.validity.Acts.{act_goes, strict}
 use Rattle.run_devices.proofs.validity.Answers.{NotJoined, admitted_valid, taken_valid}
 use Rattle.run_devices.proofs.validity.Tasks.{IsFirst, line_of, taken_up}
 use Rattle.run_devices.proofs.validity.Changes.{counts_go, joins_go, leads_go, promises_go}
@@ -218,10 +219,21 @@ pub record Ahead (h : Header) (c : Cluster) (n : ℕ) (x : Site) (ds : List Doin
 pub ahead_next : (h : Header) (c : Cluster) (n : ℕ) (x : Site) (d : Doing) (ds : List Doing) (s : Scene) → Ahead h c n x (d ∷ ds) s → Ahead h c n (effect c n x d) ds (passing n (gives c n x d) s)
 ahead_next h c n x d ds s k = record { differ = differ_next c n x d ds s k.differ; installs = k.installs.1 }
 
+-- what it installs, it does with the record that the lines tell
+record_agrees : (h : Header) (n : ℕ) (ms : List Moment) (x : Site) → SiteSo h ms n NoExcuse x → RecordAgrees h n ms x.disk
+record_agrees h n ms x k = λ d is. strict (Agrees (validity h n d ms) (has x.disk.valid d)) (k.valid d is)
+
+doing_agrees : (h : Header) (n : ℕ) (x : Site) (ms : List Moment) (d : Doing) → DoingTrusts d → DoingInstalls h n ms d → RecordAgrees h n ms x.disk → DoingAgrees h n x ms d
+doing_agrees h n x ms (Saves (Counts a q r i)) trusts tells k = (tells, k)
+doing_agrees h n x ms (Saves (Installs r i)) trusts tells k = (tells, k)
+doing_agrees h n x ms (Does (Takes at command a)) trusts tells k = absurd trusts
+doing_agrees h n x ms (Saves (Admits at command a d)) trusts tells k = absurd trusts
+doing_agrees h n x ms _ trusts tells k = tt
+
 pub all_go : (h : Header) (c : Cluster) (M : Memberships) (n : ℕ) (told : Delivered) (v w : Nodes) (x : Site) (g : Hand) (ds : List Doing) (s : Scene) → Fixed h c n → Ready c M n told x
     → Small h c n told g x ds → AllTrust ds → Ahead h c n x ds s → seizings.Goes h n told v w x g s → Goes h n told v w NoExcuse x s
-    → Goes h n told v w NoExcuse (after_all c n x ds) (passing n (given_all c n x ds) s)
-all_go h c M n told v w x g [] s fixed r small trusts differ z k = k
+    → Goes h n told v w NoExcuse (after_all c n x ds) (passing n (given_all c n x ds) s) × AllAgree h c n x ds s
+all_go h c M n told v w x g [] s fixed r small trusts differ z k = (k, tt)
 all_go h c M n told v w x g (d ∷ ds) s fixed r small trusts differ z k =
     let first : List Output = gives c n x d in
     let rest : List Output = given_all c n (effect c n x d) ds in
@@ -229,20 +241,25 @@ all_go h c M n told v w x g (d ∷ ds) s fixed r small trusts differ z k =
     let next : Next c n told x.disk.promised (effect c n x d) = next_of c M n told x d r small.may.0 in
     let one : Goes h n told v w NoExcuse (effect c n x d) (passing n first s) =
     doing_done h c M n told v w x g d s fixed r small.may.0 small.so.0 small.guard.0 trusts.0 small.lost.0 parts.0 differ.installs.0 k in
-    subst (λ t. Goes h n told v w NoExcuse (after_all c n (effect c n x d) ds) t) (sym (passing_append n first rest s))
-    (all_go h c next.machine n told v w (effect c n x d) (hand_after g d) ds (passing n first s) fixed next.ready (small_rest h c n told g x d ds small) trusts.1
-    (ahead_next h c n x d ds s differ) (also_next h c M n told v w x g d ds s fixed r small differ.differ z) one)
+    let later : Goes h n told v w NoExcuse (after_all c n (effect c n x d) ds) (passing n rest (passing n first s)) × AllAgree h c n (effect c n x d) ds (passing n first s) =
+    all_go h c next.machine n told v w (effect c n x d) (hand_after g d) ds (passing n first s) fixed next.ready (small_rest h c n told g x d ds small) trusts.1
+    (ahead_next h c n x d ds s differ) (also_next h c M n told v w x g d ds s fixed r small differ.differ z) one in (
+      subst (λ t. Goes h n told v w NoExcuse (after_all c n (effect c n x d) ds) t) (sym (passing_append n first rest s)) later.0,
+      (doing_agrees h n x s.moments d trusts.0 differ.installs.0 (record_agrees h n s.moments x k.here), later.1),
+    )
 
 -- the rest goes on behind the first
 pub rest_go : (h : Header) (c : Cluster) (M : Memberships) (n : ℕ) (told : Delivered) (v w : Nodes) (x : Site) (g : Hand) (d : Doing) (ds : List Doing) (s : Scene) → Fixed h c n
-    → Ready c M n told x → Small h c n told g x (d ∷ ds) → AllTrust ds → Ahead h c n x (d ∷ ds) s → seizings.Goes h n told v w x g s
+    → Ready c M n told x → Small h c n told g x (d ∷ ds) → AllTrust ds → Ahead h c n x (d ∷ ds) s → seizings.Goes h n told v w x g s → DoingAgrees h n x s.moments d
     → Goes h n told v w NoExcuse (effect c n x d) (passing n (gives c n x d) s)
-    → Goes h n told v w NoExcuse (after_all c n x (d ∷ ds)) (passing n (given_all c n x (d ∷ ds)) s)
-rest_go h c M n told v w x g d ds s fixed r small trusts differ z k =
+    → Goes h n told v w NoExcuse (after_all c n x (d ∷ ds)) (passing n (given_all c n x (d ∷ ds)) s) × AllAgree h c n x (d ∷ ds) s
+rest_go h c M n told v w x g d ds s fixed r small trusts differ z agrees k =
     let next : Next c n told x.disk.promised (effect c n x d) = next_of c M n told x d r small.may.0 in
-    subst (λ t. Goes h n told v w NoExcuse (after_all c n (effect c n x d) ds) t) (sym (passing_append n (gives c n x d) (given_all c n (effect c n x d) ds) s))
-    (all_go h c next.machine n told v w (effect c n x d) (hand_after g d) ds (passing n (gives c n x d) s) fixed next.ready (small_rest h c n told g x d ds small) trusts
-    (ahead_next h c n x d ds s differ) (also_next h c M n told v w x g d ds s fixed r small differ.differ z) k)
+    let later : Goes h n told v w NoExcuse (after_all c n (effect c n x d) ds) (passing n (given_all c n (effect c n x d) ds) (passing n (gives c n x d) s))
+    × AllAgree h c n (effect c n x d) ds (passing n (gives c n x d) s) =
+    all_go h c next.machine n told v w (effect c n x d) (hand_after g d) ds (passing n (gives c n x d) s) fixed next.ready (small_rest h c n told g x d ds small) trusts
+    (ahead_next h c n x d ds s differ) (also_next h c M n told v w x g d ds s fixed r small differ.differ z) k in
+    (subst (λ t. Goes h n told v w NoExcuse (after_all c n (effect c n x d) ds) t) (sym (passing_append n (gives c n x d) (given_all c n (effect c n x d) ds) s)) later.0, (agrees, later.1))
 
 -- ---- the answer to a command
 

@@ -59,7 +59,7 @@ no_truth e = cc
 
 -- ---- sets
 
-less_other : (set d e : ℕ) → 1 ≤ d → d ≤ 32 → 1 ≤ e → e ≤ 32 → e ≢ d → has (set_without set d) e ≡ has set e
+pub less_other : (set d e : ℕ) → 1 ≤ d → d ≤ 32 → 1 ≤ e → e ≤ 32 → e ≢ d → has (set_without set d) e ≡ has set e
 less_other set d e low high lo hi ne =
     ap (λ s. has s e) (sym (and_bit_value set d high))
     ∙ (has_at _ e lo ∙ (ap (λ b. b == 1) (bit_at_clear_other w32 set (d - 1) (under d low high) (e - 1) (under e lo hi) (apart d e low lo ne)) ∙ sym (has_at set e lo)))
@@ -70,17 +70,17 @@ less_other set d e low high lo hi ne =
     apart : (a b : ℕ) → 1 ≤ a → 1 ≤ b → b ≢ a → b - 1 ≢ a - 1
     apart a b l m n e = n (omega (arith, l, m, e))
 
-few : (d : ℕ) → d ≤ 16 → d ≤ 32
+pub few : (d : ℕ) → d ≤ 16 → d ≤ 32
 few d l = omega (arith, l)
 
 before : (k : ℕ) → 1 ≤ k → k ≤ 32 → k - 1 < 32
 before k l m = omega (arith, l, m)
 
-less_same : (set d : ℕ) → 1 ≤ d → d ≤ 32 → has (set_without set d) d ≡ false
+pub less_same : (set d : ℕ) → 1 ≤ d → d ≤ 32 → has (set_without set d) d ≡ false
 less_same set d low high =
     ap (λ s. has s d) (sym (and_bit_value set d high)) ∙ (has_at _ d low ∙ ap (λ b. b == 1) (bit_at_clear_same w32 set (d - 1) (before d low high)))
 
-more_same : (set d : ℕ) → 1 ≤ d → d ≤ 32 → has (set_with set d) d ≡ true
+pub more_same : (set d : ℕ) → 1 ≤ d → d ≤ 32 → has (set_with set d) d ≡ true
 more_same set d low high =
     ap (λ s. has s d) (sym (or_bit_value set d high)) ∙ (has_with set d low high d ∙ or_left (d == d) (has set d) (same_is d))
 

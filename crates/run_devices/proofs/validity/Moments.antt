@@ -67,7 +67,7 @@ use Rattle.run_devices.proofs.validity.Courses.{IsTrusting}
 use Rattle.run_devices.proofs.validity.Doings.{Fixed}
 use Rattle.run_devices.proofs.validity.Dues.{first_in}
 use Rattle.run_devices.proofs.validity.Goes.{HandSo, IsCollect}
-use Rattle.run_devices.proofs.validity.Steps.{Around, Strict, readying_step, trusting_step}
+use Rattle.run_devices.proofs.validity.Steps.{Around, StepAgrees, Strict, readying_step, trusting_step}
 use Rattle.run_devices.proofs.validity.Commands.{FirstIn, answer_step}
 use Rattle.run_devices.proofs.validity.Stills.{Still, entered_more, site_stays, still}
 
@@ -181,9 +181,19 @@ fixed_of h s n b low = record { id = refl; low = low_number n low; few = low; ma
 abbrev pub Differs : Header → Scene → Happening → Type 0
 Differs h s x = AttemptsDiffer (happened (first_cluster h) s x).moments
 
+-- what a node installs then, it does with the record that the lines tell
+abbrev pub AgreesAt : Header → Scene → Happening → Type 0
+AgreesAt h s (Takes n now ends i) = StepAgrees h (first_cluster h) n now ends i s
+AgreesAt h s (Arrives number x m now ends) =
+    StepAgrees h (first_cluster h) x.to now ends (input.Packet x.from m) (telling (entry.Packet (packet.Delivered number x.from x.to)) (removed s number))
+AgreesAt h s (Commands n d q now ends) = StepAgrees h (first_cluster h) n now ends (input.Answered (commanded s n d q).answer) (commanded s n d q).scene
+AgreesAt h s (Writes n d value now ends) =
+    StepAgrees h (first_cluster h) n now ends (input.Wrote d value (commanded s n d (command.Write value)).answer) (commanded s n d (command.Write value)).scene
+AgreesAt h s _ = Unit {0}
+
 pub takes_strict : (h : Header) (s : Scene) (n now : ℕ) (ends : method.Outcome) (i : Input) → MayHappen (first_cluster h) s (Takes n now ends i) → Known h s
     → Differs h s (Takes n now ends i) → IsTrusting i → Strict h s
-    → Strict h (happened (first_cluster h) s (Takes n now ends i))
+    → Strict h (happened (first_cluster h) s (Takes n now ends i)) × AgreesAt h s (Takes n now ends i)
 takes_strict h s n now ends i may b differ trusts k =
     let c : Cluster = first_cluster h in
     trusting_step h c n now ends i s (sized_of h s b) (ground_of c s b.stage) may.0 may.2 (plain_sent s.nodes i may.1) (plain_fits i may.1)
@@ -192,7 +202,8 @@ takes_strict h s n now ends i may b differ trusts k =
     (record { fixed = fixed_of h s n b may.0.1; seizing = b.seizing; hand = lines.plain_hand h s.moments n i may.1 may.3; differ = differ; installs = takes_install h s n now ends i b.standing may differ }) k
 
 pub arrives_strict : (h : Header) (s : Scene) (number : ℕ) (x : Packet) (m : Message) (now : ℕ) (ends : method.Outcome)
-    → MayHappen (first_cluster h) s (Arrives number x m now ends) → Known h s → Differs h s (Arrives number x m now ends) → Strict h s → Strict h (happened (first_cluster h) s (Arrives number x m now ends))
+    → MayHappen (first_cluster h) s (Arrives number x m now ends) → Known h s → Differs h s (Arrives number x m now ends) → Strict h s
+    → Strict h (happened (first_cluster h) s (Arrives number x m now ends)) × AgreesAt h s (Arrives number x m now ends)
 arrives_strict h s number x m now ends may b differ k =
     let c : Cluster = first_cluster h in
     let t : Scene = telling (entry.Packet (packet.Delivered number x.from x.to)) (removed s number) in
@@ -228,7 +239,7 @@ left_moments s n d k (Some x) = refl
 
 pub writes_strict : (h : Header) (s : Scene) (n d value now : ℕ) (ends : method.Outcome) → MayHappen (first_cluster h) s (Writes n d value now ends) → Known h s
     → Differs h s (Writes n d value now ends) → Strict h s
-    → Strict h (happened (first_cluster h) s (Writes n d value now ends))
+    → Strict h (happened (first_cluster h) s (Writes n d value now ends)) × AgreesAt h s (Writes n d value now ends)
 writes_strict h s n d value now ends may b differ k =
     let c : Cluster = first_cluster h in
     let o : Commanded = commanded s n d (command.Write value) in
@@ -250,6 +261,7 @@ writes_strict h s n d value now ends may b differ k =
 pub readies_around : (h : Header) (s : Scene) (n now : ℕ) (ends : method.Outcome) → MayHappen (first_cluster h) s (Takes n now ends input.CommandDue) → Known h s
     → Differs h s (Takes n now ends input.CommandDue) → Strict h s
     → Around h (happened (first_cluster h) s (Takes n now ends input.CommandDue)) n (readying (site_of (happened (first_cluster h) s (Takes n now ends input.CommandDue)).nodes n))
+    × AgreesAt h s (Takes n now ends input.CommandDue)
 readies_around h s n now ends may b differ k =
     let c : Cluster = first_cluster h in
     readying_step h c n now ends s (sized_of h s b) (ground_of c s b.stage) may.0 may.2 (b.whole.sites n).valid (nobody s.moments n may.3)
@@ -257,7 +269,8 @@ readies_around h s n now ends may b differ k =
     (record { fixed = fixed_of h s n b may.0.1; seizing = b.seizing; hand = may.3; differ = differ; installs = takes_install h s n now ends input.CommandDue b.standing may differ }) k
 
 pub commands_strict : (h : Header) (s : Scene) (n d : ℕ) (q : PrCommand) (now : ℕ) (ends : method.Outcome) → MayHappen (first_cluster h) s (Commands n d q now ends) → Known h s
-    → Differs h s (Commands n d q now ends) → Around h s n (readying (site_of s.nodes n)) → Strict h (happened (first_cluster h) s (Commands n d q now ends))
+    → Differs h s (Commands n d q now ends) → Around h s n (readying (site_of s.nodes n))
+    → Strict h (happened (first_cluster h) s (Commands n d q now ends)) × AgreesAt h s (Commands n d q now ends)
 commands_strict h s n d q now ends may b differ k =
     let c : Cluster = first_cluster h in
     let o : Commanded = commanded s n d q in

@@ -1,5 +1,5 @@
 -- Each run.
-use Rattle.std.specs.Prelude.{ℕ, ◌^◌, ◌≤◌, ◌<◌, List, [], ◌∷◌, Option, Some, length}
+use Rattle.std.specs.Prelude.{ℕ, ◌^◌, ◌≤◌, ◌<◌, List, [], ◌∷◌, length}
 use Rattle.std.proofs.Common.{refl, sym, subst, inl}
 use Rattle.cl_base.specs.Limits.{most_devices}
 use Rattle.cl_base.specs.Sets.{has}
@@ -7,13 +7,6 @@ use Rattle.cl_base.specs.declared.header.Header.{Header}
 use Rattle.cmm_member.specs.Records.{NodeRecord}
 use Rattle.membership_machine.specs.State.{Memberships}
 use Rattle.history.specs.Validated.{Validity, validity}
-use Rattle.history.specs.Letters.{says}
-use Rattle.history.specs.Moment.{Moment}
-use Rattle.history.specs.Order.{Always}
-use Rattle.history.specs.Trace.{sent}
-use Rattle.node_model.specs.Seats.{record_of}
-use Rattle.wire.specs.declared.message.Body.{Body}
-use Rattle.wire.specs.declared.message.Body.TheVariants as body
 use Rattle.node_model.specs.declared.cluster.Cluster.{Cluster}
 use Rattle.node_model.specs.declared.node.Node.{Node}
 use Rattle.node_model.specs.declared.node.Node.TheVariants.{Down, Up}
@@ -36,7 +29,7 @@ use Rattle.run_seizings.specs.Sites.{IsSeizing}
 use Rattle.run_seizings.proofs.Runs.{run_seizes}
 use Rattle.run_devices.proofs.installs.Stepping.{standing_at}
 use Rattle.run_devices.specs.validity.Kept.{NoExcuse, SiteSo}
-use Rattle.run_devices.specs.validity.Laws.{Agrees, InMemory, IsReadied, IsTold, PromisesShowValidity, ShowsIn, ShowsValidity, ValidityOfEachRun}
+use Rattle.run_devices.specs.validity.Laws.{Agrees, InMemory, IsReadied, PromisesShowValidity, ValidityOfEachRun}
 use Rattle.run_devices.proofs.validity.Acts.{strict}
 use Rattle.run_devices.proofs.validity.First.{first_told}
 use Rattle.run_devices.proofs.validity.Moments.{Known}

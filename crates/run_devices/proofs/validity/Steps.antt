@@ -60,7 +60,7 @@ use Rattle.run_seizings.proofs.Goes as seizings
 use Rattle.run_seizings.proofs.Steps.{Ground}
 use Rattle.history.specs.Validated.{validity}
 use Rattle.run_devices.proofs.installs.Stepping.{StepInstalls}
-use Rattle.run_devices.specs.validity.Kept.{Excuse, NoExcuse, SiteSo, readying}
+use Rattle.run_devices.specs.validity.Kept.{AllAgree, Excuse, NoExcuse, SiteSo, readying}
 use Rattle.run_devices.specs.validity.Laws.{Agrees, ShowsValidity}
 use Rattle.run_devices.proofs.validity.Acts.{mild_at, strict, up_same}
 use Rattle.run_devices.proofs.validity.Plainly.{saved_still}
@@ -114,6 +114,13 @@ pub record Beside (h : Header) (c : Cluster) (n now : ℕ) (ends : method.Outcom
   pub differ : AttemptsDiffer (taking c n now ends i s).moments
   pub installs : StepInstalls h c n now ends i s
 
+-- what it installs in its small steps, it does with the record that the lines tell
+abbrev pub StepAgrees : Header → Cluster → ℕ → ℕ → method.Outcome → Input → Scene → Type 0
+StepAgrees h c n now ends i s =
+    AllAgree h c n (site_of s.nodes n)
+    (doings c n now ends (steps_are_cut_so disk_rules disks_keep_rules c n now ends (s.nodes.node n) (s.nodes.disk n) i).replies i (s.nodes.node n))
+    (record s { nodes = moved c s.nodes (Takes_in n now ends i) })
+
 -- the walk through the small steps of it
 abbrev Walk : Header → Cluster → ℕ → ℕ → method.Outcome → Input → Nodes → Excuse → (Site → Excuse) → Type 0
 Walk h c n now ends i v e f = (replies : List Reply) (w : Nodes) (t : Scene)
@@ -121,12 +128,13 @@ Walk h c n now ends i v e f = (replies : List Reply) (w : Nodes) (t : Scene)
     → Ahead h c n (site_of v n) (doings c n now ends replies i (v.node n)) t
     → seizings.Goes h n (delivered_by i) v w (site_of v n) None t → Goes h n (delivered_by i) v w e (site_of v n) t
     → Goes h n (delivered_by i) v w (f (after_all c n (site_of v n) (doings c n now ends replies i (v.node n)))) (after_all c n (site_of v n) (doings c n now ends replies i (v.node n)))
-    (passing n (given_all c n (site_of v n) (doings c n now ends replies i (v.node n))) t)
+    (passing n (given_all c n (site_of v n) (doings c n now ends replies i (v.node n))) t) × AllAgree h c n (site_of v n) (doings c n now ends replies i (v.node n)) t
 
 pub step_around : (h : Header) (c : Cluster) (n now : ℕ) (ends : method.Outcome) (i : Input) (s : Scene) (e : Excuse) (f : Site → Excuse) → Sized c → Ground c s.nodes → IsNode n
     → now < 2 ^ 64 → WasSent s.nodes i → AnswersFit i → HandSo s.moments n (delivered_by i)
     → ((replies : List Reply) → AllMay h c n (delivered_by i) None (site_of s.nodes n) (doings c n now ends replies i (s.nodes.node n)))
-    → Beside h c n now ends i s → Walk h c n now ends i s.nodes e f → Around h s n e → Around h (taking c n now ends i s) n (f (site_of (taking c n now ends i s).nodes n))
+    → Beside h c n now ends i s → Walk h c n now ends i s.nodes e f → Around h s n e
+    → Around h (taking c n now ends i s) n (f (site_of (taking c n now ends i s).nodes n)) × StepAgrees h c n now ends i s
 step_around h c n now ends i s e f sized b is time was answer hand guard beside walk k =
     let v : Nodes = s.nodes in
     let w : Nodes = moved c v (Takes_in n now ends i) in
@@ -138,7 +146,7 @@ step_around h c n now ends i s e f sized b is time was answer hand guard beside 
     let widths : StepFits c n o = move_fits c sized.fits v n now ends i (is.0, is.1, was, answer) time b.fits in
     let t : Scene = record s { nodes = w } in
     let first : Goes h n told v w e x t = record { here = k.here; there = k.there; hand = hand; nodes = refl; shown = k.shown } in
-    let gone : Goes h n told v w (f (after_all c n x small)) (after_all c n x small) (passing n (given_all c n x small) t) =
+    let gone : Goes h n told v w (f (after_all c n x small)) (after_all c n x small) (passing n (given_all c n x small) t) × AllAgree h c n x small t =
     walk cut.replies w t (record {
       may = step_may c b.machine n now ends (v.node n) (v.disk n).kept i cut.replies is.1 sized.fits.devices.attached b.holds (b.stands n).tied (b.stands n).joins;
       so = doings_so c n now ends cut.replies i (v.node n);
@@ -162,28 +170,31 @@ step_around h c n now ends i s e f sized b is time was answer hand guard beside 
     }) first in
     let after : Goes h n told v w (f (site o.after o.disk.kept)) (site o.after o.disk.kept) (passing n o.given t) =
     subst (λ os. Goes h n told v w (f (site o.after o.disk.kept)) (site o.after o.disk.kept) (passing n os t)) cut.comes.given
-    (subst (λ z. Goes h n told v w (f z) z (passing n (given_all c n x small) t)) cut.comes.left gone) in
-    let r : Scene = passing n o.given t in
-    record {
-      here = subst (λ (z : Nodes). SiteSo h r.moments n (f (site_of z n)) (site_of z n)) (sym after.nodes)
-          (put_all (λ j node kept. j ≡ n → SiteSo h r.moments j (f (site node kept)) (site node kept)) v n o.after o.disk (λ same. after.here) (λ j ne same. absurd (ne same)) n refl);
-      there = λ k ne.
-          subst (λ (z : Nodes). SiteSo h r.moments k NoExcuse (site_of z k)) (sym after.nodes)
-          (put_all (λ j node kept. j ≢ n → SiteSo h r.moments j NoExcuse (site node kept)) v n o.after o.disk (λ other. absurd (other refl)) (λ j other rest. after.there j other) k ne);
-      shown = after.shown;
-    }
+    (subst (λ z. Goes h n told v w (f z) z (passing n (given_all c n x small) t)) cut.comes.left gone.0) in
+    let r : Scene = passing n o.given t in (
+      record {
+        here = subst (λ (z : Nodes). SiteSo h r.moments n (f (site_of z n)) (site_of z n)) (sym after.nodes)
+            (put_all (λ j node kept. j ≡ n → SiteSo h r.moments j (f (site node kept)) (site node kept)) v n o.after o.disk (λ same. after.here) (λ j ne same. absurd (ne same)) n refl);
+        there = λ k ne.
+            subst (λ (z : Nodes). SiteSo h r.moments k NoExcuse (site_of z k)) (sym after.nodes)
+            (put_all (λ j node kept. j ≢ n → SiteSo h r.moments j NoExcuse (site node kept)) v n o.after o.disk (λ other. absurd (other refl)) (λ j other rest. after.there j other) k ne);
+        shown = after.shown;
+      },
+      gone.1,
+    )
 
 -- but for a readying, and the answer to a command
 pub trusting_step : (h : Header) (c : Cluster) (n now : ℕ) (ends : method.Outcome) (i : Input) (s : Scene) → Sized c → Ground c s.nodes → IsNode n → now < 2 ^ 64 → WasSent s.nodes i
     → AnswersFit i → HandSo s.moments n (delivered_by i) → IsTrusting i
     → ((replies : List Reply) → AllMay h c n (delivered_by i) None (site_of s.nodes n) (doings c n now ends replies i (s.nodes.node n)))
-    → Beside h c n now ends i s → Strict h s → Strict h (taking c n now ends i s)
+    → Beside h c n now ends i s → Strict h s → Strict h (taking c n now ends i s) × StepAgrees h c n now ends i s
 trusting_step h c n now ends i s sized b is time was answer hand trusts guard beside k =
-    all_around h (taking c n now ends i s) n
-    (step_around h c n now ends i s NoExcuse (λ x. NoExcuse) sized b is time was answer hand guard beside
+    let gone : Around h (taking c n now ends i s) n NoExcuse × StepAgrees h c n now ends i s =
+    step_around h c n now ends i s NoExcuse (λ x. NoExcuse) sized b is time was answer hand guard beside
     (λ replies w t small differ z l.
     all_go h c b.machine n (delivered_by i) s.nodes w (site_of s.nodes n) None (doings c n now ends replies i (s.nodes.node n)) t beside.fixed (ready_of c s.nodes n i sized b was) small
-    (doings_trust c n now ends replies i (s.nodes.node n) trusts) differ z l) (around h s n NoExcuse k))
+    (doings_trust c n now ends replies i (s.nodes.node n) trusts) differ z l) (around h s n NoExcuse k) in
+    (all_around h (taking c n now ends i s) n gone.0, gone.1)
 
 -- ---- a node readies itself for its command
 
@@ -218,33 +229,35 @@ readies_walk : (h : Header) (c : Cluster) (n : ℕ) (v w : Nodes) (disk : NodeRe
     → IsDevices disk.valid → begins_plainly x.tasks ≡ o → Small h c n None g (site (Up x) disk) (under replies (distrusting_course x o))
     → Goes h n None v w NoExcuse (site (Up x) disk) s
     → Goes h n None v w (readying (after_all c n (site (Up x) disk) (under replies (distrusting_course x o)))) (after_all c n (site (Up x) disk) (under replies (distrusting_course x o)))
-    (passing n (given_all c n (site (Up x) disk) (under replies (distrusting_course x o))) s)
-readies_walk h c n v w disk x g replies None s same few begins small k = excuse_goes h n None v w (readying (site (Up x) disk)) (site (Up x) disk) s k
+    (passing n (given_all c n (site (Up x) disk) (under replies (distrusting_course x o))) s) × AllAgree h c n (site (Up x) disk) (under replies (distrusting_course x o)) s
+readies_walk h c n v w disk x g replies None s same few begins small k = (excuse_goes h n None v w (readying (site (Up x) disk)) (site (Up x) disk) s k, tt)
 readies_walk h c n v w disk x g replies (Some d) s same few begins small k = by_valid (has (record_of x).valid d) small
   where
     Walked : List Doing → Type 0
-    Walked ds = Goes h n None v w (readying (after_all c n (site (Up x) disk) ds)) (after_all c n (site (Up x) disk) ds) (passing n (given_all c n (site (Up x) disk) ds) s)
+    Walked ds = Goes h n None v w (readying (after_all c n (site (Up x) disk) ds)) (after_all c n (site (Up x) disk) ds) (passing n (given_all c n (site (Up x) disk) ds) s) × AllAgree h c n (site (Up x) disk) ds s
 
     lost : (new : NodeRecord) (ch : Doing) → Goes h n None v w NoExcuse (site Down new) (passing n (given_all c n (site (Up x) disk) (ch ∷ [])) s)
         → Goes h n None v w (readying (site Down new)) (site Down new) (passing n (given_all c n (site (Up x) disk) (ch ∷ [])) s)
     lost new ch l = excuse_goes h n None v w (readying (site Down new)) (site Down new) (passing n (given_all c n (site (Up x) disk) (ch ∷ [])) s) l
 
     by_reply : (rs : List Reply) → Small h c n None g (site (Up x) disk) (under rs (Keeps (Distrusts d) Stops)) → Walked (under rs (Keeps (Distrusts d) Stops))
-    by_reply [] z = lost disk (Forgets (Distrusts d) cause.Stopped) (lost_goes h n None v w NoExcuse (site (Up x) disk) disk (Distrusts d) cause.Stopped s z.lost.0 k)
-    by_reply (Done ∷ rs) z = distrusts_goes h c n v w disk x d s same few z.guard.0.0.0 begins k
-    by_reply (Lost_new why ∷ rs) z =
-        lost (record_of (changed c n x (Distrusts d))) (Loses (Distrusts d) why)
-        (lost_goes h n None v w NoExcuse (site (Up x) disk) (record_of (changed c n x (Distrusts d))) (Distrusts d) why s z.lost.0 k)
-    by_reply (Lost_old why ∷ rs) z = lost disk (Forgets (Distrusts d) why) (lost_goes h n None v w NoExcuse (site (Up x) disk) disk (Distrusts d) why s z.lost.0 k)
+    by_reply [] z = (lost disk (Forgets (Distrusts d) cause.Stopped) (lost_goes h n None v w NoExcuse (site (Up x) disk) disk (Distrusts d) cause.Stopped s z.lost.0 k), (tt, tt))
+    by_reply (Done ∷ rs) z = (distrusts_goes h c n v w disk x d s same few z.guard.0.0.0 begins k, (tt, tt))
+    by_reply (Lost_new why ∷ rs) z = (
+      lost (record_of (changed c n x (Distrusts d))) (Loses (Distrusts d) why)
+          (lost_goes h n None v w NoExcuse (site (Up x) disk) (record_of (changed c n x (Distrusts d))) (Distrusts d) why s z.lost.0 k),
+      (tt, tt),
+    )
+    by_reply (Lost_old why ∷ rs) z = (lost disk (Forgets (Distrusts d) why) (lost_goes h n None v w NoExcuse (site (Up x) disk) disk (Distrusts d) why s z.lost.0 k), (tt, tt))
 
     by_valid : (b : Bool) → Small h c n None g (site (Up x) disk) (under replies (if b then Keeps (Distrusts d) Stops else Stops)) → Walked (under replies (if b then Keeps (Distrusts d) Stops else Stops))
     by_valid true z = by_reply replies z
-    by_valid false z = excuse_goes h n None v w (readying (site (Up x) disk)) (site (Up x) disk) s k
+    by_valid false z = (excuse_goes h n None v w (readying (site (Up x) disk)) (site (Up x) disk) s k, tt)
 
 pub readying_step : (h : Header) (c : Cluster) (n now : ℕ) (ends : method.Outcome) (s : Scene) → Sized c → Ground c s.nodes → IsNode n → now < 2 ^ 64
     → IsDevices (s.nodes.disk n).kept.valid → HandSo s.moments n None
     → ((replies : List Reply) → AllMay h c n None None (site_of s.nodes n) (doings c n now ends replies input.CommandDue (s.nodes.node n)))
-    → Beside h c n now ends input.CommandDue s → Strict h s → Around h (taking c n now ends input.CommandDue s) n (readying (site_of (taking c n now ends input.CommandDue s).nodes n))
+    → Beside h c n now ends input.CommandDue s → Strict h s → Around h (taking c n now ends input.CommandDue s) n (readying (site_of (taking c n now ends input.CommandDue s).nodes n)) × StepAgrees h c n now ends input.CommandDue s
 readying_step h c n now ends s sized b is time few hand guard beside k =
     step_around h c n now ends input.CommandDue s NoExcuse readying sized b is time tt tt hand guard beside
     (λ replies w t small differ z l. by_node (s.nodes.node n) replies w t (ready_of c s.nodes n input.CommandDue sized b tt) small l) (around h s n NoExcuse k)
@@ -256,10 +269,15 @@ readying_step h c n now ends s sized b is time few hand guard beside k =
         → Small h c n None None (site node disk) (doings c n now ends replies input.CommandDue node) → Goes h n None s.nodes w NoExcuse (site node disk) t
         → Goes h n None s.nodes w (readying (after_all c n (site node disk) (doings c n now ends replies input.CommandDue node)))
         (after_all c n (site node disk) (doings c n now ends replies input.CommandDue node))
-        (passing n (given_all c n (site node disk) (doings c n now ends replies input.CommandDue node)) t)
-    by_node Down replies w t r small l = excuse_goes h n None s.nodes w (readying (site Down disk)) (site Down disk) t l
+        (passing n (given_all c n (site node disk) (doings c n now ends replies input.CommandDue node)) t) × AllAgree h c n (site node disk) (doings c n now ends replies input.CommandDue node) t
+    by_node Down replies w t r small l = (excuse_goes h n None s.nodes w (readying (site Down disk)) (site Down disk) t l, tt)
     by_node (Up x) replies w t r small l =
         let y : UpNode = at_second now x in
+        let gone : Goes h n None s.nodes w (readying (after_all c n (site (Up y) disk) (under replies (distrusting_course y (begins_plainly y.tasks)))))
+        (after_all c n (site (Up y) disk) (under replies (distrusting_course y (begins_plainly y.tasks))))
+        (passing n (given_all c n (site (Up y) disk) (under replies (distrusting_course y (begins_plainly y.tasks)))) t)
+        × AllAgree h c n (site (Up y) disk) (under replies (distrusting_course y (begins_plainly y.tasks))) t =
         readies_walk h c n s.nodes w disk y None replies (begins_plainly y.tasks) t (sees c b.machine n disk x.attempt x.seat r.tied.0).disk_so few refl
         (small_rest h c n None None (site (Up x) disk) (Does (Dates now)) (under replies (distrusting_course y (begins_plainly y.tasks))) small)
-        (mild_at h n None s.nodes w NoExcuse disk x y [] t tt tt refl refl refl l)
+        (mild_at h n None s.nodes w NoExcuse disk x y [] t tt tt refl refl refl l) in
+        (gone.0, (tt, gone.1))

@@ -208,7 +208,7 @@ readied_kept h s n k =
 
 -- ---- each thing that happens when it is due
 
-trusting_or : (i : Input) → IsPlain i → (i ≡ input.CommandDue) ⊎ IsTrusting i
+pub trusting_or : (i : Input) → IsPlain i → (i ≡ input.CommandDue) ⊎ IsTrusting i
 trusting_or input.CommandDue plain = inl refl
 trusting_or input.Boot plain = inr tt
 trusting_or input.Crash plain = inr tt
@@ -242,15 +242,15 @@ due_so h s (want.Take n i) wants (Takes m now ends j) is may b differ k = by_inp
     t = happened (first_cluster h) s (Takes m now ends j)
 
     by_input : (j ≡ input.CommandDue) ⊎ IsTrusting j → Kept h t (still t wants)
-    by_input (inr trusts) = settled h t wants (alone n i wants (subst IsTrusting is.1 trusts) k.wants_so) (takes_strict h s m now ends j may b differ trusts k.so)
+    by_input (inr trusts) = settled h t wants (alone n i wants (subst IsTrusting is.1 trusts) k.wants_so) (takes_strict h s m now ends j may b differ trusts k.so).0
     by_input (inl due) =
         let one : wants ≡ want.Command m ∷ [] = subst (λ z. WantsSo (want.Take n z ∷ wants)) (sym is.1 ∙ due) k.wants_so ∙ ap (λ z. want.Command z ∷ []) (sym is.0) in
         subst (λ ws. Kept h t (still t ws)) (sym one)
         (subst (λ z. Kept h (happened (first_cluster h) s (Takes m now ends z)) (still (happened (first_cluster h) s (Takes m now ends z)) (want.Command m ∷ []))) (sym due)
         (readied_kept h (happened (first_cluster h) s (Takes m now ends input.CommandDue)) m
-        (readies_around h s m now ends (subst (λ z. MayHappen (first_cluster h) s (Takes m now ends z)) due may) b (subst (λ z. Differs h s (Takes m now ends z)) due differ) k.so)))
+        (readies_around h s m now ends (subst (λ z. MayHappen (first_cluster h) s (Takes m now ends z)) due may) b (subst (λ z. Differs h s (Takes m now ends z)) due differ) k.so).0))
 due_so h s (want.Deliver number x) wants (Arrives j y m now ends) is may b differ k =
-    settled h (happened (first_cluster h) s (Arrives j y m now ends)) wants k.wants_so (arrives_strict h s j y m now ends may b differ k.so)
+    settled h (happened (first_cluster h) s (Arrives j y m now ends)) wants k.wants_so (arrives_strict h s j y m now ends may b differ k.so).0
 due_so h s (want.Deliver number x) wants (Strays j y) is may b differ k =
     settled h (happened (first_cluster h) s (Strays j y)) wants k.wants_so (delivered_strict h s j y.from y.to k.so)
 due_so h s (want.Miss number x) wants (Misses j y) is may b differ k =
@@ -263,9 +263,9 @@ due_so h s (want.Repeat number x) wants (Repeats j y) is may b differ k =
     settled h (happened (first_cluster h) s (Repeats j y)) wants k.wants_so (repeated_strict h s j y k.so)
 due_so h s (want.Command n) wants (Commands m d q now ends) is may b differ k =
     settled h (happened (first_cluster h) s (Commands m d q now ends)) wants k.wants_so
-    (commands_strict h s m d q now ends may b differ (subst (λ z. Around h s z (readying (site_of s.nodes z))) (sym is) k.so))
+    (commands_strict h s m d q now ends may b differ (subst (λ z. Around h s z (readying (site_of s.nodes z))) (sym is) k.so)).0
 due_so h s (want.Write n d value) wants (Writes m e v now ends) is may b differ k =
-    settled h (happened (first_cluster h) s (Writes m e v now ends)) wants k.wants_so (writes_strict h s m e v now ends may b differ k.so)
+    settled h (happened (first_cluster h) s (Writes m e v now ends)) wants k.wants_so (writes_strict h s m e v now ends may b differ k.so).0
 due_so h s (want.Refuse n d value why) wants (Refuses m e v w) is may b differ k =
     let z : Entry = entry.Device (device.Refused m e v w) in
     settled h (happened (first_cluster h) s (Refuses m e v w)) wants k.wants_so (told_strict h s s.links z (λ n. stills.still h s.moments n z tt) tt k.so)

@@ -1,5 +1,5 @@
 -- How each seizing of an attempt ended, as the device lines show it: what attempts and messages have, against what the lines tell.
-use Rattle.std.specs.Prelude.{ℕ, ◌==◌, ◌≡◌, ◌⊎◌, true, List, [], ◌∷◌, Option, None, Some}
+use Rattle.std.specs.Prelude.{ℕ, ◌==◌, ◌≡◌, ◌<◌, ◌⊎◌, true, List, [], ◌∷◌, Option, None, Some}
 use Rattle.std.specs.List.{AllByRecursion, list_any}
 use Rattle.attempt_laws.proofs.Walk.{IsSeizing}
 use Rattle.attempt_laws.specs.Asking.{entry_numbers, numbers_of}
@@ -55,6 +55,11 @@ EntryShown K e s = (k : ℕ) (r : SeizeResult) → s.seizer ≡ Some k → s.res
 abbrev pub AreOfPlan : Plan → List Seizing → Type 0
 AreOfPlan plan es = (d : ℕ) → list_any (λ x. x == d) (entry_numbers es) ≡ true → list_any (λ x. x == d) (numbers_of plan.attached) ≡ true
 
+-- each reading is of a device below those of the readings behind it
+abbrev pub ReadInOrder : List Reading → Type 0
+ReadInOrder [] = Unit {0}
+ReadInOrder (r ∷ readings) = AllByRecursion (λ (other : Reading). r.device < other.device) readings × ReadInOrder readings
+
 -- whoever seized a device for e is told by these readings
 abbrev pub AllAreTold : Shown → ℕ → List Reading → Type 0
 AllAreTold K e readings = (k d : ℕ) (keys : List ℕ) → K k e d ≡ Some keys → told_in readings d ≡ Some (record { seizer = k; keys = keys })
@@ -78,10 +83,11 @@ NodeIn K (Up x) = AttemptIn K x.attempt
 abbrev pub IsCounted : Memberships → List Moment → ℕ → Type 0
 IsCounted M moments e = (has_installed (coordinator e) e moments ≡ true) ⊎ ((M.epoch e).counted ≡ true)
 
--- A Seized tells how the seizing ended, as the lines show it, unless its attempt was counted; an Install tells each seizing, and of devices apart.
+-- A Seized tells how the seizing ended, as the lines show it, unless its attempt was counted; an Install tells each seizing, and of devices
+-- apart, in the order of their numbers.
 abbrev pub BodyShown : Shown → Memberships → List Moment → ℕ → Body → Type 0
 BodyShown K M moments from (body.Seized e d r) = IsCounted M moments e ⊎ EndedAs K e d from r
-BodyShown K M moments from (body.Install i) = AllAreTold K i.epoch i.readings × AreOfDevices i.readings
+BodyShown K M moments from (body.Install i) = AllAreTold K i.epoch i.readings × AreOfDevices i.readings × ReadInOrder i.readings
 BodyShown K M moments from _ = Unit {0}
 
 abbrev pub PacketShown : Shown → Memberships → List Moment → Packet → Type 0
@@ -105,6 +111,7 @@ pub record InstallSo (h : Header) (moments : List Moment) (n : ℕ) (r : NodeSta
   pub told : (d : ℕ) → told_in i.readings d ≡ seizing_of h i.epoch d moments
   pub read : AllByRecursion (WasRead h moments i.epoch) i.readings
   pub apart : AreOfDevices i.readings
+  pub order : ReadInOrder i.readings
   pub me : r.me ≡ n
 
 -- once it is saved

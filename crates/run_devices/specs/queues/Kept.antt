@@ -1,5 +1,5 @@
 -- What each thing that happens keeps of a node and its lines.
-use Rattle.std.specs.Prelude.{ℕ, ◌≡◌, ◌≢◌, ◌<◌, false, true, List, [], Option, None, Some}
+use Rattle.std.specs.Prelude.{ℕ, ◌≡◌, ◌≢◌, ◌<◌, false, true, List, filter, Option, None, Some}
 use Rattle.std.specs.List.{AllByRecursion}
 use Rattle.device_queue.specs.Queue.{after_seize}
 use Rattle.device_queue.specs.Tasks.{is_joining}
@@ -28,11 +28,14 @@ begun_with (Some p) tasks = after_seize tasks p.0 p.1
 abbrev pub NoJoins : List Task → Type 0
 NoJoins tasks = AllByRecursion (λ (t : Task). is_joining t.work ≡ false) tasks
 
--- Where they are told: in a session that is installed there is none that is not over; before that they are these, with the one that is to be begun.
+abbrev pub joins_in : List Task → List Task
+joins_in tasks = filter (λ (t : Task). is_joining t.work) tasks
+
+-- Where they are told: in a session that is installed the joinings are these; before that all tasks are, with the one that is to be begun.
 abbrev pub Tells : Option (List told.Task) → Pending → UpNode → Type 0
 Tells None p x = Unit {0}
 Tells (Some tasks) p x =
-    (installed_of x ≡ session_of x → (tasks ≡ []) × NoJoins x.tasks) × (installed_of x ≢ session_of x → Same (begun_with p x.tasks) tasks)
+    (installed_of x ≡ session_of x → Same (joins_in x.tasks) tasks) × (installed_of x ≢ session_of x → Same (begun_with p x.tasks) tasks)
 
 pub record UpSo (S : Setting) (moments : List Moment) (n : ℕ) (p : Pending) (x : UpNode) : Type 0 where
   pub none : session_of x ≡ 0 → member.session_of n moments ≡ None

@@ -10,7 +10,7 @@ use Rattle.history.specs.Member.{attempt_of, in_collect, number_of}
 use Rattle.history.specs.Moment.{Moment}
 use Rattle.history.specs.Names as name
 use Rattle.history.specs.Names.{Name}
-use Rattle.history.specs.Queue.{Task, answer_told, is_write, moved, requested, tasks_of}
+use Rattle.history.specs.Queue.{Task, answer_told, is_open, is_write, joinings, moved, requested, tasks_of}
 use Rattle.history.specs.Seizing.{acts_for, is_number, seizing_of}
 use Rattle.history.specs.Setting.{Setting, all_to, coordinator, paths_of}
 use Rattle.history.specs.Trace.{up, down, saved, installed, attempt, ended_votes, ended_excluded, ended_foreign, delivered, device}
@@ -59,13 +59,13 @@ brought S n (Some l) before tasks = sought S n l before l.name tasks
 
 -- ---- an install
 
--- d is attached to n, and was seized for e
-abbrev pub is_seized : Setting → ℕ → ℕ → List Moment → ℕ → Bool
-is_seized S n e before d = has (paths_of S.header d) n && is_some (seizing_of S.header e d before)
+-- d is attached to n, was seized for e, and the trace does not tell whether it was valid to n
+abbrev pub is_unsure : Setting → ℕ → ℕ → List Moment → ℕ → Bool
+is_unsure S n e before d = has (paths_of S.header d) n && is_some (seizing_of S.header e d before) && is_open (validity S.header n d before)
 
--- which joinings it brings rests on what the devices' seizers read; where no attached device was seized it brings none
+-- it brings the joinings of `history`, but where a stop left open whether such a device is valid
 abbrev pub joined : Setting → ℕ → ℕ → List Moment → Option (List Task)
-joined S n e before = if list_any (is_seized S n e before) (all_to (length S.header.devices)) then None else Some []
+joined S n e before = if list_any (is_unsure S n e before) (all_to (length S.header.devices)) then None else Some (joinings S n e before)
 
 -- ---- the tasks of n
 

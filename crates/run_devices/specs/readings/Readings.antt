@@ -53,6 +53,11 @@ TasksRead h moments n q ts = AreSeizings ts × ((d : ℕ) → TaskRead (progress
 
 -- ---- the attempt
 
+-- each number is below those behind it
+abbrev pub AreInOrder : List ℕ → Type 0
+AreInOrder [] = Unit {0}
+AreInOrder (d ∷ ds) = AllByRecursion (λ e. d < e) ds × AreInOrder ds
+
 pub record AttemptSo (h : Header) (moments : List Moment) (n q : ℕ) (a : AttemptState) : Type 0 where
   pub of : IsOf moments a.plan.epoch a.plan.members
   pub some : 0 < a.plan.epoch
@@ -63,7 +68,7 @@ pub record AttemptSo (h : Header) (moments : List Moment) (n q : ℕ) (a : Attem
   pub installs : a.phase ≡ Installing → has_installed n a.plan.epoch moments ≡ true
   pub read : AllByRecursion (HeldAsRead h moments a.plan.epoch) a.devices
   pub apart : AreApart (entry_numbers a.devices)
-  pub attached : AreApart (numbers_of a.plan.attached)
+  pub attached : AreInOrder (numbers_of a.plan.attached)
 
 abbrev pub AttemptIn : Header → List Moment → ℕ → ℕ → Option AttemptState → Type 0
 AttemptIn h moments n q None = Unit {0}

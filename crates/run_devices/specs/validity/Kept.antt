@@ -1,12 +1,13 @@
 -- What each thing that happens keeps of a node and its lines.
-use Rattle.std.specs.Prelude.{ℕ, ◌≡◌, ◌≢◌, ◌<◌, ◌⊎◌, true, false, List, Some}
+use Rattle.std.specs.Prelude.{ℕ, ◌≡◌, ◌≢◌, ◌<◌, ◌⊎◌, true, false, List, [], ◌∷◌, Some}
 use Rattle.std.specs.List.{AllByRecursion, list_any}
 use Rattle.cl_base.specs.Sets.{has}
 use Rattle.cl_base.specs.declared.header.Header.{Header}
 use Rattle.device_queue.specs.declared.task.Task.{Task}
 use Rattle.device_queue.specs.declared.task.Work.{Work}
 use Rattle.device_queue.specs.declared.task.Work.TheVariants.{Seizing as Seizes, Joining as Joins}
-use Rattle.device_queue.specs.Queue.{begins_plainly}
+use Rattle.device_queue.specs.Queue.{begins_plainly, first_of}
+use Rattle.device_queue.specs.Tasks.{is_joining}
 use Rattle.seize.specs.declared.step.JoinStep.{JoinStep}
 use Rattle.seize.specs.declared.step.JoinStep.TheVariants as join
 use Rattle.history.specs.Member.{last_installed}
@@ -18,7 +19,15 @@ use Rattle.node_model.specs.Seats.{installed_of, session_of}
 use Rattle.node_model.specs.declared.node.Node.{Node}
 use Rattle.node_model.specs.declared.node.Node.TheVariants.{Down, Up}
 use Rattle.node_model.specs.declared.node.UpNode.{UpNode}
-use Rattle.refinement.specs.Doings.{Site}
+use Rattle.node_model.specs.declared.cluster.Cluster.{Cluster}
+use Rattle.cmm_member.specs.Records.{NodeRecord}
+use Rattle.history.specs.Trace.{saved}
+use Rattle.refinement.specs.Doings.{Doing, Site, effect, gives}
+use Rattle.refinement.specs.Doings.Act.{Takes}
+use Rattle.refinement.specs.Doings.Change.{Admits, Counts, Installs}
+use Rattle.refinement.specs.Doings.Doing.{Does, Saves}
+use Rattle.run_history.specs.Scenes.{Scene, passing}
+use Rattle.run_devices.specs.installs.Shown.{InstallSo}
 use Rattle.run_history.specs.WorldLines.{IsDevice}
 use Rattle.run_devices.specs.validity.Laws.{Agrees}
 
@@ -73,3 +82,29 @@ Begins d (Up x) = begins_plainly x.tasks ≡ Some d
 
 abbrev pub readying : Site → Excuse
 readying x d = Begins d x.node × (has x.disk.valid d ≡ false)
+
+-- ---- what it installs with
+
+abbrev pub RecordAgrees : Header → ℕ → List Moment → NodeRecord → Type 0
+RecordAgrees h n moments r = (d : ℕ) → IsDevice h d → Agrees (validity h n d moments) (has r.valid d)
+
+-- in a session that is installed the task that takes the answer joins
+abbrev pub JoinsFirst : UpNode → Type 0
+JoinsFirst x = installed_of x ≡ session_of x → (t : Task) → first_of x.tasks ≡ Some t → is_joining t.work ≡ true
+
+abbrev pub JoinsFirstIn : Node → Type 0
+JoinsFirstIn Down = Unit {0}
+JoinsFirstIn (Up x) = JoinsFirst x
+
+-- It installs what tells the seizings, and its record is as the lines tell; and once it has installed its session the answers that come are of joinings.
+abbrev pub DoingAgrees : Header → ℕ → Site → List Moment → Doing → Type 0
+DoingAgrees h n x moments (Saves (Counts a q r i)) = InstallSo h (saved n ∷ moments) n r i × RecordAgrees h n moments x.disk
+DoingAgrees h n x moments (Saves (Installs r i)) = InstallSo h (saved n ∷ moments) n r i × RecordAgrees h n moments x.disk
+DoingAgrees h n x moments (Does (Takes at command a)) = JoinsFirstIn x.node
+DoingAgrees h n x moments (Saves (Admits at command a d)) = JoinsFirstIn x.node
+DoingAgrees h n x moments _ = Unit {0}
+
+-- each of these small steps does so
+abbrev pub AllAgree : Header → Cluster → ℕ → Site → List Doing → Scene → Type 0
+AllAgree h c n x [] s = Unit {0}
+AllAgree h c n x (d ∷ small) s = DoingAgrees h n x s.moments d × AllAgree h c n (effect c n x d) small (passing n (gives c n x d) s)

@@ -1,20 +1,15 @@
 -- What is proved of each run of the world, as things that happen: which devices the record of a node holds valid, as the lines tell it.
-use Rattle.std.specs.Prelude.{ℕ, ◌≡◌, ◌<◌, ◌≤◌, ◌^◌, ◌⊎◌, ◌==◌, ◌&&◌, Bool, true, false, if◌then◌else◌, List, [], ◌∷◌, length, Option, Some, is_some}
+use Rattle.std.specs.Prelude.{ℕ, ◌≡◌, ◌<◌, ◌≤◌, ◌^◌, Bool, true, false, List, ◌∷◌, length, Option, Some}
 use Rattle.cl_base.specs.Limits.{most_devices}
 use Rattle.cl_base.specs.Sets.{has}
 use Rattle.cl_base.specs.declared.header.Header.{Header}
-use Rattle.pgr_device.specs.declared.command.PrCommand.TheVariants as command
-use Rattle.pgr_device.specs.declared.command.PrAnswer.TheVariants as answer
-use Rattle.status_report.specs.declared.device_entry.DeviceAnswer.TheVariants.{Given}
 use Rattle.wire.specs.declared.message.Body.{Body}
 use Rattle.wire.specs.declared.message.Body.TheVariants as body
 use Rattle.history.specs.Letters.{says}
 use Rattle.history.specs.Moment.{Moment}
 use Rattle.history.specs.Order.{Always}
-use Rattle.history.specs.Seizing.{seizing_of}
-use Rattle.history.specs.Setting.{is_configured, is_quorum, paths_of}
-use Rattle.history.specs.Trace.{device, disk_failed, installed, sent, stopped}
-use Rattle.history.specs.Validated.{Validity, Valid, Lapsed, Open, at_first, joins, validity}
+use Rattle.history.specs.Trace.{sent}
+use Rattle.history.specs.Validated.{Validity, Valid, Lapsed, Open, validity}
 use Rattle.node_model.specs.Seats.{record_of}
 use Rattle.node_model.specs.declared.node.Node.{Node}
 use Rattle.node_model.specs.declared.node.Node.TheVariants.{Down, Up}
