@@ -4,3 +4,4 @@ pub mod exclusions
 pub mod panics
 pub mod saves
 pub mod stops
+pub mod phases

@@ -22,6 +22,7 @@ ghost use Rattle.run_outcomes.specs.exclusions.Laws.{ExclusionsOfEachRun};
 ghost use Rattle.run_outcomes.specs.panics.Laws.{ExclusionsAreToldInEachRun};
 ghost use Rattle.run_outcomes.specs.saves.Laws.{LetterStopsOfEachRun};
 ghost use Rattle.run_outcomes.specs.stops.Laws.{TickStopsOfEachRun};
+ghost use Rattle.run_outcomes.specs.phases.Laws.{CollectorsHaveNothingDue, NoneIsOver, PromisesAreTold, SeizingsAreTold, VotesAreTold};
 
 /// An attempt ends for a foreign member once all have promised, and names the least of its members that is configured neither in the newest
 /// committed updates in hand nor with the pending one.
@@ -88,3 +89,31 @@ pub fn tick_stops_of_each_run()
 {
     run_packets::attempts_begin_as_wanted();
 }
+
+/// The attempt that a node has is not over: where it ends, or starts its membership, the node has none any more.
+pub fn none_is_over_in_each_run()
+    ensures { NoneIsOver }
+{}
+
+/// While an attempt is under way, it has taken the Promise of another member exactly where one was delivered to its coordinator since it began, and it
+/// still collects exactly where one is missing. No packet is foreign to its receiver there.
+pub fn promises_are_told_in_each_run()
+    ensures { PromisesAreTold }
+{}
+
+/// While an attempt collects Promises no command at a device is due at its coordinator.
+pub fn collectors_have_nothing_due_in_each_run()
+    ensures { CollectorsHaveNothingDue }
+{}
+
+/// The coordinator of an attempt acts for it until it has installed it; and the attempt seizes devices exactly where the lines bring seizings of its own: its
+/// coordinator acts for it, it is under way, and each other member has promised.
+pub fn seizings_are_told_in_each_run()
+    ensures { SeizingsAreTold }
+{}
+
+/// While an attempt seizes devices it was given the votes of the newest record that its coordinator has in hand, of its committed updates and with the pending
+/// one, as far as the trace tells that record; so the quorum devices are those that have votes by it.
+pub fn votes_are_told_in_each_run()
+    ensures { VotesAreTold }
+{}

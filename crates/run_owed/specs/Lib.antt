@@ -1,3 +1,4 @@
 pub mod prepares
 pub mod repeats
 pub mod replies
+pub mod waiting

@@ -11,6 +11,7 @@
 ghost use Rattle.run_owed.specs.prepares.Laws.{OneNodeOfEachRun, PreparesOfEachRun};
 ghost use Rattle.run_owed.specs.repeats.Laws.{PreparesAgainOfEachRun};
 ghost use Rattle.run_owed.specs.replies.Laws.{CollectsAreAnsweredInEachRun, OrdersAreAnsweredInEachRun, PreparesAreAnsweredInEachRun};
+ghost use Rattle.run_owed.specs.waiting.Laws.{CanonicalWordsAreShort, RequestsOfEachRun};
 
 /// All entries of an event are the doings of one node, or nobody's: a node tells of attempts and memberships that it coordinates, and of no others.
 pub fn one_node_of_each_run()
@@ -45,4 +46,16 @@ pub fn collects_are_answered_in_each_run()
 /// event behind which no packet number is left.
 pub fn prepares_are_answered_in_each_run()
     ensures { PreparesAreAnsweredInEachRun }
+{}
+
+/// A command of a member other than the president goes to it in the event in which it becomes the oldest that waits, unless a monitor asked since the node
+/// went up, or the node goes down there. Nothing is said of an event behind which no packet number is left. This holds while the schedule has fewer than
+/// 2^63 lines, which number the commands, and while each command has 4,096 bytes at most, as each line of a schedule has.
+pub fn requests_of_each_run()
+    ensures { RequestsOfEachRun }
+{}
+
+/// The canonical words of a command of 4,096 bytes at most have 65,536 bytes at most, so that a Request can carry them.
+pub fn canonical_words_are_short()
+    ensures { CanonicalWordsAreShort }
 {}

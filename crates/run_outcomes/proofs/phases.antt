@@ -1,0 +1,16 @@
+pub mod Gathering
+pub mod Leading
+pub mod Steps
+pub mod Lines
+pub mod Arrivals
+pub mod Taken
+pub mod Runs
+pub mod Own
+pub mod Promised
+pub mod Votes
+pub mod Idle
+pub mod Live
+pub mod LiveCourses
+pub mod LiveSteps
+pub mod LiveRuns
+pub mod Seizes

@@ -1,0 +1,5 @@
+use Rattle.run_outcomes.proofs.phases.Seizes as proof
+use Rattle.run_outcomes.proofs.promises_are_told_in_each_run.Goals as goal
+
+pub returns : goal.returns
+returns c = proof.promises_are_told

@@ -1,0 +1,17 @@
+pub mod Queues
+pub mod Attempting
+pub mod Requesting
+pub mod Courses
+pub mod Walk
+pub mod Steps
+pub mod Oldest
+pub mod Numbers
+pub mod Sent
+pub mod Events
+pub mod Served
+pub mod Serving
+pub mod Texts
+pub mod Operands
+pub mod Lengths
+pub mod Owing
+pub mod Runs
