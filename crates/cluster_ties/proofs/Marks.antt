@@ -6,7 +6,7 @@ use Rattle.cl_base.proofs.SetLemmas.{and_bit_value, has_without}
 use Rattle.cluster_machine.specs.Cluster.{Cluster as Whole}
 use Rattle.cmm_attempt.proofs.Basics.{same_number}
 use Rattle.cmm_member.specs.Nodes.{Devices, has_key_of, joining_all, joining_one, joins}
-use Rattle.node_widths.proofs.Nodes.{TwoFit, one_fits}
+use Rattle.refinement.proofs.node_widths.Nodes.{TwoFit, one_fits}
 use Rattle.wire.specs.declared.lists.Reading.{Reading}
 use Rattle.wire.specs.Spelling.{IsDevice, IsDevices}
 use Rattle.cluster_ties.specs.Laws.{AreRead, LacksDevice}

@@ -27,7 +27,7 @@ use Rattle.pgr_device.proofs.FirstKeys.{with_keys_is}
 use Rattle.pgr_device.proofs.Keeps.{apart_push, unregistered_by_key}
 use Rattle.pgr_device.proofs.Room.{room}
 use Rattle.world_model.specs.First.{first_device, first_device_of}
-use Rattle.node_widths.specs.Widths.{AnswerFits}
+use Rattle.refinement.specs.node_widths.Widths.{AnswerFits}
 use Rattle.refinement.specs.Widths.{CommandFits}
 use Rattle.refinement.specs.Worlds.{DeviceFits, Keeps}
 use Rattle.refinement.proofs.Worlds.{all_append, all_filter}

@@ -27,3 +27,5 @@ pub mod Lines
 pub mod Consequences
 pub mod Sends
 pub mod WorldSends
+pub mod node_widths
+pub mod node_bounds

@@ -51,7 +51,7 @@ use Rattle.world_model.specs.Devices.{Commanded, Executed, commanded, commanded_
 use Rattle.world_model.specs.Rounds.{bringing, bringing_all, bringing_below, doing_all, doing_one, doing_some, for_each, is_between, round_of, rounds, rounds_of, ticking_one}
 use Rattle.world_model.specs.First.{attached_from, first_cluster, first_device, first_disks, first_world}
 use Rattle.world_model.specs.Lines.{asking, asking_at, giving_up, left_by, line_on, monitors, on_packets, probing, probing_up, refusal_in, with_stop_at}
-use Rattle.node_widths.specs.Widths.{AnswerFits}
+use Rattle.refinement.specs.node_widths.Widths.{AnswerFits}
 use Rattle.refinement.specs.Runs.{AnswersFit, InTime, IsAmong, Nodes, WasSent, first_nodes, moved}
 use Rattle.refinement.specs.Runs.Move.{Arms}
 use Rattle.refinement.specs.Widths.{ClusterFits}

@@ -15,8 +15,8 @@ use Rattle.node_model.specs.declared.node.Node.{Node}
 use Rattle.node_model.specs.declared.output.Output.{Output}
 use Rattle.node_model.specs.declared.output.Output.TheVariants.{Tells, Sends}
 use Rattle.node_model.specs.Steps.{Outcome, stepped}
-use Rattle.node_bounds.specs.Bounded.{IsFromNode, NodeIsBounded}
-use Rattle.node_bounds.proofs.Steps.{StepIs, stepped_few}
+use Rattle.refinement.specs.node_bounds.Bounded.{IsFromNode, NodeIsBounded}
+use Rattle.refinement.proofs.node_bounds.Steps.{StepIs, stepped_few}
 use Rattle.refinement.specs.Runs.{IsAmong, Letter, MayMove, Move, Moves, Nodes, WasSent, first_nodes, letters_of, moved}
 use Rattle.refinement.specs.Runs.Move.{Arms, Takes}
 use Rattle.refinement.specs.Sends.{RunsSendFew}

@@ -41,12 +41,12 @@ use Rattle.node_model.specs.Plans.{Plan, cause_of}
 use Rattle.node_model.specs.Plans.Plan.{Stays, Falls, Says, Saves}
 use Rattle.node_model.specs.Seats.{up_with}
 use Rattle.node_model.specs.Steps.{Outcome, at_second, carried, gone, plan_of, stepped, unless_lost}
-use Rattle.node_widths.specs.Plans.{PlanFits}
-use Rattle.node_widths.specs.Widths as widths
-use Rattle.node_widths.specs.Widths.{InputFits, NodeFits, RecordFits, TaskFits, UpFits, WorkFits}
-use Rattle.node_widths.proofs.Handlers.{steps_keep_widths}
-use Rattle.node_widths.proofs.Lengths.{sent_messages_fit}
-use Rattle.node_widths.proofs.Sets.{first_valid_fits}
+use Rattle.refinement.specs.node_widths.Plans.{PlanFits}
+use Rattle.refinement.specs.node_widths.Widths as widths
+use Rattle.refinement.specs.node_widths.Widths.{InputFits, NodeFits, RecordFits, TaskFits, UpFits, WorkFits}
+use Rattle.refinement.proofs.node_widths.Handlers.{steps_keep_widths}
+use Rattle.refinement.proofs.node_widths.Lengths.{sent_messages_fit}
+use Rattle.refinement.proofs.node_widths.Sets.{first_valid_fits}
 use Rattle.world_model.specs.Devices.{due_at}
 use Rattle.world_model.specs.Worlds.{node_at}
 use Rattle.refinement.specs.Runs.{AnswersFit, InTime, IsAmong, Letter, MayMove, Move, Moves, Nodes, WasSent, first_nodes, letters_of, moved}
@@ -193,8 +193,8 @@ fits_moves : (c : Cluster) → ClusterFits c → (v : Nodes) (moves : List Move)
 fits_moves c fits v [] w run time h = subst (RunFits c) (sym run) h
 fits_moves c fits v (m ∷ moves) w run time h = fits_moves c fits (moved c v m) moves w run.1 time.1 (fits_move c fits v m run.0 time.0 h)
 
-run_fits : (c : Cluster) → ClusterFits c → (moves : List Move) (w : Nodes) → Moves c (first_nodes c) moves w → AllByRecursion InTime moves → RunFits c w
-run_fits c fits moves w run time = fits_moves c fits (first_nodes c) moves w run time (record {
+run_packets : (c : Cluster) → ClusterFits c → (moves : List Move) (w : Nodes) → Moves c (first_nodes c) moves w → AllByRecursion InTime moves → RunFits c w
+run_packets c fits moves w run time = fits_moves c fits (first_nodes c) moves w run time (record {
   nodes = λ n. tt;
   disks = λ n. record { promised = none_fits; installed = none_fits; members = omega arith; valid = first_valid_fits c n fits.devices; places = none_fits };
   sent = tt;
@@ -207,7 +207,7 @@ all_spelled n (Sends to b ∷ os) is h = (h.0, λ short. sent_messages_fit (reco
 
 pub gives_fit : (c : Cluster) → ClusterFits c → GivesFit c
 gives_fit c fits moves v n now ends i run times time may =
-    all_spelled n (stepped disk_rules c n now ends (v.node n) (v.disk n) i).given (may.0, may.1) (move_fits c fits v n now ends i may time (run_fits c fits moves v run times)).given
+    all_spelled n (stepped disk_rules c n now ends (v.node n) (v.disk n) i).given (may.0, may.1) (move_fits c fits v n now ends i may time (run_packets c fits moves v run times)).given
 
 -- The command that is due.
 
@@ -257,6 +257,6 @@ node_there (Some node) d k P e f = f node refl
 
 pub devices_fit : (c : Cluster) → ClusterFits c → c.id < 2 ^ 32 → DevicesFit c
 devices_fit c fits small w n d k device h low is f =
-    let r : RunFits c h.nodes = run_fits c fits h.moves h.nodes h.run h.in_time in
+    let r : RunFits c h.nodes = run_packets c fits h.moves h.nodes h.run h.in_time in
     let high : n ≤ 32 = node_there (node_at w n) d k (n ≤ 32) is (λ node at. number_low n (length w.nodes) low (slice_get_within w.nodes (n - 1) node at) h.shows.few) in
     command_keeps device n k low high (node_due c n d k (node_at w n) small high (λ node at. subst (NodeFits c n) (h.shows.node n node low at) (r.nodes n)) is) f

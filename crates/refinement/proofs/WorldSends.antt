@@ -2,8 +2,8 @@
 use Rattle.std.specs.Prelude.{◌≤◌, length}
 use Rattle.std.proofs.Common.{subst}
 use Rattle.node_model.specs.declared.cluster.Cluster.{Cluster}
-use Rattle.node_bounds.specs.Bounded.{NodeIsBounded}
-use Rattle.node_bounds.proofs.Steps.{stepped_few}
+use Rattle.refinement.specs.node_bounds.Bounded.{NodeIsBounded}
+use Rattle.refinement.proofs.node_bounds.Steps.{stepped_few}
 use Rattle.world_model.specs.First.{first_cluster, first_world}
 use Rattle.world_model.specs.Worlds.{play}
 use Rattle.refinement.specs.Steps.{disk_rules}

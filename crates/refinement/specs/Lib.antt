@@ -12,3 +12,5 @@ pub mod Widths
 pub mod Worlds
 pub mod Sends
 pub mod WorldSends
+pub mod node_widths
+pub mod node_bounds

@@ -22,7 +22,7 @@ use Rattle.node_model.specs.declared.node.Node.TheVariants.{Down}
 use Rattle.node_model.specs.declared.output.Output.{Output}
 use Rattle.node_model.specs.declared.output.Output.TheVariants.{Tells, Sends}
 use Rattle.node_model.specs.Steps.{Outcome, stepped}
-use Rattle.node_widths.specs.Widths.{AnswerFits}
+use Rattle.refinement.specs.node_widths.Widths.{AnswerFits}
 use Rattle.refinement.specs.Steps.{disk_rules}
 use Rattle.refinement.specs.Ties.{MessageTold, setting_of}
 use Rattle.refinement.specs.Whole.{Stands}

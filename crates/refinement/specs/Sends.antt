@@ -5,7 +5,7 @@ use Rattle.cl_base.specs.declared.method.Outcome.{Outcome}
 use Rattle.node_model.specs.declared.cluster.Cluster.{Cluster}
 use Rattle.node_model.specs.declared.input.Input.{Input}
 use Rattle.node_model.specs.Steps.{stepped}
-use Rattle.node_bounds.specs.Sends.{most_sends, sends_of}
+use Rattle.refinement.specs.node_bounds.Sends.{most_sends, sends_of}
 use Rattle.refinement.specs.Runs.{MayMove, Move, Moves, Nodes, first_nodes}
 use Rattle.refinement.specs.Runs.Move.{Takes}
 use Rattle.refinement.specs.Steps.{disk_rules}

@@ -5,7 +5,7 @@ use Rattle.pgr_device.specs.declared.command.PrCommand.{PrCommand}
 use Rattle.pgr_device.specs.declared.command.PrCommand.TheVariants as command
 use Rattle.wire.specs.Spelling.{IsNode}
 use Rattle.node_model.specs.declared.cluster.Cluster.{Cluster}
-use Rattle.node_widths.specs.Widths.{AreDevices, BodyFits, NodeFits, RecordFits}
+use Rattle.refinement.specs.node_widths.Widths.{AreDevices, BodyFits, NodeFits, RecordFits}
 use Rattle.refinement.specs.Runs.{Letter, Nodes}
 
 -- The cluster has at most 16 devices, of the numbers 1 to 16.

@@ -12,8 +12,8 @@ use Rattle.node_model.specs.declared.cluster.Cluster.{Cluster}
 use Rattle.node_model.specs.declared.input.Input.{Input}
 use Rattle.node_model.specs.declared.node.Node.{Node}
 use Rattle.node_model.specs.Steps.{stepped}
-use Rattle.node_bounds.specs.Bounded.{IsFromNode}
-use Rattle.node_bounds.specs.Sends.{most_sends, sends_of}
+use Rattle.refinement.specs.node_bounds.Bounded.{IsFromNode}
+use Rattle.refinement.specs.node_bounds.Sends.{most_sends, sends_of}
 use Rattle.world_model.specs.First.{first_cluster, first_world}
 use Rattle.world_model.specs.Worlds.{WorldState, play}
 use Rattle.refinement.specs.Steps.{disk_rules}

@@ -8,6 +8,9 @@
 //! proposed, prepared by the members, acknowledged, committed. The machine's votes are those under a list of updates; no node keeps or
 //! shows a list that is bad.
 //!
+//! On the way stand two things that hold whatever happens to a node. `node_widths`: numbers and sets keep their widths in what it keeps, saves and
+//! sends, so that each message that is sent can be spelled. `node_bounds`: a step of a node sends at most 4,096 messages.
+//!
 //! Each function here is a law. It has no body, and its contract is proved of every node, every disk, every input, every second of the
 //! clock, and however a method ends that a node calls.
 #![tactic(auto)]
@@ -18,6 +21,9 @@ ghost use Rattle.refinement.specs.Runs.{CollectsAgree, EveryRunIsOne, InstallsAg
 ghost use Rattle.refinement.specs.Worlds.{WorldRunsAreOne};
 ghost use Rattle.refinement.specs.Sends.{RunsSendFew};
 ghost use Rattle.refinement.specs.WorldSends.{WorldsSendFew};
+ghost use Rattle.refinement.specs.node_widths.Plans.{StepsKeepWidths};
+ghost use Rattle.refinement.specs.node_widths.Widths.{SentMessagesFit};
+ghost use Rattle.refinement.specs.node_bounds.Laws.{StepsSendFew, StepsStayBounded};
 
 /// The simulated disk keeps what is supposed of a disk: a save that is done leaves the record, one that is lost leaves it or the
 /// one before, and a mounting changes no record.
@@ -71,4 +77,23 @@ pub fn runs_send_few()
 /// whatever its disk does, and however a method ends that it calls.
 pub fn worlds_send_few()
     ensures { WorldsSendFew }
+{}
+
+/// Where a node has its widths, its second of the clock too, and what happens to it has its own, each message that it sends goes to a
+/// node from number 1 on and has its widths, and each order is for a name; so do the records that it saves, and the node after the
+/// step. The cluster has at most 16 devices.
+pub fn steps_keep_widths()
+    ensures { StepsKeepWidths }
+{}
+
+/// A message from a node that has its widths can be spelled, where it is no longer than a packet. A longer one is not sent.
+pub fn sent_messages_fit()
+    ensures { SentMessagesFit }
+{}
+
+/// Whatever happens to a node whose attempt, requests and presidency are bounded, it sends at most 4,096 messages in the step, and it
+/// is bounded again after it.
+pub fn steps_send_few()
+    ensures few { StepsSendFew }
+    ensures bounded { StepsStayBounded }
 {}

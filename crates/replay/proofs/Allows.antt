@@ -21,7 +21,7 @@ use Rattle.grammar_laws.proofs.Events.{events_are_allowed, seconds_fit}
 use Rattle.grammar_laws.proofs.Heads.{IsFineHead, IsFineState, head_fine, state_kept}
 use Rattle.refinement.specs.Worlds.{IsNamed}
 use Rattle.run_history.specs.Telling.{IsInHeader, lines_upon}
-use Rattle.run_rounds.specs.Laws.{AsksSome}
+use Rattle.run_lines.specs.rounds.Laws.{AsksSome}
 use Rattle.replay.specs.Sessions.{first_so_far}
 use Rattle.replay.specs.Replays.{OfCluster, OfDevice, Schedule, behind, events_of, schedule_of, stepped, with_event}
 use Rattle.replay.specs.Histories.{AreAllowed}

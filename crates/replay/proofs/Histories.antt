@@ -24,19 +24,19 @@ use Rattle.run_history.proofs.DeedRuns.{no_base_is_due, start_lines_of_each_run}
 use Rattle.run_history.proofs.WholeEachRun.{repositories_are_kept}
 use Rattle.run_history.proofs.DiskEachRun.{disk_rule_of_each_run}
 use Rattle.run_history.proofs.Runs.{installed_of_each_run, once_of_each_run, prepared_of_each_run, ready_of_each_run, told_of_each_run}
-use Rattle.run_answers.proofs.Laws.{asked_of_each_run}
+use Rattle.run_commands.proofs.acknowledged.Laws.{asked_of_each_run}
 use Rattle.run_attempts.proofs.Runs as attempts
 use Rattle.run_commands.proofs.Laws as commands
-use Rattle.run_answers.proofs.Answered.{answered_of_each_run}
+use Rattle.run_commands.proofs.acknowledged.Answered.{answered_of_each_run}
 use Rattle.run_downs.proofs.Runs as downs
-use Rattle.run_endings.proofs.Runs as endings
+use Rattle.run_attempts.proofs.endings.Runs as endings
 use Rattle.run_outcomes.proofs.counts.Runs as counts
 use Rattle.run_lines.proofs.Runs.{lines_of_each_run}
 use Rattle.run_outcomes.proofs.exclusions.Runs.{exclusions_of_each_run}
 use Rattle.run_owed.proofs.prepares.Runs as owed
 use Rattle.run_devices.proofs.queues.Disks.{disk_lines_of_each_run}
 use Rattle.run_devices.proofs.readings.Runs as readings
-use Rattle.run_taken.proofs.Laws as taken
+use Rattle.run_commands.proofs.taken.Laws as taken
 use Rattle.run_devices.proofs.valid.Runs as valid
 use Rattle.run_packets.proofs.admitted.Whole.{attempts_begin_as_wanted}
 use Rattle.run_packets.proofs.native.Boots.{boots_are_of_the_header}
@@ -44,21 +44,21 @@ use Rattle.run_outcomes.proofs.results.Runs.{results_of_each_run}
 use Rattle.run_owed.proofs.repeats.Runs.{prepares_again_of_each_run}
 use Rattle.run_owed.proofs.replies.Runs.{orders_are_answered_in_each_run}
 use Rattle.order_laws.specs.Laws.{ToldCyclesHaveNames}
-use Rattle.run_writes.proofs.Runs.{writes_of_each_run}
-use Rattle.run_rounds.specs.Laws.{AsksSome}
-use Rattle.run_rounds.proofs.Runs.{parts_of_each_run}
+use Rattle.run_lines.proofs.writes.Runs.{writes_of_each_run}
+use Rattle.run_lines.specs.rounds.Laws.{AsksSome}
+use Rattle.run_lines.proofs.rounds.Runs.{parts_of_each_run}
 use Rattle.run_messages.proofs.Runs.{heartbeats_of_each_run}
 use Rattle.run_messages.proofs.Spelling.{spelled_of_each_run}
-use Rattle.run_records.proofs.Runs.{installed_base_of_each_run, newest_base_of_each_run, newest_of_each_run, records_of_each_run}
-use Rattle.run_requests.proofs.Laws.{updates_of_each_run}
+use Rattle.run_messages.proofs.records.Runs.{installed_base_of_each_run, newest_base_of_each_run, newest_of_each_run, records_of_each_run}
+use Rattle.run_commands.proofs.carried.Laws.{updates_of_each_run}
 use Rattle.run_seizings.proofs.Runs.{held_of_each_run, known_held_of_each_run}
 use Rattle.run_devices.proofs.validity.Runs.{promises_show_validity_in_each_run}
 use Rattle.run_devices.proofs.installs.Runs.{installs_tell_all_seizings}
 use Rattle.run_outcomes.proofs.panics.Runs.{exclusions_are_told_in_each_run}
 use Rattle.run_outcomes.proofs.saves.Runs.{letter_stops_of_each_run}
 use Rattle.run_outcomes.proofs.stops.Runs.{tick_stops_of_each_run}
-use Rattle.run_fits.proofs.Lines.{all_lines, events_are_of, no_disk_fails_by_lines}
-use Rattle.run_fits.specs.Laws.{IsOfHeader}
+use Rattle.run_packets.proofs.fits.Lines.{all_lines, events_are_of, no_disk_fails_by_lines}
+use Rattle.run_packets.specs.fits.Laws.{IsOfHeader}
 use Rattle.history_setting.specs.Settings.{setting_of}
 use Rattle.history_setting.proofs.Votes.{setting_votes_of_each_run}
 use Rattle.world_model.specs.First.{first_cluster, first_world}

@@ -29,10 +29,10 @@ use Rattle.world_model.specs.First.{first_world}
 use Rattle.run_attempts.specs.Laws.{BeatIsDue, BeatsInTick, BringsMembers}
 use Rattle.run_commands.specs.Numbered.{CommandsAreNumbered}
 use Rattle.run_commands.specs.Own.{OwnAnswersFit}
-use Rattle.run_endings.specs.Laws.{EndsInTick, EndsUnderWay, HasPromises, HasWaited, IsSuperseded, NamesMember}
+use Rattle.run_attempts.specs.endings.Laws.{EndsInTick, EndsUnderWay, HasPromises, HasWaited, IsSuperseded, NamesMember}
 use Rattle.run_downs.specs.Laws.{BootIsSaid, CrashIsSaid, FencedByWrite, SavesInEvent, StopComes, StopsAtStop}
 use Rattle.run_history.specs.Telling.{lines_upon}
-use Rattle.run_fits.specs.Laws.{NoDiskFails}
+use Rattle.run_packets.specs.fits.Laws.{NoDiskFails}
 use Rattle.run_devices.specs.installs.Laws.{TellsAllSeizings}
 use Rattle.run_outcomes.specs.panics.Laws.{PanicsExcluded}
 use Rattle.run_outcomes.specs.saves.Laws.{StopsByRule}
@@ -41,8 +41,8 @@ use Rattle.run_devices.specs.valid.Laws.{OneSeizer}
 use Rattle.run_devices.specs.validity.Laws.{ShowsValidity}
 use Rattle.run_history.specs.Scenes.{text_of}
 use Rattle.run_lines.specs.Laws.{IsAnswered}
-use Rattle.run_writes.specs.Laws.{IsWritten}
-use Rattle.run_rounds.specs.Parts.{PartsInOrder, shown}
+use Rattle.run_lines.specs.writes.Laws.{IsWritten}
+use Rattle.run_lines.specs.rounds.Parts.{PartsInOrder, shown}
 use Rattle.run_outcomes.specs.counts.Laws.{EndsForeign, EndsNeeding, EndsShort, NamesLacking}
 use Rattle.run_outcomes.specs.exclusions.Laws.{EndsExcluded}
 use Rattle.run_outcomes.specs.results.Laws.{NamesShown}
@@ -51,7 +51,7 @@ use Rattle.run_owed.specs.repeats.Laws.{HasPreparesAgain}
 use Rattle.run_owed.specs.replies.Laws.{HasDone}
 use Rattle.run_devices.specs.queues.Laws.{IsDone}
 use Rattle.run_devices.specs.readings.Laws.{BringsWhatWasRead, SaysWhatWasRead}
-use Rattle.run_taken.specs.Laws.{ClientIsAnswered}
+use Rattle.run_commands.specs.taken.Laws.{ClientIsAnswered}
 use Rattle.run_packets.specs.admitted.Laws.{BeginsAsWanted}
 use Rattle.replay.specs.Sessions.{first_so_far}
 use Rattle.replay.specs.Outcomes.{pieces}

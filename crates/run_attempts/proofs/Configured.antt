@@ -25,7 +25,7 @@ use Rattle.node_model.specs.declared.seat.Seat.{Seat}
 use Rattle.node_model.specs.declared.seat.Seat.TheVariants.{Forming, Member}
 use Rattle.quorum_votes.specs.Votes.{is_configured}
 use Rattle.refinement.specs.Ties.{NodeTied, SeatTied}
-use Rattle.run_records.specs.Shown.{RecordIn, shown}
+use Rattle.run_messages.specs.records.Shown.{RecordIn, shown}
 use Rattle.world_model.specs.First.{first_cluster}
 use Rattle.run_attempts.specs.Judged.{IsSetOf}
 use Rattle.run_attempts.proofs.Sets.{has_where}

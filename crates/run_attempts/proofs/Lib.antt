@@ -15,3 +15,4 @@ pub mod Tried
 pub mod Installs
 pub mod Members
 pub mod Runs
+pub mod endings

@@ -38,7 +38,7 @@ use Rattle.pgr_device.specs.declared.command.PrCommand.TheVariants as command
 use Rattle.local_disk.specs.declared.memory.Choice.{Choice}
 use Rattle.record_disk.specs.Disks.{DiskState, armed}
 use Rattle.world_model.specs.Lines.{left_by}
-use Rattle.run_records.proofs.Steps.{put_all}
+use Rattle.run_messages.proofs.records.Steps.{put_all}
 use Rattle.run_history.specs.Stages.{Stage}
 use Rattle.history.specs.Contact.{IsNew}
 use Rattle.refinement.specs.Cuts.{doings}
@@ -78,8 +78,8 @@ use Rattle.run_history.proofs.MemberRuns.{first_fit}
 use Rattle.run_messages.specs.Outputs.{AreGood}
 use Rattle.run_messages.proofs.Doings.{first_good, then_good}
 use Rattle.run_messages.proofs.Reaching.{IsSmall, holds_of_each, stage_of, taking_good}
-use Rattle.run_records.specs.Kept.{KnownScene}
-use Rattle.run_records.proofs.Bytes.{found_bytes}
+use Rattle.run_messages.specs.records.Kept.{KnownScene}
+use Rattle.run_messages.proofs.records.Bytes.{found_bytes}
 use Rattle.run_attempts.specs.Laws.{BringsMembers, InstallSo}
 use Rattle.run_attempts.specs.Members.{AllBring, AttemptIn, HandSo, MemberSo, RecordSo, SiteSo}
 use Rattle.run_attempts.specs.Steps.{CalmChange}

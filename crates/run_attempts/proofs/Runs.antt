@@ -77,9 +77,9 @@ use Rattle.run_history.proofs.LineSteps.{doings_small}
 use Rattle.run_history.proofs.MemberRuns.{first_fit}
 use Rattle.run_messages.proofs.Reaching.{IsReached, IsSmall, holds_of_each}
 use Rattle.run_messages.proofs.Spelling.{spelled_of_each_run}
-use Rattle.run_records.specs.Kept.{Came, KnownScene}
-use Rattle.run_records.proofs.Arrivals.{arrived_kept}
-use Rattle.run_records.proofs.Bytes.{found_bytes}
+use Rattle.run_messages.specs.records.Kept.{Came, KnownScene}
+use Rattle.run_messages.proofs.records.Arrivals.{arrived_kept}
+use Rattle.run_messages.proofs.records.Bytes.{found_bytes}
 use Rattle.run_attempts.specs.Heard.{NodeSo, is_beat}
 use Rattle.run_attempts.specs.Judged.{AllJudged, Judged, SeatTold}
 use Rattle.run_attempts.specs.Laws.{AttemptsBeginInEachRun, BeatIsDue, BeatsAreDueInEachRun, BeatsInTick, BeatsInTicksOfEachRun, Begins, beat_age_of, InstallsBringMembersInEachRun}

@@ -20,7 +20,7 @@ use Rattle.node_model.specs.declared.node.Node.{Node}
 use Rattle.node_model.specs.declared.node.Node.TheVariants.{Down, Up}
 use Rattle.node_model.specs.declared.output.Output.{Output}
 use Rattle.node_model.specs.declared.output.Output.TheVariants.{Sends, Tells}
-use Rattle.node_widths.proofs.Lengths.{sent_messages_fit}
+use Rattle.refinement.proofs.node_widths.Lengths.{sent_messages_fit}
 use Rattle.refinement.specs.Doings.{Site}
 use Rattle.refinement.specs.Widths.{LetterFits}
 use Rattle.run_history.specs.Scenes.{Scene, dropped_so, passing, posting, sent_as, telling, with_links}

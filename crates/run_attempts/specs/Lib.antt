@@ -5,3 +5,4 @@ pub mod Heard
 pub mod Judged
 pub mod Members
 pub mod Steps
+pub mod endings

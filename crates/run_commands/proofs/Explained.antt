@@ -30,7 +30,7 @@ use Rattle.refinement.specs.Doings.{superseded_lines}
 use Rattle.world_model.specs.Sends.{is_sent, name_of}
 use Rattle.run_history.specs.Scenes.{Scene, dropped_so, passing, posting, sent_as, telling, with_links}
 use Rattle.run_messages.specs.Outputs.{NoPacket}
-use Rattle.run_requests.specs.Guards.{is_silent}
+use Rattle.run_commands.specs.carried.Guards.{is_silent}
 use Rattle.run_commands.specs.Answers.{AreReasoned, IsReasoned}
 use Rattle.run_commands.specs.Own.{FitsOwnAnswer}
 use Rattle.run_commands.specs.Reads.{AllSo, BodySo, LineSo, OwnReplies, ReplySo}

@@ -31,7 +31,7 @@ use Rattle.node_model.specs.declared.presidency.Presidency.{Presidency}
 use Rattle.node_model.specs.declared.seat.Seat.{Seat}
 use Rattle.node_model.specs.declared.seat.Seat.TheVariants.{Forming, Member}
 use Rattle.run_messages.specs.Laws.{membership_in}
-use Rattle.run_requests.proofs.Causes.{PresidentAt}
+use Rattle.run_commands.proofs.carried.Causes.{PresidentAt}
 use Rattle.run_commands.specs.Guards.Hand.{Free}
 use Rattle.run_commands.specs.Own.{FitsCase, FitsOwnAnswer, case_of}
 use Rattle.run_commands.specs.Reads.{IsBad, IsForOther, IsStrange, IsTooMuch, OwnCause}

@@ -29,7 +29,7 @@ use Rattle.node_model.specs.declared.node.UpNode.{UpNode}
 use Rattle.node_model.specs.declared.output.Output.TheVariants.{Sends, Tells}
 use Rattle.node_model.specs.declared.presidency.Presidency.{Presidency}
 use Rattle.node_model.specs.declared.seat.Seat.TheVariants.{Forming}
-use Rattle.node_widths.proofs.Names.{in_force_fits}
+use Rattle.refinement.proofs.node_widths.Names.{in_force_fits}
 use Rattle.proposals.specs.declared.arrived.Arrived.{Arrived}
 use Rattle.refinement.specs.Doings.{Change}
 use Rattle.refinement.specs.Doings.Change.{Acks, Admits, Commits, Counts, Distrusts, Installs, Leads, Prepares, Promises, Proposes, Sits, Starts}
@@ -46,9 +46,9 @@ use Rattle.rgm_member.specs.declared.carried.Carried.TheVariants as carried
 use Rattle.rgm_member.specs.declared.probed.Probed.{Probed}
 use Rattle.rgm_member.specs.declared.probed.Probed.TheVariants as probe
 use Rattle.run_history.proofs.Lists.{both, mapped, of_each}
-use Rattle.run_requests.specs.Guards.{is_silent}
+use Rattle.run_commands.specs.carried.Guards.{is_silent}
 use Rattle.run_messages.specs.Steps.{is_collect}
-use Rattle.run_requests.proofs.Asides.{IsOtherBody}
+use Rattle.run_commands.proofs.carried.Asides.{IsOtherBody}
 use Rattle.shared_address.specs.Choosing as serving
 use Rattle.shared_address.specs.declared.choice.Client.{Client as ServedClient}
 use Rattle.status_report.specs.CommandLines.{reply_text}

@@ -28,3 +28,6 @@ pub mod ReadWalk
 pub mod ReadSteps
 pub mod ReadRuns
 pub mod Laws
+pub mod carried
+pub mod taken
+pub mod acknowledged

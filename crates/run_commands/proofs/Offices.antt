@@ -28,7 +28,7 @@ use Rattle.node_model.specs.declared.node.UpNode.{UpNode}
 use Rattle.node_model.specs.declared.presidency.Presidency.{Presidency}
 use Rattle.refinement.specs.Cuts.{in_hand, left_by_answer, queue_by}
 use Rattle.run_history.proofs.Lists.{all_and}
-use Rattle.run_requests.specs.Guards.{is_silent}
+use Rattle.run_commands.specs.carried.Guards.{is_silent}
 use Rattle.run_commands.specs.Reads.{ArrivedRead, IsPresidents, IsRead, KeptSo, OfficeReads, Reads, ReadsIn, RequestRead}
 use Rattle.run_commands.proofs.Texts.{answer_loud}
 

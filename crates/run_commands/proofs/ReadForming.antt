@@ -37,7 +37,7 @@ use Rattle.std.specs.Prelude.{ℕ, ◌≡◌, ◌≤◌, ◌==◌, nat_le, nat_l
 use Rattle.std.proofs.Common.{refl}
 use Rattle.history.specs.Setting.{coordinator}
 use Rattle.refinement.specs.Cuts.{with_committed}
-use Rattle.run_requests.proofs.Asides.{IsOther, choosing_is, first_other, turn_other}
+use Rattle.run_commands.proofs.carried.Asides.{IsOther, choosing_is, first_other, turn_other}
 use Rattle.run_commands.specs.Reads.{GoesRead, IsStarting, OwnReplies, collects}
 use Rattle.run_commands.proofs.Hearing.{orders_so, other_so, own_next, starting_reads}
 use Rattle.run_commands.proofs.Offices.{same_reads}

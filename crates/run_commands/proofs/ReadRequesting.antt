@@ -49,8 +49,8 @@ use Rattle.node_model.specs.Presidents.{committing}
 use Rattle.refinement.specs.Cuts.{with_committed}
 use Rattle.run_history.proofs.Lists.{all_and}
 use Rattle.history_setting.specs.Settings.{is_asked}
-use Rattle.run_requests.specs.Guards.{is_silent}
-use Rattle.run_requests.proofs.Asides.{text_of}
+use Rattle.run_commands.specs.carried.Guards.{is_silent}
+use Rattle.run_commands.proofs.carried.Asides.{text_of}
 use Rattle.run_commands.specs.Reads.{GoesRead, IsRead, OwnReplies, OwnCause, ReadsIn, ReplySo, RequestRead}
 use Rattle.run_commands.proofs.Hearing.{given_so, lines_so, orders_so}
 use Rattle.run_commands.proofs.Offices.{StateReads, answered_reads, arrived_reads, first_arrived, first_read, kept_loud, office_at, same_reads, taken_up_reads}

@@ -57,7 +57,7 @@ use Rattle.run_messages.proofs.Collecting.{arrival_collects, nothing_collects}
 use Rattle.run_messages.proofs.Reaching.{IsReached, IsSmall, holds_of_each, stage_of}
 use Rattle.run_messages.proofs.Runs.{memberships_of_each_run}
 use Rattle.run_messages.specs.Laws.{AreSeated, IsSeated}
-use Rattle.run_requests.proofs.Causes.{president_at}
+use Rattle.run_commands.proofs.carried.Causes.{president_at}
 use Rattle.run_commands.specs.Answers.{AreReasoned}
 use Rattle.run_commands.specs.Reads.{BodySo, CameSo, collects}
 use Rattle.run_commands.proofs.Explained.{SendsSo}

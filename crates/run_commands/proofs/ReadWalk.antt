@@ -53,8 +53,8 @@ use Rattle.refinement.specs.Doings.Doing.{Saves}
 use Rattle.run_history.proofs.Idle.{if_true, passing_append}
 use Rattle.run_history.proofs.Lists.{both, mapped}
 use Rattle.run_history.specs.Scenes.{Scene, passing, telling}
-use Rattle.run_requests.proofs.Carried.{IsMute}
-use Rattle.run_requests.proofs.Mute.{first_mute, last_mute}
+use Rattle.run_commands.proofs.carried.Carried.{IsMute}
+use Rattle.run_commands.proofs.carried.Mute.{first_mute, last_mute}
 use Rattle.run_commands.specs.Answers.{AreReasoned}
 use Rattle.run_commands.specs.Guards.{AreQuiet, IsQuietOutput}
 use Rattle.run_commands.specs.Reads.{ActReads, AllSo, BodySo, ChangeReads, GoesRead, IsStarting, LineSo, OfficeReads, OutputSo, OwnReplies, ReadsIn, collects}

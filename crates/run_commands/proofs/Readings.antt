@@ -75,7 +75,7 @@ use Rattle.rgm_member.specs.Probes.{probed}
 use Rattle.rgm_member.specs.declared.probed.Probed.{Probed}
 use Rattle.rgm_member.specs.declared.probed.Probed.TheVariants as probe
 use Rattle.run_history.proofs.Lists.{all_and}
-use Rattle.run_requests.specs.Guards.{is_silent}
+use Rattle.run_commands.specs.carried.Guards.{is_silent}
 use Rattle.run_commands.specs.Reads.{CameSo, GoesRead, IsPresidents, OwnReplies, RequestRead}
 use Rattle.run_commands.proofs.Hearing.{IsNoCommand, MonitorsName, NotForeign, again_so, asked_named, collects_so, not_foreign, order_so_told, own_line_so, probed_named, reply_fine, served_so}
 use Rattle.run_commands.proofs.Offices.{answered_read, same_reads}

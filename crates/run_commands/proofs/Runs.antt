@@ -40,8 +40,8 @@ use Rattle.world_model.specs.First.{first_cluster}
 use Rattle.run_history.proofs.Idle.{passing_nodes}
 use Rattle.run_history.specs.Happenings.{Arrives, Begins, Commands, Happening, IsSaid, Loses, MayAllHappen, MayHappen, Misses, Notes, Refuses, Repeats, Speaks, Strays, Takes, Writes, all_happened, armed_by, commanded, commanded_at, given_by, happened, removed, taking}
 use Rattle.run_history.specs.Scenes.{Scene, adding, dropped_so, first_scene, passing, telling, with_links}
-use Rattle.run_requests.specs.Steps.{used_lines}
-use Rattle.run_requests.proofs.Counts.{dropped_used, few_longer, more_used, passing_used, then_le}
+use Rattle.run_commands.specs.carried.Steps.{used_lines}
+use Rattle.run_commands.proofs.carried.Counts.{dropped_used, few_longer, more_used, passing_used, then_le}
 use Rattle.run_commands.specs.Guards.Hand.{Free}
 use Rattle.run_commands.specs.Answers.{AnswersWait}
 use Rattle.run_messages.proofs.Reaching.{IsSmall, holds_of_each}

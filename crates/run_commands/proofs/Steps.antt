@@ -48,9 +48,9 @@ use Rattle.status_report.specs.declared.node_entry.DownCause.TheVariants as down
 use Rattle.status_report.specs.declared.node_entry.NodeEntry.TheVariants as note
 use Rattle.run_history.specs.Happenings.{IsSaid}
 use Rattle.run_history.specs.Scenes.{Scene, passing, telling}
-use Rattle.run_requests.specs.Steps.{Counted, used_lines}
-use Rattle.run_requests.proofs.Commands.{next_is}
-use Rattle.run_requests.proofs.Counts.{next_low, passing_used, room_left, then_le, told_uses}
+use Rattle.run_commands.specs.carried.Steps.{Counted, used_lines}
+use Rattle.run_commands.proofs.carried.Commands.{next_is}
+use Rattle.run_commands.proofs.carried.Counts.{next_low, passing_used, room_left, then_le, told_uses}
 use Rattle.run_commands.specs.Guards.{IsLed}
 use Rattle.run_commands.specs.Guards.Hand.{Free, Held}
 use Rattle.run_commands.specs.Answers.{AnswersWait}

@@ -41,8 +41,8 @@ use Rattle.update_words.specs.Joined.{spaced as spaced_words}
 use Rattle.update_words.specs.Words.{ask_words_of}
 use Rattle.word_laws.proofs.Reading.{name_known, name_word}
 use Rattle.word_laws.proofs.Split.{EachLacks, parts_joined}
-use Rattle.run_requests.specs.Guards.{is_silent}
-use Rattle.run_requests.proofs.Asides.{text_of}
+use Rattle.run_commands.specs.carried.Guards.{is_silent}
+use Rattle.run_commands.proofs.carried.Asides.{text_of}
 use Rattle.run_commands.specs.Reads.{IsPresidents, IsRead}
 
 -- ---- answers

@@ -6,3 +6,6 @@ pub mod Laws
 pub mod Answers
 pub mod Guards
 pub mod Reads
+pub mod carried
+pub mod taken
+pub mod acknowledged

@@ -37,7 +37,7 @@ use Rattle.refinement.specs.Doings.{Act, Change, acted, changed}
 use Rattle.refinement.specs.Doings.Act.{Gives, Makes, Minds, Notes, Spreads, Writes}
 use Rattle.refinement.specs.Doings.Change.{Acks, Leads, Promises, Proposes, Sits, Starts}
 use Rattle.run_messages.specs.Steps.{is_collect}
-use Rattle.run_requests.specs.Guards.{is_silent}
+use Rattle.run_commands.specs.carried.Guards.{is_silent}
 
 -- ---- what a node keeps
 

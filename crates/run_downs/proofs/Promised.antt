@@ -55,11 +55,11 @@ use Rattle.run_history.specs.Stages.{Stage}
 use Rattle.run_history.proofs.Idle.{passing_nodes}
 use Rattle.run_history.proofs.MemberRuns.{first_fit}
 use Rattle.run_messages.proofs.Reaching.{IsReached, holds_of_each}
-use Rattle.run_records.specs.Kept.{Came, KnownScene}
-use Rattle.run_records.specs.Sound.{BodySound, LetterSound}
-use Rattle.run_records.proofs.Arrivals.{arrived_kept}
-use Rattle.run_records.proofs.Letters.{letter_sound}
-use Rattle.run_records.proofs.Runs.{run_known}
+use Rattle.run_messages.specs.records.Kept.{Came, KnownScene}
+use Rattle.run_messages.specs.records.Sound.{BodySound, LetterSound}
+use Rattle.run_messages.proofs.records.Arrivals.{arrived_kept}
+use Rattle.run_messages.proofs.records.Letters.{letter_sound}
+use Rattle.run_messages.proofs.records.Runs.{run_known}
 use Rattle.run_downs.proofs.Collects.{CollectOut, collect_fits, collected, others_fit}
 use Rattle.run_downs.proofs.Packets.{no_packets}
 use Rattle.run_downs.proofs.Promises.{FitsSave, Under, attempts_fit, attempts_promised, collects_in, passing_under, step_promises}

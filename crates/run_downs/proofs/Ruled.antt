@@ -67,11 +67,11 @@ use Rattle.run_history.proofs.MemberRuns.{first_fit}
 use Rattle.run_messages.specs.Laws.{AreSeated, IsSeated, membership_in}
 use Rattle.run_messages.proofs.Reaching.{IsReached, holds_of_each}
 use Rattle.run_messages.proofs.Runs.{memberships_of_each_run}
-use Rattle.run_records.specs.Kept.{Came, KnownScene}
-use Rattle.run_records.specs.Shown.{RecordIn}
-use Rattle.run_records.proofs.Arrivals.{arrived_kept}
-use Rattle.run_records.specs.Sound.{LetterSound}
-use Rattle.run_records.proofs.Letters.{letter_sound}
+use Rattle.run_messages.specs.records.Kept.{Came, KnownScene}
+use Rattle.run_messages.specs.records.Shown.{RecordIn}
+use Rattle.run_messages.proofs.records.Arrivals.{arrived_kept}
+use Rattle.run_messages.specs.records.Sound.{LetterSound}
+use Rattle.run_messages.proofs.records.Letters.{letter_sound}
 use Rattle.run_downs.proofs.Promised.{PromisesHold, collect_number, known_at, run_promises}
 use Rattle.run_downs.proofs.Rules.{NoStops, StopsIf, none_stops}
 use Rattle.run_downs.proofs.Prepared.{Pends, step_first}

@@ -46,7 +46,7 @@ use Rattle.wire.specs.declared.message.Body.TheVariants as body
 use Rattle.wire.specs.declared.message.Message.{Message}
 use Rattle.world_model.specs.Sends.{name_of}
 use Rattle.run_messages.specs.Laws.{membership_in}
-use Rattle.run_records.specs.Shown.{shown}
+use Rattle.run_messages.specs.records.Shown.{shown}
 use Rattle.run_downs.proofs.Courses.{GoesFine, by_test}
 use Rattle.run_downs.proofs.Rules.{CourseStops, keep_stops, none_stops}
 use Rattle.run_downs.specs.Laws.{saves_at_once}

@@ -24,7 +24,7 @@ use Rattle.node_model.specs.declared.cluster.Cluster.{Cluster}
 use Rattle.node_model.specs.declared.input.Input.{Input}
 use Rattle.node_model.specs.declared.input.Input.TheVariants.{Answered, Boot, Client, CommandDue, Commanded, Crash, Packet, Reported, Tick, Wrote}
 use Rattle.node_model.specs.declared.node.UpNode.{UpNode}
-use Rattle.node_widths.specs.Widths.{TaskFits, UpFits}
+use Rattle.refinement.specs.node_widths.Widths.{TaskFits, UpFits}
 use Rattle.pgr_device.specs.declared.command.PrAnswer.TheVariants as given
 use Rattle.refinement.proofs.Handlers.{delivered_by}
 use Rattle.refinement.specs.Courses.{Course}

@@ -12,15 +12,15 @@ use Rattle.cmm_attempt.proofs.Basics.{same_some}
 use Rattle.cmm_member.specs.Records.{NodeRecord}
 use Rattle.machine_base.specs.Put.{put}
 use Rattle.machine_base.proofs.Puts.{put_here, put_there, same_or_not}
-use Rattle.node_widths.specs.Widths.{NodeFits}
-use Rattle.node_widths.proofs.Sets.{first_valid_fits}
+use Rattle.refinement.specs.node_widths.Widths.{NodeFits}
+use Rattle.refinement.proofs.node_widths.Sets.{first_valid_fits}
 use Rattle.refinement.proofs.Lines.{few_attached}
 use Rattle.refinement.specs.Ties.{setting_of}
 use Rattle.interconnect.specs.Links as links
 use Rattle.interconnect.specs.Links.{Links, Packet, packet_of, removing, sending}
 use Rattle.membership_machine.specs.State.{first_memberships}
 use Rattle.membership_machine.proofs.Preserved.{first_holds}
-use Rattle.node_widths.specs.Widths.{AnswerFits}
+use Rattle.refinement.specs.node_widths.Widths.{AnswerFits}
 use Rattle.pgr_device.specs.Device.{Device}
 use Rattle.pgr_device.specs.declared.command.PrCommand.{PrCommand}
 use Rattle.pgr_device.specs.declared.command.PrCommand.TheVariants as command

@@ -29,7 +29,7 @@ use Rattle.node_model.specs.declared.node.Node.TheVariants.{Down, Up}
 use Rattle.node_model.specs.declared.node.UpNode.{UpNode}
 use Rattle.node_model.specs.declared.seat.Seat.{Seat}
 use Rattle.node_model.specs.declared.seat.Seat.TheVariants.{Forming, Member}
-use Rattle.node_widths.specs.Widths.{NodeFits}
+use Rattle.refinement.specs.node_widths.Widths.{NodeFits}
 use Rattle.pgr_device.specs.Device.{Device}
 use Rattle.pgr_device.specs.Spc as spc
 use Rattle.pgr_device.specs.declared.command.PrAnswer.TheVariants as given

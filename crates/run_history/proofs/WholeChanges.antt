@@ -40,7 +40,7 @@ use Rattle.node_model.specs.declared.node.UpNode.{UpNode}
 use Rattle.node_model.specs.declared.presidency.Presidency.{Presidency}
 use Rattle.node_model.specs.declared.seat.Seat.{Seat}
 use Rattle.node_model.specs.declared.seat.Seat.TheVariants.{Forming, Member}
-use Rattle.node_widths.proofs.Sets.{device_with, device_without}
+use Rattle.refinement.proofs.node_widths.Sets.{device_with, device_without}
 use Rattle.refinement.proofs.Attempts.{has_after, may_be_called}
 use Rattle.refinement.proofs.Changes.{first_not_installing}
 use Rattle.refinement.proofs.Given.{Logged, logs_kept, votes_kept, votes_of_newest}

@@ -27,7 +27,7 @@ use Rattle.node_model.specs.declared.input.Input.TheVariants as input
 use Rattle.pgr_device.specs.declared.command.PrCommand.{PrCommand}
 use Rattle.pgr_device.specs.declared.command.PrCommand.TheVariants as command
 use Rattle.record_disk.specs.Disks.{empty_disk}
-use Rattle.node_widths.proofs.Sets.{first_valid_fits}
+use Rattle.refinement.proofs.node_widths.Sets.{first_valid_fits}
 use Rattle.refinement.proofs.Acts.{run_append}
 use Rattle.refinement.proofs.DeviceWidths.{first_devices_fit}
 use Rattle.refinement.proofs.Lines.{few_attached}

@@ -28,7 +28,7 @@ use Rattle.node_model.specs.declared.node.Node.{Node}
 use Rattle.node_model.specs.declared.node.Node.TheVariants.{Down, Up}
 use Rattle.node_model.specs.declared.output.Output.{Output}
 use Rattle.node_model.specs.declared.output.Output.TheVariants.{Sends, Tells}
-use Rattle.node_widths.specs.Widths.{NodeFits}
+use Rattle.refinement.specs.node_widths.Widths.{NodeFits}
 use Rattle.pgr_device.specs.Device.{Device}
 use Rattle.record_disk.specs.Disks.{DiskState}
 use Rattle.refinement.proofs.EveryRun.{is_true}

@@ -40,11 +40,11 @@ use Rattle.node_model.specs.Plans.{Plan, cause_of}
 use Rattle.node_model.specs.Plans.Plan.{Stays, Falls, Says, Saves}
 use Rattle.node_model.specs.Seats.{up_with}
 use Rattle.node_model.specs.Steps.{Outcome, at_second, carried, gone, plan_of, stepped, unless_lost}
-use Rattle.node_widths.specs.Plans.{PlanFits}
-use Rattle.node_widths.specs.Widths as widths
-use Rattle.node_widths.specs.Widths.{InputFits, NodeFits, RecordFits, TaskFits, UpFits, WorkFits}
-use Rattle.node_widths.proofs.Handlers.{steps_keep_widths}
-use Rattle.node_widths.proofs.Lengths.{sent_messages_fit}
+use Rattle.refinement.specs.node_widths.Plans.{PlanFits}
+use Rattle.refinement.specs.node_widths.Widths as widths
+use Rattle.refinement.specs.node_widths.Widths.{InputFits, NodeFits, RecordFits, TaskFits, UpFits, WorkFits}
+use Rattle.refinement.proofs.node_widths.Handlers.{steps_keep_widths}
+use Rattle.refinement.proofs.node_widths.Lengths.{sent_messages_fit}
 use Rattle.world_model.specs.Devices.{due_at}
 use Rattle.refinement.specs.Runs.{AnswersFit, InTime, IsAmong, Letter, MayMove, Move, Nodes, WasSent, letters_of, moved}
 use Rattle.refinement.specs.Runs.Move.{Arms, Takes}

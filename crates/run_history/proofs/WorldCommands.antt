@@ -32,7 +32,7 @@ use Rattle.node_model.specs.declared.node.Node.TheVariants.{Down, Up}
 use Rattle.node_model.specs.declared.node.UpNode.{UpNode}
 use Rattle.node_model.specs.Devices.{may_write_as}
 use Rattle.node_model.specs.Steps.{stepped}
-use Rattle.node_widths.specs.Widths.{AnswerFits}
+use Rattle.refinement.specs.node_widths.Widths.{AnswerFits}
 use Rattle.world_model.specs.Devices as world
 use Rattle.world_model.specs.Devices.{doing_command, doing_due, due, due_at, on_disk, on_disk_due, writing_at, writing_if}
 use Rattle.world_model.specs.Lines.{left_by, with_stop_at}

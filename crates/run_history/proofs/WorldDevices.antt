@@ -13,7 +13,7 @@ use Rattle.pgr_device.specs.declared.command.PrCommand.TheVariants as command
 use Rattle.history.specs.Moment.{Moment}
 use Rattle.node_model.specs.declared.cluster.Cluster.{Cluster}
 use Rattle.node_model.specs.declared.node.Node.{Node}
-use Rattle.node_widths.specs.Widths.{AnswerFits}
+use Rattle.refinement.specs.node_widths.Widths.{AnswerFits}
 use Rattle.world_model.specs.Devices as world
 use Rattle.world_model.specs.Devices.{Executed, executed, fault_at, with_fault}
 use Rattle.world_model.specs.Worlds.{WorldState}

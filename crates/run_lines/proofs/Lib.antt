@@ -4,3 +4,5 @@ pub mod Answered
 pub mod Begins
 pub mod Steps
 pub mod Runs
+pub mod rounds
+pub mod writes

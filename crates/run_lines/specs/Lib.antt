@@ -2,3 +2,5 @@
 pub mod Laws
 -- what only the proofs need
 pub mod Entries
+pub mod rounds
+pub mod writes

@@ -8,3 +8,4 @@ pub mod Seats
 pub mod Changes
 pub mod Doings
 pub mod Runs
+pub mod records

@@ -17,7 +17,7 @@ use Rattle.node_model.specs.declared.input.Input.{Input}
 use Rattle.node_model.specs.declared.input.Input.TheVariants as input
 use Rattle.node_model.specs.declared.output.Output.{Output}
 use Rattle.node_model.specs.declared.output.Output.TheVariants.{Sends, Tells}
-use Rattle.node_widths.proofs.Lengths.{sent_messages_fit}
+use Rattle.refinement.proofs.node_widths.Lengths.{sent_messages_fit}
 use Rattle.pgr_device.specs.Device.{Device}
 use Rattle.pgr_device.specs.declared.command.PrCommand.{PrCommand}
 use Rattle.pgr_device.specs.declared.command.PrCommand.TheVariants as command

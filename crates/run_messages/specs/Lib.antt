@@ -3,3 +3,4 @@ pub mod Laws
 -- what only the proofs need
 pub mod Outputs
 pub mod Steps
+pub mod records

@@ -1,3 +1,4 @@
 pub mod views
 pub mod native
 pub mod admitted
+pub mod fits

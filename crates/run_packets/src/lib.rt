@@ -4,6 +4,7 @@
 //!   that were delivered to it and of its ticks, but for packets that are foreign to it.
 //! - `native`, `admitted`: no packet that comes to a node is foreign to it: none names what is not there, or brings what cannot be
 //!   (`node_model/specs/Members`). So the members of an attempt are a function of the lines.
+//! - `fits`: no record is too large for its disk: in a run of fewer than 2^63 moments no local disk fails but by a stop.
 //!
 //! Each function here is a law. It has no body, and its contract is proved of every header, every list of lines, everything that happens and
 //! all agents.
@@ -12,6 +13,7 @@
 ghost use Rattle.run_packets.specs.views.Laws.{EachRunHasAnAccount, NoneBeginsAloneInEachRun, PlainViewsWhereNoneIsForeign, ViewsOfEachRun};
 ghost use Rattle.run_packets.specs.native.Laws.{BootsAreOfTheHeader, MembersAreOfHeader, NoLogIsBad, PlainKindsAreNative, SeizesAreNative};
 ghost use Rattle.run_packets.specs.admitted.Laws.{AnswersAreNative, AttemptsAreOfTheHeader, AttemptsBeginAsWanted, InstallsAreNative, NoneIsForeignInEachRun, PreparesAreNative, PromisesAreNative, ReadiesAreNative, RequestsAreNative, SeizedsAreNative, ViewsAreToldInEachRun};
+ghost use Rattle.run_packets.specs.fits.Laws.{NoDiskFailsByLines, NoDiskFailsInEachRun};
 
 /// The members of an attempt are its coordinator and the nodes of which a packet that was not foreign came to it at most three ticks ago, since it went
 /// up; a coordinator that is configured sees configured nodes alone. What is configured is read where the tick begins.
@@ -122,3 +124,13 @@ pub fn attempts_begin_as_wanted()
 {
     order_laws::told_cycles_have_names();
 }
+
+/// In no run a node goes down because its disk has failed, where nodes of the header alone boot and fewer than 2^63 moments are told.
+pub fn no_disk_fails_in_each_run()
+    ensures { NoDiskFailsInEachRun }
+{}
+
+/// So it is where each line that boots a node boots one of the header, and what happens is what is due.
+pub fn no_disk_fails_by_lines()
+    ensures { NoDiskFailsByLines }
+{}

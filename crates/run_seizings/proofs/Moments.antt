@@ -15,7 +15,7 @@ use Rattle.interconnect.specs.Links as links
 use Rattle.interconnect.specs.Links.{Links, Packet, packet_of, removing, sending}
 use Rattle.machine_base.proofs.Puts.{put_here, put_there, same_or_not}
 use Rattle.machine_base.specs.Put.{put}
-use Rattle.node_widths.specs.Widths.{AnswerFits, NodeFits, TaskFits}
+use Rattle.refinement.specs.node_widths.Widths.{AnswerFits, NodeFits, TaskFits}
 use Rattle.pgr_device.specs.Device.{Device}
 use Rattle.pgr_device.specs.declared.registration.Registration.{Registration}
 use Rattle.pgr_device.specs.Registered.{keys_of}

@@ -5,7 +5,7 @@ use Rattle.cl_base.specs.Limits.{most_devices}
 use Rattle.cl_base.specs.declared.header.Header.{Header}
 use Rattle.cl_base.specs.declared.packet.DropCause.TheVariants as drop
 use Rattle.cmm_attempt.proofs.Basics.{same_some}
-use Rattle.node_widths.specs.Widths.{NodeFits}
+use Rattle.refinement.specs.node_widths.Widths.{NodeFits}
 use Rattle.pgr_device.specs.Device.{Device}
 use Rattle.pgr_device.specs.declared.command.PrCommand.TheVariants as command
 use Rattle.schedule_text.specs.declared.line.Line.TheVariants as line

@@ -32,7 +32,7 @@ use Rattle.node_model.specs.declared.input.Input.TheVariants as input
 use Rattle.node_model.specs.declared.node.Node.{Node}
 use Rattle.node_model.specs.declared.node.Node.TheVariants.{Down, Up}
 use Rattle.node_model.specs.declared.node.UpNode.{UpNode}
-use Rattle.node_widths.specs.Widths.{NodeFits}
+use Rattle.refinement.specs.node_widths.Widths.{NodeFits}
 use Rattle.refinement.proofs.Disks.{disks_keep_rules}
 use Rattle.refinement.proofs.EveryRun.{is_true}
 use Rattle.refinement.proofs.Facts.{known_by, step_may}

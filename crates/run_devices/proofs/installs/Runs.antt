@@ -62,7 +62,7 @@ use Rattle.run_devices.proofs.installs.Steps.{Stepped, small_of, step_goes}
 use Rattle.run_devices.proofs.installs.Told.{all_told}
 use Rattle.run_devices.proofs.installs.Taken.{Facts, IsShown, ground_of, mine_at, more_said, packets_begin, sites_begin, taken_shown}
 use Rattle.node_model.specs.Steps.{stepped}
-use Rattle.node_widths.specs.Widths.{NodeFits}
+use Rattle.refinement.specs.node_widths.Widths.{NodeFits}
 use Rattle.refinement.specs.Steps.{disk_rules}
 use Rattle.run_history.proofs.Flying.{dropped_links}
 use Rattle.run_seizings.proofs.Progress.{installed_stays}

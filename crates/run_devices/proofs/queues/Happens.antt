@@ -25,7 +25,7 @@ use Rattle.node_model.specs.declared.input.Input.{Input}
 use Rattle.node_model.specs.declared.input.Input.TheVariants as input
 use Rattle.node_model.specs.declared.node.Node.{Node}
 use Rattle.node_model.specs.declared.node.Node.TheVariants.{Down, Up}
-use Rattle.node_widths.specs.Widths.{NodeFits}
+use Rattle.refinement.specs.node_widths.Widths.{NodeFits}
 use Rattle.refinement.proofs.DeviceWidths.{command_keeps}
 use Rattle.refinement.specs.Courses.{Reply}
 use Rattle.refinement.specs.Cuts.{doings}

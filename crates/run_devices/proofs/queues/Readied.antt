@@ -54,8 +54,8 @@ use Rattle.run_history.specs.Happenings.{taking}
 use Rattle.run_history.specs.Scenes.{Scene, dropped_so, passing, posting, sent_as, telling, with_links}
 use Rattle.run_lines.proofs.Adds.{Adds, adds_first, adds_one, onto}
 use Rattle.run_lines.specs.Entries.{IsEntry, IsOfEvent}
-use Rattle.run_records.proofs.Replies.{CutSo, steps_are_cut_so}
-use Rattle.run_records.specs.Losses.{AreLosses, IsLoss}
+use Rattle.run_messages.proofs.records.Replies.{CutSo, steps_are_cut_so}
+use Rattle.run_messages.specs.records.Losses.{AreLosses, IsLoss}
 use Rattle.run_seizings.proofs.Progress.{if_so, or_left, same_is}
 use Rattle.run_devices.specs.queues.Laws.{is_lost}
 

@@ -32,7 +32,7 @@ use Rattle.refinement.specs.Worlds.{AllFit}
 use Rattle.run_history.specs.Guards.{Hand, hand_after}
 use Rattle.run_history.specs.Marks.{AllSo}
 use Rattle.run_history.specs.Scenes.{Scene, passing, telling}
-use Rattle.run_records.specs.Losses.{AllApart, DoingApart, IsLoss}
+use Rattle.run_messages.specs.records.Losses.{AllApart, DoingApart, IsLoss}
 use Rattle.run_seizings.proofs.Asked.{AllMay}
 use Rattle.run_seizings.proofs.Changes.{fit_parts}
 use Rattle.run_seizings.proofs.Progress.{if_so, same_is}

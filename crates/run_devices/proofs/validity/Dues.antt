@@ -34,7 +34,7 @@ use Rattle.node_model.specs.declared.cluster.Cluster.{Cluster}
 use Rattle.node_model.specs.declared.node.Node.{Node}
 use Rattle.node_model.specs.declared.node.Node.TheVariants.{Down, Up}
 use Rattle.node_model.specs.declared.node.UpNode.{UpNode}
-use Rattle.node_widths.specs.Widths.{NodeFits}
+use Rattle.refinement.specs.node_widths.Widths.{NodeFits}
 use Rattle.refinement.proofs.Changes.{Sees, sees}
 use Rattle.refinement.specs.Doings.{site}
 use Rattle.refinement.specs.Guards.{OfUp}

@@ -12,7 +12,7 @@ use Rattle.interconnect.specs.Links as links
 use Rattle.interconnect.specs.Links.{Links, Packet, sending}
 use Rattle.machine_base.proofs.Puts.{put_here, put_there, same_or_not}
 use Rattle.machine_base.specs.Put.{put}
-use Rattle.node_widths.specs.Widths.{NodeFits}
+use Rattle.refinement.specs.node_widths.Widths.{NodeFits}
 use Rattle.pgr_device.specs.Device.{Device}
 use Rattle.pgr_device.specs.declared.command.PrCommand.{PrCommand}
 use Rattle.pgr_device.specs.declared.command.PrCommand.TheVariants as command
@@ -52,7 +52,7 @@ use Rattle.run_history.specs.Happenings.Happening.{Arrives, Commands, Takes, Wri
 use Rattle.run_history.specs.Scenes.{Scene, adding, dropped_so, telling, with_links}
 use Rattle.run_history.specs.Stages.{Sized, Stage, site_of}
 use Rattle.run_history.specs.Wholes.{IsWhole}
-use Rattle.run_records.proofs.Arrivals.{arrived_hand}
+use Rattle.run_messages.proofs.records.Arrivals.{arrived_hand}
 use Rattle.run_seizings.proofs.Changes.{NotCollect}
 use Rattle.run_seizings.specs.Sites.{IsSeizing}
 use Rattle.run_seizings.proofs.Letters as letters

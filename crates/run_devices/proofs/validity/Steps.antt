@@ -52,8 +52,8 @@ use Rattle.run_history.specs.Guards.{Hand}
 use Rattle.run_history.specs.Happenings.{IsNode, taking}
 use Rattle.run_history.specs.Scenes.{Scene, passing, telling}
 use Rattle.run_history.specs.Stages.{Sized, site_of}
-use Rattle.run_records.proofs.Apart.{doings_apart}
-use Rattle.run_records.proofs.Replies.{CutSo, steps_are_cut_so}
+use Rattle.run_messages.proofs.records.Apart.{doings_apart}
+use Rattle.run_messages.proofs.records.Replies.{CutSo, steps_are_cut_so}
 use Rattle.run_seizings.specs.Sites.{InHand, IsSeizing}
 use Rattle.run_seizings.proofs.Asked.{AllMay}
 use Rattle.run_seizings.proofs.Goes as seizings

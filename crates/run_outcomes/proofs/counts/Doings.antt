@@ -25,7 +25,7 @@ use Rattle.run_history.proofs.Lists.{both}
 use Rattle.run_history.specs.Marks.{ActSo, DoingSo}
 use Rattle.run_history.specs.Noted.{Notes}
 use Rattle.run_history.specs.Scenes.{Scene, passing}
-use Rattle.run_records.specs.Kept.{Goes}
+use Rattle.run_messages.specs.records.Kept.{Goes}
 use Rattle.status_report.specs.declared.node_entry.DownCause.{DownCause}
 use Rattle.run_outcomes.specs.counts.Ends.{ActFits, DoingFits, Last, last_after, last_by, last_by_change}
 use Rattle.run_outcomes.specs.counts.Facts.{AllDue, CountsIn, Foretold, LastTied}

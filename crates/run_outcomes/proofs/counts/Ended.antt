@@ -43,8 +43,8 @@ use Rattle.refinement.specs.Ties.{AttemptTied, Coordinates, Delivered, NodeTied,
 use Rattle.run_history.specs.Noted as noted
 use Rattle.run_history.specs.Noted.{Notes}
 use Rattle.run_history.specs.Scenes.{Scene}
-use Rattle.run_records.specs.Kept.{AttemptIn, AttemptKept, Goes, HeardFrom}
-use Rattle.run_records.specs.Shown.{IsOf}
+use Rattle.run_messages.specs.records.Kept.{AttemptIn, AttemptKept, Goes, HeardFrom}
+use Rattle.run_messages.specs.records.Shown.{IsOf}
 use Rattle.status_report.specs.declared.entry.Entry.TheVariants as entry
 use Rattle.run_outcomes.specs.counts.Ends.{IsGivenBy, Last}
 use Rattle.run_outcomes.specs.counts.Facts.{AreOf, CountsIn, ForeignTo, Foretold, IsDue, Known, LastTied, NeedsOf, NeedsUnder, ShortOf}

@@ -8,10 +8,10 @@ use Rattle.history.specs.Records.{NodeRecord as Shown, committed_of, exceeds, is
 use Rattle.membership_machine.specs.Events.{HasNewest}
 use Rattle.membership_machine.specs.Records.{IsBehind, Saved}
 use Rattle.membership_machine.specs.State.{Memberships}
-use Rattle.run_records.proofs.Letters.{HasShown, Shows, has_from, promises_had, told_records}
-use Rattle.run_records.specs.Kept.{HeardFrom}
-use Rattle.run_records.specs.Shown.{IsOf, ShownBy, flag}
-use Rattle.run_records.specs.Sound.{AllSound, ShowsSo}
+use Rattle.run_messages.proofs.records.Letters.{HasShown, Shows, has_from, promises_had, told_records}
+use Rattle.run_messages.specs.records.Kept.{HeardFrom}
+use Rattle.run_messages.specs.records.Shown.{IsOf, ShownBy, flag}
+use Rattle.run_messages.specs.records.Sound.{AllSound, ShowsSo}
 
 true_false : true ≡ false → ⊥
 true_false h = false_true (sym h)

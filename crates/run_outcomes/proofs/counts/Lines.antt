@@ -37,8 +37,8 @@ use Rattle.status_report.specs.declared.packet_entry.PacketEntry.TheVariants as 
 use Rattle.wire.specs.Spelling.{spelling}
 use Rattle.wire.specs.declared.message.Message.{Message}
 use Rattle.world_model.specs.Sends.{is_sent, name_of}
-use Rattle.run_endings.proofs.Sends.{adopted_fine, base_fine, first_fine, ticked_fine, unknown_fine}
-use Rattle.run_endings.specs.Sites.{AreFine, IsQuietLine}
+use Rattle.run_attempts.proofs.endings.Sends.{adopted_fine, base_fine, first_fine, ticked_fine, unknown_fine}
+use Rattle.run_attempts.specs.endings.Sites.{AreFine, IsQuietLine}
 use Rattle.run_outcomes.specs.counts.Facts.{AllDue, IsDue}
 
 abbrev pub IsPlainLine : Entry → Type 0

@@ -48,7 +48,7 @@ use Rattle.run_history.specs.Happenings.{Happening, MayHappen, armed_by, command
 use Rattle.run_history.specs.Happenings.Happening.{Arrives, Begins, Commands, Loses as Loses_packet, Misses, Notes as Notes_of, Refuses, Repeats, Speaks, Strays, Takes as Takes_it, Writes as Writes_it}
 use Rattle.run_history.specs.Scenes.{Scene, adding, dropped_so}
 use Rattle.run_history.specs.Stages.{Sized, Stage, site_of}
-use Rattle.run_records.proofs.Replies.{CutSo, steps_are_cut_so}
+use Rattle.run_messages.proofs.records.Replies.{CutSo, steps_are_cut_so}
 use Rattle.schedule_text.specs.declared.event.Event.{Event}
 use Rattle.schedule_text.specs.declared.event.Event.TheVariants as event
 use Rattle.run_outcomes.specs.counts.Shorts.{AttemptPlanned, NodePlanned}

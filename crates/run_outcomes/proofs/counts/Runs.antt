@@ -21,8 +21,8 @@ use Rattle.pgr_device.specs.declared.command.PrCommand.TheVariants as command
 use Rattle.refinement.proofs.Handlers.{delivered_by}
 use Rattle.refinement.specs.Runs.{AnswersFit, Nodes, WasSent}
 use Rattle.run_attempts.proofs.Known.{known_scene}
-use Rattle.run_endings.proofs.Runs.{promised_in_each_run}
-use Rattle.run_endings.specs.Laws.{HasPromises}
+use Rattle.run_attempts.proofs.endings.Runs.{promised_in_each_run}
+use Rattle.run_attempts.specs.endings.Laws.{HasPromises}
 use Rattle.run_history.proofs.WorldDevices.{write_keeps}
 use Rattle.run_history.specs.Causes.{Hand}
 use Rattle.run_history.specs.Happenings.{Commanded, Happening, IsPlain, MayHappen, all_happened, armed_by, commanded, commanded_at, happened, removed}
@@ -30,11 +30,11 @@ use Rattle.run_history.specs.Happenings.Happening.{Arrives, Begins, Commands, Lo
 use Rattle.run_history.specs.Scenes.{Scene, adding, first_scene, telling, with_links}
 use Rattle.run_history.specs.Stages.{Sized}
 use Rattle.run_messages.proofs.Reaching.{IsSmall, holds_of_each}
-use Rattle.run_records.proofs.Arms.{After, after_command, due_keeps}
-use Rattle.run_records.proofs.Arrivals.{arrived_hand, arrived_kept}
-use Rattle.run_records.proofs.Moments.{delivered_known}
-use Rattle.run_records.proofs.Sizes.{header_sized}
-use Rattle.run_records.specs.Kept.{HandKept, KnownScene}
+use Rattle.run_messages.proofs.records.Arms.{After, after_command, due_keeps}
+use Rattle.run_messages.proofs.records.Arrivals.{arrived_hand, arrived_kept}
+use Rattle.run_messages.proofs.records.Moments.{delivered_known}
+use Rattle.run_messages.proofs.records.Sizes.{header_sized}
+use Rattle.run_messages.specs.records.Kept.{HandKept, KnownScene}
 use Rattle.schedule_text.specs.declared.event.Event.{Event}
 use Rattle.schedule_text.specs.declared.event.Event.TheVariants as event
 use Rattle.status_report.specs.declared.attempt_entry.AttemptEntry.TheVariants as attempt_entry

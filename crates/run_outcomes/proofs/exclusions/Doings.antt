@@ -35,8 +35,8 @@ use Rattle.run_history.specs.Marks.{ActSo, DoingSo}
 use Rattle.run_history.specs.Noted.{Notes}
 use Rattle.run_history.specs.Scenes.{Scene, passing, posting}
 use Rattle.run_messages.specs.Outputs.{AreGood}
-use Rattle.run_records.specs.Answers.{ActTold, DoingTold}
-use Rattle.run_records.specs.Kept.{Goes}
+use Rattle.run_messages.specs.records.Answers.{ActTold, DoingTold}
+use Rattle.run_messages.specs.records.Kept.{Goes}
 use Rattle.status_report.specs.declared.entry.Entry.TheVariants as entry
 use Rattle.status_report.specs.declared.node_entry.NodeEntry.TheVariants as note
 use Rattle.wire.specs.declared.message.Body.{Body}

@@ -48,8 +48,8 @@ use Rattle.run_outcomes.proofs.counts.Ended.{Tied, tied_of}
 use Rattle.run_history.specs.Noted as noted
 use Rattle.run_history.specs.Noted.{Notes}
 use Rattle.run_history.specs.Scenes.{Scene}
-use Rattle.run_records.proofs.Letters.{Had, promises_had}
-use Rattle.run_records.specs.Kept.{AttemptIn, AttemptKept, Goes, HeardFrom, shows_from}
+use Rattle.run_messages.proofs.records.Letters.{Had, promises_had}
+use Rattle.run_messages.specs.records.Kept.{AttemptIn, AttemptKept, Goes, HeardFrom, shows_from}
 use Rattle.wire.specs.declared.message.Body.{Body}
 use Rattle.wire.specs.declared.message.Body.TheVariants as body
 use Rattle.wire.specs.declared.message.Message.{Message}

@@ -15,8 +15,8 @@ use Rattle.history.specs.Seizing.{is_attempt, is_number}
 use Rattle.membership_machine.specs.Records.{Saved}
 use Rattle.membership_machine.specs.State.{Memberships}
 use Rattle.run_attempts.proofs.Tried.{Grows, grows_one, grows_then}
-use Rattle.run_records.proofs.Letters.{Had}
-use Rattle.run_records.specs.Sound.{BodySound, ShowsSo}
+use Rattle.run_messages.proofs.records.Letters.{Had}
+use Rattle.run_messages.specs.records.Sound.{BodySound, ShowsSo}
 use Rattle.status_report.specs.declared.entry.Entry.TheVariants as entry
 use Rattle.status_report.specs.declared.packet_entry.PacketEntry.TheVariants as packet
 use Rattle.wire.specs.Reads.{whole_of}

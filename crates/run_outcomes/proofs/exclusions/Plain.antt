@@ -34,7 +34,7 @@ use Rattle.rg_view.specs.declared.states.ResourceAt.{ResourceAt}
 use Rattle.rg_view.specs.declared.view.GroupView.{GroupView}
 use Rattle.run_history.proofs.Lists.{both, mapped, of_each}
 use Rattle.run_history.specs.Marks.{ActSo, AreMinor, IsMinor}
-use Rattle.run_records.specs.Answers.{ActTold, IsOrdinary}
+use Rattle.run_messages.specs.records.Answers.{ActTold, IsOrdinary}
 use Rattle.seize.specs.Answers.{Answer}
 use Rattle.status_report.specs.declared.attempt_entry.AttemptEntry.TheVariants as attempt
 use Rattle.status_report.specs.declared.entry.Entry.{Entry}

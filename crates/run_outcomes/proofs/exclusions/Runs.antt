@@ -23,11 +23,11 @@ use Rattle.run_history.specs.Happenings.Happening.{Arrives, Begins, Commands, Lo
 use Rattle.run_history.specs.Scenes.{Scene, adding, first_scene, telling, with_links}
 use Rattle.run_history.specs.Stages.{Sized}
 use Rattle.run_messages.proofs.Reaching.{IsSmall, holds_of_each}
-use Rattle.run_records.proofs.Arms.{After, after_command, due_keeps}
-use Rattle.run_records.proofs.Arrivals.{arrived_hand, arrived_kept}
-use Rattle.run_records.proofs.Moments.{delivered_known}
-use Rattle.run_records.proofs.Sizes.{header_sized}
-use Rattle.run_records.specs.Kept.{Came, HandKept, KnownScene}
+use Rattle.run_messages.proofs.records.Arms.{After, after_command, due_keeps}
+use Rattle.run_messages.proofs.records.Arrivals.{arrived_hand, arrived_kept}
+use Rattle.run_messages.proofs.records.Moments.{delivered_known}
+use Rattle.run_messages.proofs.records.Sizes.{header_sized}
+use Rattle.run_messages.specs.records.Kept.{Came, HandKept, KnownScene}
 use Rattle.schedule_text.specs.declared.event.Event.{Event}
 use Rattle.schedule_text.specs.declared.event.Event.TheVariants as event
 use Rattle.status_report.specs.declared.entry.Entry.TheVariants as entry

@@ -35,7 +35,7 @@ use Rattle.rg_view.specs.declared.states.ResourceAt.{ResourceAt}
 use Rattle.rg_view.specs.declared.view.GroupView.{GroupView}
 use Rattle.run_history.proofs.Lists.{both, mapped, of_each}
 use Rattle.run_history.specs.Marks.{ActSo, AreMinor, IsMinor}
-use Rattle.run_records.specs.Losses.{IsLoss}
+use Rattle.run_messages.specs.records.Losses.{IsLoss}
 use Rattle.seize.specs.Answers.{Answer}
 use Rattle.status_report.specs.declared.entry.Entry.{Entry}
 use Rattle.status_report.specs.declared.entry.Entry.TheVariants as entry

@@ -45,7 +45,7 @@ use Rattle.refinement.proofs.Fits.{AllFit, first_fits}
 use Rattle.refinement.proofs.Handlers.{delivered_by}
 use Rattle.refinement.specs.Guards.{Says}
 use Rattle.refinement.specs.Ties.{Delivered}
-use Rattle.run_records.specs.Losses.{AreLosses, IsLoss}
+use Rattle.run_messages.specs.records.Losses.{AreLosses, IsLoss}
 use Rattle.status_report.specs.declared.node_entry.DownCause.{DownCause}
 use Rattle.status_report.specs.declared.node_entry.DownCause.TheVariants as cause
 use Rattle.run_outcomes.specs.panics.Notices.{AllSaid, FallSaid, GoesSaid, IsNoticeIn, Notice, notice_by}

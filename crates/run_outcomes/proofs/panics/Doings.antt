@@ -40,8 +40,8 @@ use Rattle.run_history.specs.Noted.{Notes}
 use Rattle.run_history.specs.Scenes.{Scene, passing}
 use Rattle.run_history.specs.Stages.{site_of}
 use Rattle.run_messages.specs.Outputs.{AreGood}
-use Rattle.run_records.specs.Kept.{HandKept}
-use Rattle.run_records.specs.Losses.{DoingApart}
+use Rattle.run_messages.specs.records.Kept.{HandKept}
+use Rattle.run_messages.specs.records.Losses.{DoingApart}
 use Rattle.status_report.specs.declared.entry.Entry.TheVariants as entry
 use Rattle.status_report.specs.declared.node_entry.DownCause.{DownCause}
 use Rattle.status_report.specs.declared.node_entry.DownCause.TheVariants as cause

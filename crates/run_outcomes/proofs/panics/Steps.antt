@@ -54,14 +54,14 @@ use Rattle.run_history.specs.Stages.{Sized, Stage, site_of}
 use Rattle.run_messages.proofs.Doings.{first_good, then_good}
 use Rattle.run_messages.proofs.Reaching.{taking_good}
 use Rattle.run_messages.specs.Outputs.{AreGood}
-use Rattle.run_records.proofs.Apart.{doings_apart}
-use Rattle.run_records.proofs.Courses.{doings_told}
-use Rattle.run_records.proofs.Doings as records
-use Rattle.run_records.proofs.Replies.{CutSo, steps_are_cut_so}
-use Rattle.run_records.proofs.Steps.{put_all}
-use Rattle.run_records.specs.Answers.{AllTold as AllTold_in}
-use Rattle.run_records.specs.Kept.{Goes, HandKept, KnownScene}
-use Rattle.run_records.specs.Losses.{AllApart}
+use Rattle.run_messages.proofs.records.Apart.{doings_apart}
+use Rattle.run_messages.proofs.records.Courses.{doings_told}
+use Rattle.run_messages.proofs.records.Doings as records
+use Rattle.run_messages.proofs.records.Replies.{CutSo, steps_are_cut_so}
+use Rattle.run_messages.proofs.records.Steps.{put_all}
+use Rattle.run_messages.specs.records.Answers.{AllTold as AllTold_in}
+use Rattle.run_messages.specs.records.Kept.{Goes, HandKept, KnownScene}
+use Rattle.run_messages.specs.records.Losses.{AllApart}
 use Rattle.wire.specs.Spelling.{IsNode}
 use Rattle.run_outcomes.specs.panics.Notices.{AllSaid, Notice, notice_after}
 use Rattle.run_outcomes.specs.panics.Sites.{AllJudged, IsPast, LastNamed, NoticeSo}

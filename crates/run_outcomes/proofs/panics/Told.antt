@@ -18,14 +18,14 @@ use Rattle.node_model.specs.Seats.{is_in, session_of}
 use Rattle.node_model.specs.declared.node.UpNode.{UpNode}
 use Rattle.node_model.specs.declared.output.Output.{Output}
 use Rattle.node_model.specs.declared.output.Output.TheVariants.{Sends, Tells}
-use Rattle.node_widths.proofs.Lengths.{sent_messages_fit}
+use Rattle.refinement.proofs.node_widths.Lengths.{sent_messages_fit}
 use Rattle.refinement.specs.Doings.{Site}
 use Rattle.refinement.specs.Guards.{Says}
 use Rattle.refinement.specs.Ties.{Delivered}
 use Rattle.refinement.specs.Widths.{LetterFits}
 use Rattle.run_history.specs.Scenes.{Scene, dropped_so, passing, posting, sent_as, telling, with_links}
 use Rattle.run_messages.specs.Outputs.{AreGood, NoPacket}
-use Rattle.run_records.specs.Kept.{Came, HandKept}
+use Rattle.run_messages.specs.records.Kept.{Came, HandKept}
 use Rattle.status_report.specs.declared.entry.Entry.{Entry}
 use Rattle.status_report.specs.declared.entry.Entry.TheVariants as entry
 use Rattle.status_report.specs.declared.node_entry.DownCause.TheVariants as cause

@@ -20,9 +20,9 @@ use Rattle.wire.specs.declared.message.Body.{Body}
 use Rattle.wire.specs.declared.message.Body.TheVariants as body
 use Rattle.wire.specs.declared.message.Message.{Message}
 use Rattle.world_model.specs.Sends.{name_of}
-use Rattle.run_records.specs.Kept.{Came}
-use Rattle.run_records.specs.Sound.{BodySound, LetterSound}
-use Rattle.run_records.proofs.Letters.{read_letter}
+use Rattle.run_messages.specs.records.Kept.{Came}
+use Rattle.run_messages.specs.records.Sound.{BodySound, LetterSound}
+use Rattle.run_messages.proofs.records.Letters.{read_letter}
 use Rattle.run_outcomes.specs.phases.Kept.{GathersIn}
 use Rattle.run_outcomes.proofs.phases.Gathering.{IsPromise, Or, call_gathers, promise_gathers}
 use Rattle.run_outcomes.proofs.phases.Steps.{ComesBody}

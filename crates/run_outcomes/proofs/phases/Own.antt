@@ -51,8 +51,8 @@ use Rattle.run_history.proofs.MemberRuns.{first_fit}
 use Rattle.run_history.specs.Happenings.{Arrives, Begins, Commands, Happening, Loses as Loses_packet, MayAllHappen, MayHappen, Misses, Notes, Refuses, Repeats, Speaks, Strays, Takes as Takes_plain, Writes, all_happened, armed_by, commanded, commanded_at, given_by, happened, removed, taking}
 use Rattle.run_history.specs.Scenes.{Scene, adding, dropped_so, first_scene, telling, with_links}
 use Rattle.run_messages.proofs.Reaching.{holds_of_each}
-use Rattle.run_records.proofs.Replies.{CutSo, steps_are_cut_so}
-use Rattle.run_records.specs.Kept.{KnownScene}
+use Rattle.run_messages.proofs.records.Replies.{CutSo, steps_are_cut_so}
+use Rattle.run_messages.specs.records.Kept.{KnownScene}
 use Rattle.run_outcomes.specs.saves.Kept.{IsAt}
 use Rattle.schedule_text.specs.declared.event.Event.{Event}
 use Rattle.schedule_text.specs.declared.event.Event.TheVariants as event

@@ -38,7 +38,7 @@ use Rattle.run_history.specs.Happenings.{all_happened}
 use Rattle.run_history.specs.Noted as noted
 use Rattle.run_history.specs.Scenes.{Scene, first_scene}
 use Rattle.run_messages.proofs.Reaching.{IsReached, IsSmall}
-use Rattle.run_records.specs.Kept.{AttemptIn, AttemptKept, HeardFrom, KnownScene, NodeKept, shows_from}
+use Rattle.run_messages.specs.records.Kept.{AttemptIn, AttemptKept, HeardFrom, KnownScene, NodeKept, shows_from}
 use Rattle.run_outcomes.specs.saves.Kept.{IsAt}
 use Rattle.world_model.specs.First.{first_cluster}
 use Rattle.run_outcomes.specs.phases.Kept.{OfEachLive, In, IsMember, Takes}

@@ -41,16 +41,16 @@ use Rattle.wire.specs.declared.message.Message.{Message}
 use Rattle.world_model.specs.First.{first_cluster}
 use Rattle.world_model.specs.Lines.{left_by}
 use Rattle.run_attempts.proofs.Known.{known_scene}
-use Rattle.run_endings.specs.Laws.{HaveTheirAttempts}
-use Rattle.run_endings.proofs.Runs.{nodes_have_their_attempts_in_each_run}
+use Rattle.run_attempts.specs.endings.Laws.{HaveTheirAttempts}
+use Rattle.run_attempts.proofs.endings.Runs.{nodes_have_their_attempts_in_each_run}
 use Rattle.run_history.proofs.Reached.{reached_more}
 use Rattle.run_history.specs.Happenings.{Arrives, Begins, Commands, Happening, IsPlain, Loses, MayAllHappen, MayHappen, Misses, Notes, Refuses, Repeats, Speaks, Strays, Takes as Takes_plain, Writes, all_happened, armed_by, commanded, commanded_at, happened, removed}
 use Rattle.run_history.specs.Scenes.{Scene, adding, dropped_so, first_scene, telling, with_links}
 use Rattle.run_messages.proofs.Reaching.{IsReached, IsSmall}
 use Rattle.run_messages.proofs.Spelling.{spelled_of_each_run}
-use Rattle.run_records.specs.Kept.{AttemptIn, Came, KnownScene, NodeKept}
-use Rattle.run_records.proofs.Arrivals.{arrived_kept}
-use Rattle.run_records.proofs.Letters.{letter_sound}
+use Rattle.run_messages.specs.records.Kept.{AttemptIn, Came, KnownScene, NodeKept}
+use Rattle.run_messages.proofs.records.Arrivals.{arrived_kept}
+use Rattle.run_messages.proofs.records.Letters.{letter_sound}
 use Rattle.run_outcomes.specs.saves.Kept.{IsAt}
 use Rattle.run_packets.proofs.views.Strays.{no_stray}
 use Rattle.run_packets.specs.views.Laws.{NoneForeign, TellsHere, is_foreign_to}

@@ -26,7 +26,7 @@ use Rattle.refinement.specs.Runs.{Nodes, moved}
 use Rattle.refinement.specs.Runs.Move.{Takes as Takes_in}
 use Rattle.refinement.specs.Steps.{disk_rules}
 use Rattle.run_downs.proofs.Packets.{no_packets}
-use Rattle.run_endings.specs.Laws.{epoch_at, epoch_of}
+use Rattle.run_attempts.specs.endings.Laws.{epoch_at, epoch_of}
 use Rattle.run_history.proofs.Idle.{passing_nodes}
 use Rattle.run_history.specs.Happenings.{given_by, taking}
 use Rattle.run_history.specs.Scenes.{Scene}

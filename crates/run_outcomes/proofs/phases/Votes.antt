@@ -45,10 +45,10 @@ use Rattle.run_outcomes.proofs.counts.InHand.{HasNewestOf, committed_is, in_hand
 use Rattle.run_outcomes.proofs.counts.Newest.{Found, has_newest, newest_found}
 use Rattle.run_history.specs.Happenings.{all_happened}
 use Rattle.run_history.specs.Scenes.{Scene, first_scene}
-use Rattle.run_records.proofs.Letters.{Shows, promises_had, told_records}
-use Rattle.run_records.specs.Kept.{AttemptIn, AttemptKept, HeardFrom, KnownScene, NodeKept}
-use Rattle.run_records.specs.Shown.{IsOf, ShownBy}
-use Rattle.run_records.specs.Sound.{ShowsSo}
+use Rattle.run_messages.proofs.records.Letters.{Shows, promises_had, told_records}
+use Rattle.run_messages.specs.records.Kept.{AttemptIn, AttemptKept, HeardFrom, KnownScene, NodeKept}
+use Rattle.run_messages.specs.records.Shown.{IsOf, ShownBy}
+use Rattle.run_messages.specs.records.Sound.{ShowsSo}
 use Rattle.world_model.specs.First.{first_cluster}
 use Rattle.run_outcomes.proofs.phases.Promised.{HasIt, has_it}
 use Rattle.run_outcomes.proofs.phases.Runs.{knows_at}

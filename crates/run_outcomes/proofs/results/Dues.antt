@@ -42,7 +42,7 @@ use Rattle.run_history.proofs.Kept.{path_named}
 use Rattle.run_history.proofs.Known.{first_listed, listed_is}
 use Rattle.run_history.specs.Names.{IsListed}
 use Rattle.run_history.specs.WorldLines.{IsAtDevices, IsDevice as IsDeviceOf}
-use Rattle.run_writes.proofs.Paths.{path_so, paths_stay}
+use Rattle.run_lines.proofs.writes.Paths.{path_so, paths_stay}
 use Rattle.run_history.proofs.Lists.{found}
 use Rattle.run_history.proofs.WholeDevices.{device_there}
 use Rattle.run_history.specs.Happenings.{commanded, commanded_at}

@@ -17,7 +17,7 @@ use Rattle.node_model.specs.declared.input.Input.{Input}
 use Rattle.node_model.specs.declared.input.Input.TheVariants as input
 use Rattle.node_model.specs.declared.output.Output.{Output}
 use Rattle.node_model.specs.declared.output.Output.TheVariants.{Sends, Tells}
-use Rattle.node_widths.specs.Widths.{NodeFits}
+use Rattle.refinement.specs.node_widths.Widths.{NodeFits}
 use Rattle.pgr_device.specs.Device.{Device}
 use Rattle.pgr_device.specs.declared.command.PrCommand.{PrCommand}
 use Rattle.pgr_device.specs.declared.command.PrCommand.TheVariants as command
@@ -48,7 +48,7 @@ use Rattle.run_history.specs.Happenings.Happening.{Arrives, Begins, Commands, Lo
 use Rattle.run_history.specs.Scenes.{Scene, adding, dropped_so, first_scene, passing, posting, sent_as, telling, with_links}
 use Rattle.run_history.specs.Stages.{Sized, Stage, site_of}
 use Rattle.run_messages.proofs.Reaching.{IsReached, IsSmall, holds_of_each, stage_of}
-use Rattle.run_records.proofs.Sizes.{header_sized}
+use Rattle.run_messages.proofs.records.Sizes.{header_sized}
 use Rattle.run_seizings.proofs.Asked.{AllMay}
 use Rattle.run_seizings.proofs.Moments.{answer_fits, due_low, due_own, plain_fits, plain_no, plain_sent}
 use Rattle.run_seizings.proofs.Steps.{Ground, OwnKeysOnly, answer_may, ground_of, plain_may}

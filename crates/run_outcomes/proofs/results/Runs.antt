@@ -57,7 +57,7 @@ use Rattle.run_history.specs.Wholes.{IsWhole}
 use Rattle.run_messages.proofs.Reaching.{IsReached, IsSmall, holds_of_each, stage_of}
 use Rattle.run_devices.proofs.readings.Runs.{run_reads}
 use Rattle.run_devices.specs.readings.Readings.{StandsSo}
-use Rattle.run_records.proofs.Sizes.{header_sized}
+use Rattle.run_messages.proofs.records.Sizes.{header_sized}
 use Rattle.run_seizings.proofs.Moments.{due_low, due_own, plain_no, plain_sent}
 use Rattle.run_seizings.proofs.Steps.{Ground, OwnKeysOnly, ground_of}
 use Rattle.schedule_text.specs.declared.event.Event.{Event}

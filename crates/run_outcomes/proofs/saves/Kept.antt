@@ -40,7 +40,7 @@ use Rattle.run_history.specs.Scenes.{Scene, adding, dropped_so, first_scene, pas
 use Rattle.run_history.proofs.Idle.{passing_nodes}
 use Rattle.run_history.proofs.MemberRuns.{first_fit}
 use Rattle.run_messages.proofs.Reaching.{holds_of_each}
-use Rattle.run_records.specs.Kept.{KnownScene}
+use Rattle.run_messages.specs.records.Kept.{KnownScene}
 use Rattle.run_downs.proofs.Promised.{known_at}
 use Rattle.run_outcomes.specs.saves.Kept.{AreLow, IsAt, Kept, KeptIn, Rests, Within}
 use Rattle.run_outcomes.proofs.saves.Installed.{StepLow, passing_within, step_low}

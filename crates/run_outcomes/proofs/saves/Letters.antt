@@ -47,15 +47,15 @@ use Rattle.wire.specs.declared.message.Install.{Install}
 use Rattle.wire.specs.declared.message.Message.{Message}
 use Rattle.world_model.specs.Sends.{name_of}
 use Rattle.run_history.specs.Scenes.{Scene, passing}
-use Rattle.run_records.specs.Kept.{AttemptIn, Came, NodeKept}
-use Rattle.run_records.specs.Shown.{RecordIn}
+use Rattle.run_messages.specs.records.Kept.{AttemptIn, Came, NodeKept}
+use Rattle.run_messages.specs.records.Shown.{RecordIn}
 use Rattle.run_seizings.specs.Seized.{has_installed}
 use Rattle.run_seizings.proofs.Tasks.{acts_so}
 use Rattle.run_downs.proofs.Packets.{no_packets}
 use Rattle.run_downs.proofs.Rules.{StopsIf}
 use Rattle.run_downs.proofs.Steps.{packet_fine}
 use Rattle.run_downs.proofs.Updates.{IsDelivering, both_so, letter_saves, pending_so}
-use Rattle.run_endings.specs.Laws.{epoch_at, epoch_of}
+use Rattle.run_attempts.specs.endings.Laws.{epoch_at, epoch_of}
 use Rattle.run_outcomes.specs.saves.Kept.{AllHere, IsOnWay, OnWay, Rests, is_left, is_left_by, is_left_in}
 use Rattle.run_outcomes.specs.saves.Courses.{InstallsAt, InstallsNow, StartsPending}
 use Rattle.run_outcomes.proofs.saves.Here.{IsSilent, silent_here, stops_here}

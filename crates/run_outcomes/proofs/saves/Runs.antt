@@ -46,12 +46,12 @@ use Rattle.run_history.specs.Happenings.{Arrives, Begins, Commands, Happening, I
 use Rattle.run_history.specs.Scenes.{Scene, adding, first_scene, passing, telling, with_links}
 use Rattle.run_history.proofs.MemberRuns.{first_fit}
 use Rattle.run_messages.proofs.Reaching.{IsReached, holds_of_each}
-use Rattle.run_records.specs.Kept.{Came, KnownScene, NodeKept}
-use Rattle.run_records.proofs.Arrivals.{arrived_hand, arrived_kept}
+use Rattle.run_messages.specs.records.Kept.{Came, KnownScene, NodeKept}
+use Rattle.run_messages.proofs.records.Arrivals.{arrived_hand, arrived_kept}
 use Rattle.run_seizings.specs.Sites.{IsSeizing, UpIn}
 use Rattle.run_seizings.proofs.Runs.{run_seizes}
-use Rattle.run_endings.specs.Laws.{HaveTheirAttempts}
-use Rattle.run_endings.proofs.Runs.{nodes_have_their_attempts_in_each_run}
+use Rattle.run_attempts.specs.endings.Laws.{HaveTheirAttempts}
+use Rattle.run_attempts.proofs.endings.Runs.{nodes_have_their_attempts_in_each_run}
 use Rattle.run_downs.specs.Laws as downs
 use Rattle.run_downs.specs.Laws.{SavesInEvent, is_of, is_settled, is_settled_by, is_settled_name}
 use Rattle.run_downs.proofs.Packets.{no_packets}

@@ -55,8 +55,8 @@ use Rattle.run_downs.proofs.Packets.{IsNoPacket, no_packets}
 use Rattle.run_downs.proofs.Proposed.{IsNoStopCause}
 use Rattle.run_downs.proofs.Rules.{IsNoStop, NoStops}
 use Rattle.run_downs.specs.Calls.{AllSteady, IsSteady}
-use Rattle.run_endings.proofs.Stands.{IsMere, act_stands, change_stands}
-use Rattle.run_endings.specs.Laws.{epoch_of}
+use Rattle.run_attempts.proofs.endings.Stands.{IsMere, act_stands, change_stands}
+use Rattle.run_attempts.specs.endings.Laws.{epoch_of}
 use Rattle.run_outcomes.specs.saves.Kept.{AllHere, AllLeave, IsOnWay, LeavesWay, LeavesWayOut, OnWay}
 use Rattle.run_outcomes.specs.saves.Courses.{IsTried}
 use Rattle.run_outcomes.proofs.saves.Here.{none_here, passing_came}

@@ -22,7 +22,7 @@ use Rattle.node_model.specs.declared.input.Input.TheVariants as input
 use Rattle.node_model.specs.declared.node.Node.TheVariants.{Up}
 use Rattle.node_model.specs.declared.node.UpNode.{UpNode}
 use Rattle.node_model.specs.declared.output.Output.{Output}
-use Rattle.node_widths.proofs.Sets.{nodes_where}
+use Rattle.refinement.proofs.node_widths.Sets.{nodes_where}
 use Rattle.record_disk.specs.Disks.{DiskState, saving}
 use Rattle.refinement.proofs.Acts.{does_one}
 use Rattle.refinement.proofs.Cuts.{step_of_node_is_its_course}
@@ -59,7 +59,7 @@ use Rattle.run_history.proofs.Lists.{both}
 use Rattle.run_history.proofs.MemberRuns.{first_fit}
 use Rattle.run_history.proofs.Small.{AllSmall}
 use Rattle.run_history.proofs.UnderWay.{passing_under}
-use Rattle.run_records.specs.Kept.{KnownScene}
+use Rattle.run_messages.specs.records.Kept.{KnownScene}
 use Rattle.run_packets.specs.admitted.Laws.{AttemptsBeginAsWanted}
 use Rattle.run_attempts.proofs.Views.{tick_so}
 use Rattle.run_attempts.specs.Steps.{GoesSo, IsDue, Wish}

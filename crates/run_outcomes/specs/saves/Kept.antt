@@ -17,7 +17,7 @@ use Rattle.node_model.specs.declared.node.UpNode.{UpNode}
 use Rattle.node_model.specs.declared.output.Output.TheVariants.{Sends, Tells}
 use Rattle.node_model.specs.declared.output.Output.{Output}
 use Rattle.refinement.specs.Runs.{Nodes}
-use Rattle.run_endings.specs.Laws.{epoch_at}
+use Rattle.run_attempts.specs.endings.Laws.{epoch_at}
 use Rattle.run_history.specs.Scenes.{Scene}
 use Rattle.schedule_text.specs.declared.event.Event.TheVariants as event
 use Rattle.schedule_text.specs.declared.event.Event.{Event}

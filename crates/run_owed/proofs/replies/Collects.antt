@@ -21,16 +21,16 @@ use Rattle.node_model.specs.declared.cluster.Cluster.{Cluster}
 use Rattle.node_model.specs.declared.input.Input.TheVariants as input
 use Rattle.node_model.specs.declared.node.Node.TheVariants.{Up}
 use Rattle.node_model.specs.declared.node.UpNode.{UpNode}
-use Rattle.node_widths.specs.Widths.{BodyFits}
+use Rattle.refinement.specs.node_widths.Widths.{BodyFits}
 use Rattle.refinement.proofs.Changes.{Sees, sees}
 use Rattle.refinement.specs.Doings.{site}
 use Rattle.refinement.specs.Runs.{IsAmong, Letter as SentLetter}
 use Rattle.refinement.specs.Ties.{NodeTied}
 use Rattle.refinement.specs.Widths.{LetterFits}
-use Rattle.run_fits.proofs.Doings.{record_sound}
-use Rattle.run_fits.proofs.Runs.{Fitting, first_fits, happening_fits, sized}
-use Rattle.run_fits.proofs.Steps.{Grown}
-use Rattle.run_fits.specs.Rooms.{HasRoom}
+use Rattle.run_packets.proofs.fits.Doings.{record_sound}
+use Rattle.run_packets.proofs.fits.Runs.{Fitting, first_fits, happening_fits, sized}
+use Rattle.run_packets.proofs.fits.Steps.{Grown}
+use Rattle.run_packets.specs.fits.Rooms.{HasRoom}
 use Rattle.run_history.proofs.ContactFlying.{found_posted, number_found}
 use Rattle.run_history.proofs.Reached.{reached_more}
 use Rattle.run_history.specs.Causes.{Posted}

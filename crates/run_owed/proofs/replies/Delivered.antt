@@ -39,8 +39,8 @@ use Rattle.run_owed.proofs.replies.Holding.{Kept, kept_in_each, seated_of}
 use Rattle.run_owed.proofs.replies.Others.{brings_else}
 use Rattle.run_owed.specs.prepares.Events.{IsLeftAfter}
 use Rattle.run_owed.specs.repeats.Events.{AreSent, Arrives, Leaves, Strays, EventLaw, Opening, StartsElse}
-use Rattle.run_records.proofs.Runs.{run_known}
-use Rattle.run_records.specs.Kept.{AreBytes, BytesOf}
+use Rattle.run_messages.proofs.records.Runs.{run_known}
+use Rattle.run_messages.specs.records.Kept.{AreBytes, BytesOf}
 use Rattle.schedule_text.specs.declared.event.Event.TheVariants as event
 use Rattle.schedule_text.specs.declared.event.Event.{Event}
 use Rattle.schedule_text.specs.declared.line.Line.TheVariants as line

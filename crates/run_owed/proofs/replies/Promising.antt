@@ -31,7 +31,7 @@ use Rattle.refinement.specs.Doings.Act.{Hears}
 use Rattle.refinement.specs.Doings.Change.{Promises}
 use Rattle.refinement.specs.Runs.{Nodes}
 use Rattle.refinement.specs.Steps.{IsCut, disk_rules}
-use Rattle.run_fits.specs.Rooms.{HasRoom}
+use Rattle.run_packets.specs.fits.Rooms.{HasRoom}
 use Rattle.run_history.specs.Happenings.{given_by}
 use Rattle.run_owed.proofs.repeats.Leading.{LeadsTo, leads_given}
 use Rattle.run_owed.specs.prepares.Proposals.{IsBehind, IsShort}

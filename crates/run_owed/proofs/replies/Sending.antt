@@ -11,7 +11,7 @@ use Rattle.interconnect.specs.Links as links
 use Rattle.interconnect.specs.Links.{sending}
 use Rattle.node_model.specs.declared.output.Output.TheVariants.{Sends, Tells}
 use Rattle.node_model.specs.declared.output.Output.{Output}
-use Rattle.node_widths.proofs.Lengths.{sent_messages_fit}
+use Rattle.refinement.proofs.node_widths.Lengths.{sent_messages_fit}
 use Rattle.refinement.specs.Guards.{TellNothing, TellsNothing}
 use Rattle.refinement.specs.Widths.{LetterFits}
 use Rattle.run_history.specs.Scenes.{Scene, dropped_so, passing, posting, sent_as, telling, with_links}

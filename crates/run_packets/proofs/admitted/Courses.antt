@@ -69,7 +69,7 @@ use Rattle.refinement.specs.Doings.{acted, answered_so, changed, site}
 use Rattle.refinement.specs.Doings.Act.{Gives}
 use Rattle.refinement.specs.Doings.Change.{Installs}
 use Rattle.refinement.specs.Runs.{AnswersFit}
-use Rattle.node_widths.specs.Widths.{AnswerFits}
+use Rattle.refinement.specs.node_widths.Widths.{AnswerFits}
 use Rattle.run_packets.specs.native.Named.{IsKnown}
 use Rattle.run_packets.specs.admitted.Guards.{AllFor, GoesFor, KeepsGood}
 use Rattle.run_packets.specs.admitted.Known.{TasksKnown}

@@ -15,7 +15,7 @@ use Rattle.node_model.specs.Members.{are_devices, has_many_keys, is_bad_log, is_
 use Rattle.node_model.specs.declared.cluster.Cluster.{Cluster}
 use Rattle.node_model.specs.declared.node.Node.{Node}
 use Rattle.node_model.specs.declared.node.Node.TheVariants.{Down, Up}
-use Rattle.node_widths.specs.Widths.{BodyFits}
+use Rattle.refinement.specs.node_widths.Widths.{BodyFits}
 use Rattle.run_packets.proofs.native.Sets.{within}
 use Rattle.run_packets.specs.native.Laws.{BringsNoBadLog, NamesNoStranger}
 use Rattle.wire.specs.declared.lists.Reading.{Reading}

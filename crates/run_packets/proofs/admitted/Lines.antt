@@ -21,8 +21,8 @@ use Rattle.refinement.specs.Guards.{TellNothing, TellsNothing}
 use Rattle.request_queue.specs.Queue.{goes_again, oldest}
 use Rattle.request_queue.specs.declared.request.Request.{Request}
 use Rattle.run_history.proofs.Lists.{both, mapped}
-use Rattle.run_requests.proofs.Carried.{IsMute}
-use Rattle.run_requests.proofs.Mute.{first_mute, last_mute}
+use Rattle.run_commands.proofs.carried.Carried.{IsMute}
+use Rattle.run_commands.proofs.carried.Mute.{first_mute, last_mute}
 use Rattle.seize.specs.Answers.{Answer}
 use Rattle.status_report.specs.declared.node_entry.DownCause.{DownCause}
 use Rattle.wire.specs.declared.message.Body.{Body}

@@ -45,8 +45,8 @@ use Rattle.request_queue.specs.Queue.{goes_again, oldest}
 use Rattle.request_queue.specs.declared.request.Request.{Request}
 use Rattle.run_history.proofs.Changes.{At}
 use Rattle.run_history.proofs.Lists.{both, mapped}
-use Rattle.run_requests.proofs.Carried.{IsMute}
-use Rattle.run_requests.proofs.Mute.{first_mute, last_mute}
+use Rattle.run_commands.proofs.carried.Carried.{IsMute}
+use Rattle.run_commands.proofs.carried.Mute.{first_mute, last_mute}
 use Rattle.pgr_device.specs.declared.command.PrAnswer.TheVariants as given
 use Rattle.seize.specs.Answers.{Answer}
 use Rattle.update_log.specs.Logs.{config_after}

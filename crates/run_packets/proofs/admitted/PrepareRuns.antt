@@ -23,7 +23,7 @@ use Rattle.run_history.specs.Happenings.{Arrives, Begins, Commanded, Commands, H
 use Rattle.run_history.specs.Scenes.{Scene, adding, dropped_so, first_scene, telling, with_links}
 use Rattle.run_history.specs.Stages.{Stage}
 use Rattle.run_messages.proofs.Reaching.{IsReached, IsSmall, stage_of}
-use Rattle.run_records.proofs.Sizes.{header_sized}
+use Rattle.run_messages.proofs.records.Sizes.{header_sized}
 use Rattle.run_seizings.proofs.Moments.{plain_sent}
 use Rattle.history.specs.Moment.{Said}
 use Rattle.schedule_text.specs.declared.event.Event.{Event}

@@ -12,7 +12,7 @@ use Rattle.node_model.specs.declared.cluster.Cluster.{Cluster}
 use Rattle.node_model.specs.declared.input.Input.{Input}
 use Rattle.node_model.specs.declared.input.Input.TheVariants as input
 use Rattle.node_model.specs.declared.node.Node.{Node}
-use Rattle.node_widths.specs.Widths.{BodyFits}
+use Rattle.refinement.specs.node_widths.Widths.{BodyFits}
 use Rattle.pgr_device.specs.Device.{Device}
 use Rattle.pgr_device.specs.declared.command.PrCommand.{PrCommand}
 use Rattle.pgr_device.specs.declared.command.PrCommand.TheVariants as command
@@ -27,10 +27,10 @@ use Rattle.run_history.specs.Scenes.{Scene, adding, dropped_so, first_scene, tel
 use Rattle.run_history.specs.Stages.{Stage}
 use Rattle.run_history.specs.Wholes.{IsWhole}
 use Rattle.run_messages.proofs.Reaching.{IsReached, IsSmall, stage_of, taking_good}
-use Rattle.run_records.proofs.Arms.{After, after_command, due_keeps}
-use Rattle.run_records.proofs.Runs.{run_known}
-use Rattle.run_records.proofs.Sizes.{header_sized}
-use Rattle.run_records.specs.Kept.{KnownScene}
+use Rattle.run_messages.proofs.records.Arms.{After, after_command, due_keeps}
+use Rattle.run_messages.proofs.records.Runs.{run_known}
+use Rattle.run_messages.proofs.records.Sizes.{header_sized}
+use Rattle.run_messages.specs.records.Kept.{KnownScene}
 use Rattle.run_seizings.proofs.Moments.{due_low, due_own, plain_no, plain_sent}
 use Rattle.run_seizings.proofs.Steps.{Ground, OwnKeysOnly, answer_may, ground_of, plain_may}
 use Rattle.refinement.proofs.Worlds.{all_found}

@@ -13,7 +13,7 @@ use Rattle.device_queue.specs.declared.task.Work.{Work}
 use Rattle.device_queue.specs.declared.task.Work.TheVariants as work
 use Rattle.node_model.specs.Attempts.{is_to_join, joining_from, joining_with}
 use Rattle.node_model.specs.declared.cluster.Cluster.{Cluster}
-use Rattle.node_widths.specs.Widths.{AnswerFits}
+use Rattle.refinement.specs.node_widths.Widths.{AnswerFits}
 use Rattle.pgr_device.specs.declared.command.PrAnswer.TheVariants as given
 use Rattle.run_history.proofs.Lists.{both, found}
 use Rattle.run_history.specs.Guards.{HasEnded}

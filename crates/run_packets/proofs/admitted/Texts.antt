@@ -53,11 +53,11 @@ use Rattle.run_commands.proofs.ReadRequesting as reading
 use Rattle.run_commands.proofs.Readings as readings
 use Rattle.run_commands.specs.Reads.{ActReads, AllSo, BodySo, CameSo, ChangeReads, GoesRead, IsRead, OfficeReads, OwnReplies, ReadsIn, RequestRead}
 use Rattle.run_history.proofs.Lists.{both, mapped}
-use Rattle.run_requests.proofs.Carried.{IsMute}
-use Rattle.run_requests.proofs.Commands.{command_at, read_text}
-use Rattle.run_requests.proofs.Courses as asks
-use Rattle.run_requests.proofs.Mute.{first_mute, last_mute}
-use Rattle.run_requests.specs.Guards.{ActAsk, BodyAsk, Command, GoesAsk, OutputAsk, hand_act, hand_change, pair_of}
+use Rattle.run_commands.proofs.carried.Carried.{IsMute}
+use Rattle.run_commands.proofs.carried.Commands.{command_at, read_text}
+use Rattle.run_commands.proofs.carried.Courses as asks
+use Rattle.run_commands.proofs.carried.Mute.{first_mute, last_mute}
+use Rattle.run_commands.specs.carried.Guards.{ActAsk, BodyAsk, Command, GoesAsk, OutputAsk, hand_act, hand_change, pair_of}
 use Rattle.seize.specs.Answers.{Answer}
 use Rattle.seize.specs.Seizing as seizing
 use Rattle.status_report.specs.declared.node_entry.DownCause.{DownCause}

@@ -15,7 +15,7 @@ use Rattle.node_model.specs.Ticks.{later}
 use Rattle.node_model.specs.declared.cluster.Cluster.{Cluster}
 use Rattle.node_model.specs.declared.node.UpNode.{UpNode}
 use Rattle.run_attempts.proofs.Ages.{none_at_boot}
-use Rattle.node_widths.proofs.Sets.{nodes_where}
+use Rattle.refinement.proofs.node_widths.Sets.{nodes_where}
 use Rattle.run_attempts.proofs.Sets.{has_where}
 use Rattle.wire.specs.declared.message.Body.{Body}
 use Rattle.run_packets.specs.native.Named.{InNodes, UpNamed}

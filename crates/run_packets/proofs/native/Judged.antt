@@ -8,7 +8,7 @@ use Rattle.cmm_attempt.proofs.Basics.{false_true}
 use Rattle.node_model.specs.Members.{is_foreign_seizing, is_strange}
 use Rattle.node_model.specs.declared.node.Node.{Node}
 use Rattle.node_model.specs.declared.node.Node.TheVariants.{Down, Up}
-use Rattle.node_widths.specs.Widths.{BodyFits}
+use Rattle.refinement.specs.node_widths.Widths.{BodyFits}
 use Rattle.wire.specs.declared.message.Body.{Body}
 use Rattle.wire.specs.declared.message.Body.TheVariants as body
 use Rattle.world_model.specs.First.{first_cluster}

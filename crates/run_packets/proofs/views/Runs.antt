@@ -21,7 +21,7 @@ use Rattle.machine_base.specs.Put.{put}
 use Rattle.machine_base.proofs.Puts.{put_here, put_there, same_or_not}
 use Rattle.membership_machine.specs.Invariant.{Holds}
 use Rattle.membership_machine.specs.State.{Memberships}
-use Rattle.node_widths.specs.Widths.{NodeFits, UpFits}
+use Rattle.refinement.specs.node_widths.Widths.{NodeFits, UpFits}
 use Rattle.node_model.specs.Members.{beat_in}
 use Rattle.node_model.specs.Steps.{Outcome, stepped}
 use Rattle.node_model.specs.declared.cluster.Cluster.{Cluster}
@@ -59,7 +59,7 @@ use Rattle.run_history.specs.Happenings.{Arrives, Begins as Begins_part, Command
 use Rattle.run_history.specs.Scenes.{Scene, adding, dropped_so, first_scene, passing, telling, with_links}
 use Rattle.run_messages.proofs.Reaching.{IsReached, IsSmall}
 use Rattle.run_messages.proofs.Spelling.{spelled_of_each_run}
-use Rattle.run_records.specs.Kept.{KnownScene}
+use Rattle.run_messages.specs.records.Kept.{KnownScene}
 use Rattle.schedule_text.specs.declared.event.Event.{Event}
 use Rattle.schedule_text.specs.declared.event.Event.TheVariants as event
 use Rattle.schedule_text.specs.declared.line.Line.TheVariants as line

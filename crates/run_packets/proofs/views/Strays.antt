@@ -9,8 +9,8 @@ use Rattle.history.specs.Names.{named}
 use Rattle.interconnect.specs.Links.{Packet, packet_of}
 use Rattle.node_model.specs.declared.cluster.Cluster.{Cluster}
 use Rattle.run_history.specs.Scenes.{Scene}
-use Rattle.run_records.proofs.Bytes.{found_bytes}
-use Rattle.run_records.specs.Kept.{KnownScene}
+use Rattle.run_messages.proofs.records.Bytes.{found_bytes}
+use Rattle.run_messages.specs.records.Kept.{KnownScene}
 use Rattle.status_report.specs.declared.entry.Entry.TheVariants as entry
 use Rattle.status_report.specs.declared.packet_entry.PacketEntry.{PacketEntry}
 use Rattle.status_report.specs.declared.packet_entry.PacketEntry.TheVariants as packet

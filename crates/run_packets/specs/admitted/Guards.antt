@@ -8,7 +8,7 @@ use Rattle.cmm_attempt.specs.declared.step.Step.TheVariants as step
 use Rattle.node_model.specs.Seats.{state_of}
 use Rattle.node_model.specs.declared.cluster.Cluster.{Cluster}
 use Rattle.node_model.specs.declared.node.UpNode.{UpNode}
-use Rattle.node_widths.specs.Widths.{AnswerFits}
+use Rattle.refinement.specs.node_widths.Widths.{AnswerFits}
 use Rattle.node_model.specs.declared.output.Output.{Output}
 use Rattle.node_model.specs.declared.output.Output.TheVariants.{Sends, Tells}
 use Rattle.node_model.specs.declared.presidency.Presidency.{Presidency}

@@ -1,5 +1,0 @@
-use Rattle.run_answers.proofs.Laws as proof
-use Rattle.run_answers.proofs.asked_of_each_run.Goals as goal
-
-pub returns : goal.returns
-returns c = proof.asked_of_each_run

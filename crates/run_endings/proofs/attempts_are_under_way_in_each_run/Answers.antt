@@ -1,5 +1,0 @@
-use Rattle.run_endings.proofs.Runs as proof
-use Rattle.run_endings.proofs.attempts_are_under_way_in_each_run.Goals as goal
-
-pub returns : goal.returns
-returns c = proof.attempts_are_under_way_in_each_run

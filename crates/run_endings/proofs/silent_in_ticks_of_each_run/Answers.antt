@@ -1,5 +1,0 @@
-use Rattle.run_endings.proofs.Runs as proof
-use Rattle.run_endings.proofs.silent_in_ticks_of_each_run.Goals as goal
-
-pub returns : goal.returns
-returns c = proof.silent_in_ticks_of_each_run

@@ -1,0 +1,5 @@
+use Rattle.run_messages.proofs.records.Runs as proof
+use Rattle.run_messages.proofs.records_of_each_run.Goals as goal
+
+pub returns : goal.returns
+returns c = proof.records_of_each_run

@@ -1,5 +1,0 @@
-use Rattle.run_rounds.proofs.Runs as proof
-use Rattle.run_rounds.proofs.parts_of_each_run.Goals as goal
-
-pub returns : goal.returns
-returns c = proof.parts_of_each_run

@@ -1,5 +1,0 @@
-use Rattle.run_taken.proofs.Laws as proof
-use Rattle.run_taken.proofs.clients_are_answered_in_each_run.Goals as goal
-
-pub returns : goal.returns
-returns c = proof.clients_are_answered_in_each_run

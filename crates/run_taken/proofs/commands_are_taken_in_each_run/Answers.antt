@@ -1,5 +1,0 @@
-use Rattle.run_taken.proofs.Laws as proof
-use Rattle.run_taken.proofs.commands_are_taken_in_each_run.Goals as goal
-
-pub returns : goal.returns
-returns c = proof.commands_are_taken_in_each_run

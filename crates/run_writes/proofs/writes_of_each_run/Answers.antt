@@ -1,5 +1,0 @@
-use Rattle.run_writes.proofs.Runs as proof
-use Rattle.run_writes.proofs.writes_of_each_run.Goals as goal
-
-pub returns : goal.returns
-returns c = proof.writes_of_each_run
