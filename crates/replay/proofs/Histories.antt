@@ -43,6 +43,9 @@ use Rattle.run_packets.proofs.native.Boots.{boots_are_of_the_header}
 use Rattle.run_outcomes.proofs.results.Runs.{results_of_each_run}
 use Rattle.run_owed.proofs.repeats.Runs.{prepares_again_of_each_run}
 use Rattle.run_owed.proofs.replies.Runs.{orders_are_answered_in_each_run}
+use Rattle.run_owed.proofs.replies.Collects.{collects_are_answered_in_each_run}
+use Rattle.run_owed.proofs.replies.Prepares.{prepares_are_answered_in_each_run}
+use Rattle.run_owed.proofs.waiting.Runs.{requests_of_each_run}
 use Rattle.order_laws.specs.Laws.{ToldCyclesHaveNames}
 use Rattle.run_lines.proofs.writes.Runs.{writes_of_each_run}
 use Rattle.run_lines.specs.rounds.Laws.{AsksSome}
@@ -146,6 +149,9 @@ told_trace cycles h events text p header disks asks named is told =
       prepares = owed.prepares_of_each_run h 65536 told.happenings (setting_of h) header.devices header.cluster_high refl told.may told.shaped;
       prepares_again = prepares_again_of_each_run h 65536 told.happenings (setting_of h) header.devices header.cluster_high refl told.may told.shaped;
       orders_answered = orders_are_answered_in_each_run h 65536 told.happenings (setting_of h) header.devices header.cluster_high refl told.may told.shaped;
+      collects_answered = collects_are_answered_in_each_run h 65536 told.happenings (setting_of h) nodes header.devices header.cluster_high refl told.may told.shaped boots;
+      prepares_answered = prepares_are_answered_in_each_run h 65536 told.happenings (setting_of h) header.devices header.cluster_high refl told.may told.shaped;
+      requests = λ few short. requests_of_each_run h 65536 told.happenings (setting_of h) header.devices header.cluster_high refl told.may told.shaped few short;
       links = links.run;
       no_drop_due = links.due;
       devices = devices.run;

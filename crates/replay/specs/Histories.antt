@@ -48,11 +48,12 @@ use Rattle.run_outcomes.specs.exclusions.Laws.{EndsExcluded}
 use Rattle.run_outcomes.specs.results.Laws.{NamesShown}
 use Rattle.run_owed.specs.prepares.Laws.{HasPrepares, IsOfOne}
 use Rattle.run_owed.specs.repeats.Laws.{HasPreparesAgain}
-use Rattle.run_owed.specs.replies.Laws.{HasDone}
+use Rattle.run_owed.specs.replies.Laws.{HasDone, HasPrepared, HasPromiseOrNack}
+use Rattle.run_owed.specs.waiting.Laws.{CommandsAreShort, HasRequests}
 use Rattle.run_devices.specs.queues.Laws.{IsDone}
 use Rattle.run_devices.specs.readings.Laws.{BringsWhatWasRead, SaysWhatWasRead}
 use Rattle.run_commands.specs.taken.Laws.{ClientIsAnswered}
-use Rattle.run_packets.specs.admitted.Laws.{BeginsAsWanted}
+use Rattle.run_packets.specs.admitted.Laws.{BeginsAsHistory}
 use Rattle.replay.specs.Sessions.{first_so_far}
 use Rattle.replay.specs.Outcomes.{pieces}
 use Rattle.replay.specs.Replays.{OfCluster, OfDevice, Schedule, entries, schedule_of, texts_of}
@@ -62,11 +63,12 @@ use Rattle.replay.specs.Replays.{OfCluster, OfDevice, Schedule, entries, schedul
 -- which `run_lines` says nothing); a write of a node that is up is refused for the cause that is due, or comes to what
 -- the device answers; the parts of rounds come in their order; a `disk` line at a node whose tasks are told does the
 -- command that is due; a client's request is served by a president, or skipped; the entries of an event are one node's;
--- a proposal has its Prepares, which go again, and an Order is answered; the links and the devices do what their lines
--- say, each start has its base, what was acknowledged is kept, no device takes a write of a node that a greater
--- membership left out, a node installs, is ready, is a member and has prepared by the messages that tell of it, and a
--- membership starts with a majority of the votes under its base and with devices that were seized for it, as its
--- coordinator knew. The bytes of each message spell it: a Promise and an Install show the record of their sender, a
+-- a proposal has its Prepares, which go again, an Order, a Collect and a Prepare are answered, and a command goes to
+-- the president as it becomes the oldest that waits, where it is no longer than a line; the links and the devices do
+-- what their lines say, each start has its base, what was acknowledged is kept, no device takes a write of a node that
+-- a greater membership left out, a node installs, is ready, is a member and has prepared by the messages that tell of
+-- it, and a membership starts with a majority of the votes under its base and with devices that were seized for it, as
+-- its coordinator knew. The bytes of each message spell it: a Promise and an Install show the record of their sender, a
 -- Promise the devices that are valid to it, the newest in hand is installed and is the base, a Seized and an Install
 -- bring what was read by the one node that seized the device, an Install tells no other, and a Heartbeat says who is a
 -- member, is sent in a tick and to whom it is due. An attempt begins in a tick of its coordinator, exactly with the
@@ -97,6 +99,9 @@ pub record IsTrace (h : Header) (events : List Event) (text : List ℕ) : Type 0
   pub prepares : EachEvent (HasPrepares (setting_of h)) moments
   pub prepares_again : EachEvent (HasPreparesAgain (setting_of h)) moments
   pub orders_answered : EachEvent (HasDone (setting_of h)) moments
+  pub collects_answered : EachEvent (HasPromiseOrNack (setting_of h)) moments
+  pub prepares_answered : EachEvent (HasPrepared (setting_of h)) moments
+  pub requests : length (lines_of moments) < 2 ^ 63 → CommandsAreShort moments → EachEvent (HasRequests (setting_of h)) moments
   pub links : Links 65536 moments
   pub no_drop_due : drop_due 65536 moments ≡ None
   pub devices : DeviceRun h moments
@@ -120,7 +125,7 @@ pub record IsTrace (h : Header) (events : List Event) (text : List ℕ) : Type 0
   pub heartbeats : Heartbeats moments
   pub beats_in_ticks : Always BeatsInTick moments
   pub beats_due : Always (BeatIsDue (setting_of h)) moments
-  pub attempts_begin : Always (BeginsAsWanted (setting_of h)) moments
+  pub attempts_begin : Always (BeginsAsHistory (setting_of h)) moments
   pub installs_bring : Always BringsMembers moments
   pub ends_under_way : Always EndsUnderWay moments
   pub superseded : Always IsSuperseded moments
