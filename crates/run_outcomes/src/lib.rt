@@ -10,6 +10,7 @@
 //! - `panics`: which nodes panic since an attempt excluded them. An attempt that excludes its own coordinator makes it panic; another node is told by an
 //!   Excluded, at which it panics only while it is in the session of that attempt.
 //! - `saves`, `stops`: where nodes stop, only in a save that the rules let them make there.
+//! - `phases`: how far the attempt of a coordinator is, as the lines tell it.
 //!
 //! Each function here is a law. It has no body, and its contract is proved of every header, every list of lines, everything that happens and
 //! all agents.
