@@ -267,15 +267,15 @@ call_fits s (Own_seized d r) i = walks Fits Fits (After Fits) s (Own_seized d r)
 call_fits s Own_ready i = walks Fits Fits (After Fits) s Own_ready (plain_walk Own_ready tt) i
 call_fits s Tick i = walks Fits Fits (After Fits) s Tick (plain_walk Tick tt) i
 
-run_packets : (s : AttemptState) (calls : List Call) (t : AttemptState) → Run s calls t → Fits s → Fits t
-run_packets s [] t run i = subst Fits (sym run) i
-run_packets s (c ∷ calls) t run i = run_packets (turn s c).after calls t run.1 (call_fits s c i)
+run_fits : (s : AttemptState) (calls : List Call) (t : AttemptState) → Run s calls t → Fits s → Fits t
+run_fits s [] t run i = subst Fits (sym run) i
+run_fits s (c ∷ calls) t run i = run_fits (turn s c).after calls t run.1 (call_fits s c i)
 
 reached_fits : (s : AttemptState) → IsReached s → Fits s
 unfolding beginning
 reached_fits s r =
     let first : AttemptState = first_state r.p r.members r.own r.attached r.cluster (promises_of (promised_by r.own (shown_by r.own.sender r.own.body))) in
-    run_packets (beginning r.p r.members r.own r.attached r.cluster).after r.calls s r.run
+    run_fits (beginning r.p r.members r.own r.attached r.cluster).after r.calls s r.run
     (walks_begun Tick Fits Fits (After Fits) (plain_walk Tick tt) first refl (λ both given. absurd (none_some both given)))
 
 pub plain_has_no_votes : PlainHasNoVotes

@@ -16,7 +16,7 @@ use Rattle.pgr_device.specs.Access.{same_kind}
 use Rattle.pgr_device.specs.Device.{Device, fresh, with_keys}
 use Rattle.pgr_device.specs.Kept.{IsApart, IsHeld, IsDevice}
 use Rattle.pgr_device.specs.Registered.{registered_key, is_registered, has_key, without_node, without_key, rekeyed}
-use Rattle.pgr_device.specs.Runs.{run, run_commands, IsRun}
+use Rattle.pgr_device.specs.Runs.{run, run_answers, IsRun}
 use Rattle.pgr_device.specs.Spc.{Outcome, answers, good, conflict, with_key, released_by, shows_key, reserving, releasing, cleared, is_holders, preempted, preempting, swapping, may_read, may_write, carried_out, step}
 use Rattle.pgr_device.specs.Statements.{RegisteredOnce, RegisteredWithPath, NoZeroKey, HolderIsRegistered}
 use Rattle.pgr_device.proofs.FirstKeys.{with_keys_is}
@@ -171,7 +171,7 @@ loss_after d [] later = refl
 loss_after d (Command node c ∷ steps) later = loss_after (step d node c).after steps later
 loss_after d (PowerLoss ∷ steps) later = loss_after d steps later
 
-pub loss_answers : (d : Device) (steps later : List Step) → run_commands d (steps ++ PowerLoss ∷ later) ≡ run_commands d (steps ++ later)
+pub loss_answers : (d : Device) (steps later : List Step) → run_answers d (steps ++ PowerLoss ∷ later) ≡ run_answers d (steps ++ later)
 loss_answers d [] later = refl
 loss_answers d (Command node c ∷ steps) later = ap (λ (rest : List PrAnswer). (step d node c).answer ∷ rest) (loss_answers (step d node c).after steps later)
 loss_answers d (PowerLoss ∷ steps) later = loss_answers d steps later

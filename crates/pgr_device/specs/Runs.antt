@@ -15,10 +15,10 @@ run d (Command node command ∷ steps) = run (step d node command).after steps
 run d (PowerLoss ∷ steps) = run d steps
 
 -- the answers to the commands, in order
-abbrev pub run_commands : Device → List Step → List PrAnswer
-run_commands d [] = []
-run_commands d (Command node command ∷ steps) = (step d node command).answer ∷ run_commands (step d node command).after steps
-run_commands d (PowerLoss ∷ steps) = run_commands d steps
+abbrev pub run_answers : Device → List Step → List PrAnswer
+run_answers d [] = []
+run_answers d (Command node command ∷ steps) = (step d node command).answer ∷ run_answers (step d node command).after steps
+run_answers d (PowerLoss ∷ steps) = run_answers d steps
 
 -- the senders are nodes, and each PREEMPT names a victim's key
 abbrev pub IsRun : List Step → Type 0

@@ -6,7 +6,7 @@ ghost use Rattle.cl_base.specs.Sets.{has};
 ghost use Rattle.pgr_device.specs.Device.{Device, fresh, with_keys};
 ghost use Rattle.pgr_device.specs.Statements.{RegisteredOnce, RegisteredWithPath, NoZeroKey, HolderIsRegistered};
 ghost use Rattle.pgr_device.specs.Registered.{is_registered};
-ghost use Rattle.pgr_device.specs.Runs.{run, run_commands};
+ghost use Rattle.pgr_device.specs.Runs.{run, run_answers};
 ghost use Rattle.pgr_device.specs.Spc.{step};
 ghost use Rattle.pgr_device.specs.declared.command.PrAnswer.TheVariants as answer;
 ghost use Rattle.pgr_device.specs.declared.command.PrCommand.TheVariants as command;
@@ -44,5 +44,5 @@ pub fn registrants_write()
 /// A loss of power changes nothing, wherever it comes.
 pub fn power_loss_changes_nothing()
     ensures after { (d : Device) (steps later : List Step) → run d (steps ++ PowerLoss ∷ later) ≡ run d (steps ++ later) }
-    ensures answers { (d : Device) (steps later : List Step) → run_commands d (steps ++ PowerLoss ∷ later) ≡ run_commands d (steps ++ later) }
+    ensures answers { (d : Device) (steps later : List Step) → run_answers d (steps ++ PowerLoss ∷ later) ≡ run_answers d (steps ++ later) }
 {}

@@ -1,5 +1,5 @@
 ghost use Rattle.std.specs.Prelude.{◌≡◌, [], ◌∷◌, IfOk, OnErr, option_to_list};
-ghost use Rattle.pgr_device.specs.Runs.{run, run_commands, IsRun, IsRunInPart};
+ghost use Rattle.pgr_device.specs.Runs.{run, run_answers, IsRun, IsRunInPart};
 
 use crate::command::{PrAnswer, PrCommand};
 use crate::device::Pgr;
@@ -21,7 +21,7 @@ impl Pgr {
     #[tactic(auto, using(crate::proofs::RunParts::in_part))]
     pub fn run(&mut self, alloc: Global, steps: &[Step]) -> Result<Vec<PrAnswer>, AllocError>
         requires { IsRun steps.now }
-        ensures answers { IfOk result (λ answers. answers.items ≡ run_commands self.old steps.now) }
+        ensures answers { IfOk result (λ answers. answers.items ≡ run_answers self.old steps.now) }
         ensures after { IfOk result (λ _. self.new ≡ run self.old steps.now) }
         ensures part { OnErr result (IsRunInPart self.old steps.now self.new) }
     {
@@ -37,7 +37,7 @@ impl Pgr {
     /// Takes one step, and gives the answer to a command.
     fn take(&mut self, step: Step) -> Option<PrAnswer>
         requires { IsRun (step ∷ []) }
-        ensures answer { option_to_list result ≡ run_commands self.old (step ∷ []) }
+        ensures answer { option_to_list result ≡ run_answers self.old (step ∷ []) }
         ensures after { self.new ≡ run self.old (step ∷ []) }
     {
         match step {

@@ -193,8 +193,8 @@ fits_moves : (c : Cluster) → ClusterFits c → (v : Nodes) (moves : List Move)
 fits_moves c fits v [] w run time h = subst (RunFits c) (sym run) h
 fits_moves c fits v (m ∷ moves) w run time h = fits_moves c fits (moved c v m) moves w run.1 time.1 (fits_move c fits v m run.0 time.0 h)
 
-run_packets : (c : Cluster) → ClusterFits c → (moves : List Move) (w : Nodes) → Moves c (first_nodes c) moves w → AllByRecursion InTime moves → RunFits c w
-run_packets c fits moves w run time = fits_moves c fits (first_nodes c) moves w run time (record {
+run_fits : (c : Cluster) → ClusterFits c → (moves : List Move) (w : Nodes) → Moves c (first_nodes c) moves w → AllByRecursion InTime moves → RunFits c w
+run_fits c fits moves w run time = fits_moves c fits (first_nodes c) moves w run time (record {
   nodes = λ n. tt;
   disks = λ n. record { promised = none_fits; installed = none_fits; members = omega arith; valid = first_valid_fits c n fits.devices; places = none_fits };
   sent = tt;
@@ -207,7 +207,7 @@ all_spelled n (Sends to b ∷ os) is h = (h.0, λ short. sent_messages_fit (reco
 
 pub gives_fit : (c : Cluster) → ClusterFits c → GivesFit c
 gives_fit c fits moves v n now ends i run times time may =
-    all_spelled n (stepped disk_rules c n now ends (v.node n) (v.disk n) i).given (may.0, may.1) (move_fits c fits v n now ends i may time (run_packets c fits moves v run times)).given
+    all_spelled n (stepped disk_rules c n now ends (v.node n) (v.disk n) i).given (may.0, may.1) (move_fits c fits v n now ends i may time (run_fits c fits moves v run times)).given
 
 -- The command that is due.
 
@@ -257,6 +257,6 @@ node_there (Some node) d k P e f = f node refl
 
 pub devices_fit : (c : Cluster) → ClusterFits c → c.id < 2 ^ 32 → DevicesFit c
 devices_fit c fits small w n d k device h low is f =
-    let r : RunFits c h.nodes = run_packets c fits h.moves h.nodes h.run h.in_time in
+    let r : RunFits c h.nodes = run_fits c fits h.moves h.nodes h.run h.in_time in
     let high : n ≤ 32 = node_there (node_at w n) d k (n ≤ 32) is (λ node at. number_low n (length w.nodes) low (slice_get_within w.nodes (n - 1) node at) h.shows.few) in
     command_keeps device n k low high (node_due c n d k (node_at w n) small high (λ node at. subst (NodeFits c n) (h.shows.node n node low at) (r.nodes n)) is) f

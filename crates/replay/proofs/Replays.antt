@@ -4,7 +4,7 @@ use Rattle.std.proofs.lemmas.Bool.Decides.{nat_tests}
 use Rattle.std.specs.List.{flat_map}
 use Rattle.agents.specs.Calls.{AgentState}
 use Rattle.pgr_device.specs.Device.{Device, fresh}
-use Rattle.pgr_device.specs.Runs.{run_commands}
+use Rattle.pgr_device.specs.Runs.{run_answers}
 use Rattle.pgr_device.specs.Spc as spc
 use Rattle.pgr_device.specs.declared.run.Step.{Step}
 use Rattle.pgr_device.specs.declared.run.Step.TheVariants.{Command, PowerLoss}
@@ -35,7 +35,7 @@ use Rattle.replay.specs.Sessions.{clustered, clustered_by, first_so_far, moved, 
 use Rattle.replay.specs.Outcomes.{Open, TooLarge, Outcome, outcome, silent, onward, is_too_large, at_end, end_of}
 use Rattle.replay.specs.Replays.{Completes, TellsSchedule, events_of, texts_of, with_event, entries, answers_among, steps_of, with_line, schedule_of, stepped, behind}
 
-pub answers_are : (d : Device) (steps : List Step) → answers_among (entries d steps) ≡ run_commands d steps
+pub answers_are : (d : Device) (steps : List Step) → answers_among (entries d steps) ≡ run_answers d steps
 answers_are d [] = refl
 answers_are d (Command node command ∷ steps) = ap (λ answers. (spc.step d node command).answer ∷ answers) (answers_are (spc.step d node command).after steps)
 answers_are d (PowerLoss ∷ steps) = answers_are d steps

@@ -3,7 +3,7 @@
 ghost use Rattle.std.specs.Prelude.{◌≡◌, ◌≤◌, ◌+◌, true, Bool, List, ℕ};
 ghost use Rattle.agents.specs.Calls.{AgentState};
 ghost use Rattle.pgr_device.specs.Device.{Device};
-ghost use Rattle.pgr_device.specs.Runs.{run_commands};
+ghost use Rattle.pgr_device.specs.Runs.{run_answers};
 ghost use Rattle.pgr_device.specs.declared.run.Step.{Step};
 ghost use Rattle.schedule_gen.specs.Events.{events_from};
 ghost use Rattle.schedule_gen.specs.Grammar.{four_nodes};
@@ -32,7 +32,7 @@ pub fn made_schedule_is_read_to_its_end()
 
 /// The answers among these lines are those that the device gives to the commands.
 pub fn entries_have_the_answers()
-    ensures { (d : Device) (steps : List Step) → answers_among (entries d steps) ≡ run_commands d steps }
+    ensures { (d : Device) (steps : List Step) → answers_among (entries d steps) ≡ run_answers d steps }
 {}
 
 /// Nothing but want of memory stops a whole schedule. One that is in the grammar and within the limits

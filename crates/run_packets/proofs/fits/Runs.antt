@@ -192,16 +192,16 @@ first_fits h cells size =
     none_below : 0 < 0 → ⊥
     none_below e = omega (arith, e)
 
-run_packets : (h : Header) (cells : ℕ) (s : Scene) (hs : List Happening) → h.nodes ≤ 32 → IsSmall h → IsReached h cells s → MayAllHappen (first_cluster h) s hs → AllByRecursion (BootsInHeader h) hs → SceneNamed (first_cluster h) s
+run_fits : (h : Header) (cells : ℕ) (s : Scene) (hs : List Happening) → h.nodes ≤ 32 → IsSmall h → IsReached h cells s → MayAllHappen (first_cluster h) s hs → AllByRecursion (BootsInHeader h) hs → SceneNamed (first_cluster h) s
     → Fitting (first_cluster h) s.nodes s.moments → (let t : Scene = all_happened (first_cluster h) s hs in Fitting (first_cluster h) t.nodes t.moments)
-run_packets h cells s [] few size at may boots named f = f
-run_packets h cells s (x ∷ hs) few size at may boots named f =
+run_fits h cells s [] few size at may boots named f = f
+run_fits h cells s (x ∷ hs) few size at may boots named f =
     let c : Cluster = first_cluster h in
     let next : IsReached h cells (happened c s x) = reached_more c (first_scene h cells) s x at may.0 in
     let b : Known h s x = record { stage = stage_of h cells s size at; whole = whole_at h cells s size at; next = stage_of h cells (happened c s x) size next } in
-    run_packets h cells (happened c s x) hs few size next may.1 boots.1 (happening_named h s x few size may.0 boots.0 b named) (happening_fits c s x (sized h size) may.0 named f)
+    run_fits h cells (happened c s x) hs few size next may.1 boots.1 (happening_named h s x few size may.0 boots.0 b named) (happening_fits c s x (sized h size) may.0 named f)
 
 pub no_disk_fails_in_each_run : NoDiskFailsInEachRun
 no_disk_fails_in_each_run h cells hs nodes few small may boots short =
     let size : IsSmall h = record { few = few; small = small } in
-    ((run_packets h cells (first_scene h cells) hs nodes size (record { happenings = []; may = tt; is = refl }) may boots (first_named h cells) (first_fits h cells size)).disks short).none
+    ((run_fits h cells (first_scene h cells) hs nodes size (record { happenings = []; may = tt; is = refl }) may boots (first_named h cells) (first_fits h cells size)).disks short).none

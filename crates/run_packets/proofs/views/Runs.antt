@@ -279,9 +279,9 @@ each : (P Q : List Moment → Moment → Type 0) (ms : List Moment) → ((before
 each P Q [] f h = tt
 each P Q (x ∷ before) f h = (f before x h.0, each P Q before f h.1)
 
-run_packets : (h : Header) (cells : ℕ) (hs : List Happening) (f : Account) → length h.devices ≤ most_devices → h.cluster < 2 ^ 32 → MayAllHappen (first_cluster h) (first_scene h cells) hs
+run_views : (h : Header) (cells : ℕ) (hs : List Happening) (f : Account) → length h.devices ≤ most_devices → h.cluster < 2 ^ 32 → MayAllHappen (first_cluster h) (first_scene h cells) hs
     → IsAccountOf (first_cluster h) (first_scene h cells) hs f → AllViews (setting_of h) f (all_happened (first_cluster h) (first_scene h cells) hs).moments
-run_packets h cells hs f few small may tells =
+run_views h cells hs f few small may tells =
     (run_on h cells f (first_scene h cells) hs (record { few = few; small = small }) (record { happenings = []; may = tt; is = refl }) may tells (first_heard h cells f)).so
 
 pub each_run_has_an_account : EachRunHasAnAccount
@@ -289,7 +289,7 @@ each_run_has_an_account h cells hs = record { foreign = account_of (first_cluste
 
 pub views_in_each_run : ViewsOfEachRun
 views_in_each_run h cells hs f few small may tells =
-    each (Judged (setting_of h) f) (ViewIs (setting_of h) f) (all_happened (first_cluster h) (first_scene h cells) hs).moments (λ before x j. j.view) (run_packets h cells hs f few small may tells)
+    each (Judged (setting_of h) f) (ViewIs (setting_of h) f) (all_happened (first_cluster h) (first_scene h cells) hs).moments (λ before x j. j.view) (run_views h cells hs f few small may tells)
 
 pub plain_views_where_none_is_foreign : PlainViewsWhereNoneIsForeign
 plain_views_where_none_is_foreign h cells hs few small may none =
@@ -299,4 +299,4 @@ pub none_begins_alone_in_each_run : NoneBeginsAloneInEachRun
 none_begins_alone_in_each_run h cells hs few small may =
     let f : Account = account_of (first_cluster h) (first_scene h cells) hs in
     each (Judged (setting_of h) f) (BeginsNotAlone (setting_of h)) (all_happened (first_cluster h) (first_scene h cells) hs).moments (λ before x j. j.alone)
-    (run_packets h cells hs f few small may (is_account (first_cluster h) (first_scene h cells) hs))
+    (run_views h cells hs f few small may (is_account (first_cluster h) (first_scene h cells) hs))
