@@ -1,3 +1,5 @@
+-- what a reader must believe
 pub mod Laws
+-- what only the proofs need
 pub mod Rooms
 pub mod Known
