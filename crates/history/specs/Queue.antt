@@ -30,7 +30,7 @@ use Rattle.history.specs.Trace.{up, down, saved, installed, attempt, ended_votes
 use Rattle.history.specs.Order.{since}
 use Rattle.history.specs.Setting.{Setting, coordinator, nodes_of, all_to, key_of, paths_of}
 use Rattle.history.specs.Letters.{Letter, letter_of, arriving, is_letter, sends, says}
-use Rattle.history.specs.Member.{member_of, members_of, attempt_of, number_of, session_of, in_collect}
+use Rattle.history.specs.Member.{members_of, attempt_of, number_of, session_of, in_collect}
 use Rattle.history.specs.Seizing.{Seizing, is_attempt, is_number, or_else, acts_for, seizing_of}
 use Rattle.history.specs.Validated.{Validity, Valid, Lapsed, Open, validity, is_valid}
 use Rattle.history.specs.Contact.{others}
@@ -300,13 +300,28 @@ is_open Valid = false
 is_open Lapsed = false
 is_open Open = true
 
--- Where a node that stopped in a save coordinates an attempt before it installs again, the trace does not tell its record, or which devices
--- are valid in it. Which tasks of its own the attempt brings is then not said: they are what its device lines show.
+-- Where a node that stopped in a save coordinates an attempt, the trace does not tell its record until it has installed, or which devices are valid
+-- in it. Which tasks of its own the attempt or its install brings is then not said: they are what its device lines show.
 abbrev pub is_untold : Setting → ℕ → Option ℕ → List Moment → Bool
 is_untold S n None moments = false
 is_untold S n (Some e) moments =
-    is_number e (session_of n moments) && not (is_some (member_of n moments))
-    && (not (is_some (own_record e moments)) || list_any (λ d. has (paths_of S.header d) n && is_open (validity S.header n d moments)) (all_to (length S.header.devices)))
+    is_number e (session_of n moments) && is_under_way e moments
+    && ((acts_for n e moments && not (is_some (own_record e moments)))
+    || list_any (λ d. has (paths_of S.header d) n && is_open (validity S.header n d moments)) (all_to (length S.header.devices)))
 
+-- with this moment the tasks of n are dropped, or are others
+abbrev pub clears : ℕ → List Moment → Moment → Bool
+clears n before (up m) = m == n
+clears n before (down m why) = m == n
+clears n before (saved m) = (m == n) && in_collect n before
+clears n before (attempt e members) = coordinator e == n
+clears n before (ended_votes e have need lacking) = coordinator e == n
+clears n before (ended_excluded e m) = coordinator e == n
+clears n before (ended_foreign e m) = coordinator e == n
+clears n before (installed m e) = m == n
+clears n before _ = false
+
+-- from then on, until they are dropped
 abbrev pub queue_is_open : Setting → ℕ → List Moment → Bool
-queue_is_open S n moments = is_untold S n (attempt_of n moments) moments
+queue_is_open S n [] = false
+queue_is_open S n (x ∷ before) = is_untold S n (attempt_of n (x ∷ before)) (x ∷ before) || (queue_is_open S n before && not (clears n before x))
