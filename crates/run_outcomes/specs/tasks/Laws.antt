@@ -1,5 +1,5 @@
 -- What is proved of each run of the world, as things that happen: the tasks of coordinators at shared devices, and with them the device queue of each node.
-use Rattle.std.specs.Prelude.{ℕ, ◌%◌, ◌≡◌, ◌≢◌, ◌<◌, ◌≤◌, ◌^◌, ◌==◌, ◌&&◌, not, Bool, true, false, List, filter, length, map, Option, None, Some}
+use Rattle.std.specs.Prelude.{ℕ, ◌%◌, ◌≡◌, ◌≢◌, ◌<◌, ◌≤◌, ◌^◌, ◌==◌, ◌&&◌, not, Bool, true, false, if◌then◌else◌, List, filter, length, map, Option, None, Some}
 use Rattle.std.specs.List.{AllByRecursion, find, list_any}
 use Rattle.std.specs.Option.{option_and_then}
 use Rattle.attempt_laws.specs.Asking.{entry_of}
