@@ -5,3 +5,4 @@ pub mod panics
 pub mod saves
 pub mod stops
 pub mod phases
+pub mod asks

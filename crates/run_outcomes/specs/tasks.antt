@@ -1,2 +1,6 @@
 -- what a reader must believe
 pub mod Laws
+-- what only the proofs need
+pub mod Asks
+pub mod AsksGiven
+pub mod AsksCourses

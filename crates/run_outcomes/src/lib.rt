@@ -11,6 +11,7 @@
 //!   Excluded, at which it panics only while it is in the session of that attempt.
 //! - `saves`, `stops`: where nodes stop, only in a save that the rules let them make there.
 //! - `phases`: how far the attempt of a coordinator is, as the lines tell it.
+//! - `tasks`: the tasks of coordinators at shared devices: whom an attempt asks to seize quorum devices.
 //!
 //! Each function here is a law. It has no body, and its contract is proved of every header, every list of lines, everything that happens and
 //! all agents.
@@ -23,6 +24,7 @@ ghost use Rattle.run_outcomes.specs.exclusions.Laws.{ExclusionsOfEachRun};
 ghost use Rattle.run_outcomes.specs.panics.Laws.{ExclusionsAreToldInEachRun};
 ghost use Rattle.run_outcomes.specs.saves.Laws.{LetterStopsOfEachRun};
 ghost use Rattle.run_outcomes.specs.stops.Laws.{TickStopsOfEachRun};
+ghost use Rattle.run_outcomes.specs.tasks.Laws.{AsksAreTold};
 ghost use Rattle.run_outcomes.specs.phases.Laws.{CollectorsHaveNothingDue, NoneIsOver, PromisesAreTold, SeizingsAreTold, VotesAreTold};
 
 /// An attempt ends for a foreign member once all have promised, and names the least of its members that is configured neither in the newest
@@ -117,4 +119,10 @@ pub fn seizings_are_told_in_each_run()
 /// one, as far as the trace tells that record; so the quorum devices are those that have votes by it.
 pub fn votes_are_told_in_each_run()
     ensures { VotesAreTold }
+{}
+
+/// Of each quorum device the lines tell which other members an attempt asked to seize it, and which of them last: those that it has asked, and the one whose
+/// answer it has, or waits for. So it is while a packet number is left.
+pub fn asks_are_told_in_each_run()
+    ensures { AsksAreTold }
 {}

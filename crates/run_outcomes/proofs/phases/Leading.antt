@@ -52,14 +52,14 @@ promised_has : (I : AttemptState → Type 0) (x : UpNode) (p : ℕ) (o : Option 
 promised_has I x p None = tt
 promised_has I x p (Some a) = tt
 
-change_has : (I : AttemptState → Type 0) (c : Cluster) (me : ℕ) (x : UpNode) (change : Change) → LeavesChange change → Has I x → Has I (changed c me x change)
+pub change_has : (I : AttemptState → Type 0) (c : Cluster) (me : ℕ) (x : UpNode) (change : Change) → LeavesChange change → Has I x → Has I (changed c me x change)
 change_has I c me x (Counts a k s i) leaves h = absurd leaves
 change_has I c me x (Leads p members) leaves h = absurd leaves
 change_has I c me x (Promises p) leaves h = promised_has I x p x.attempt
 change_has I c me x (Starts a k s) leaves h = tt
 change_has I c me x _ leaves h = h
 
-act_has : (I : AttemptState → Type 0) (c : Cluster) (me : ℕ) (x : UpNode) (a : Act) → LeavesAct a → Has I x → Has I (acted c me x a)
+pub act_has : (I : AttemptState → Type 0) (c : Cluster) (me : ℕ) (x : UpNode) (a : Act) → LeavesAct a → Has I x → Has I (acted c me x a)
 act_has I c me x (Goes_on a k) leaves h = absurd leaves
 act_has I c me x (Ends a e) leaves h = tt
 act_has I c me x (Makes change) leaves h = change_has I c me x change leaves h
@@ -97,7 +97,7 @@ step_l me x (step.InstallHere i) = tt
 step_l me x step.StartHere = tt
 step_l me x (step.Ended e) = ended_l me e x.attempt
 
-steps_l : (c : Cluster) (me : ℕ) (x : UpNode) (steps : List Step) → Leaves (steps_course c me x steps)
+pub steps_l : (c : Cluster) (me : ℕ) (x : UpNode) (steps : List Step) → Leaves (steps_course c me x steps)
 steps_l c me x [] = tt
 steps_l c me x (s ∷ steps) = joined_l c me x (cuts.step_course me x s) (λ y. steps_course c me y steps) (step_l me x s) (λ y. steps_l c me y steps)
 
@@ -149,7 +149,7 @@ called_has I c me x a k keeps h =
     leads_joined c me (Has I) (Has I) x (cuts.turned_all c me x a k) (if_installed c me (turn a k).steps) (turned_all_has I c me x a k h)
     (λ y kept. if_either (LeadsTo c me (Has I) y) (begins_install (turn a k).steps) (cuts.own_ready_course c me y) Stops (own_ready_has I c me y keeps kept) kept)
 
-is_choice : (p : Phase) → is_choosing p ≡ true → p ≡ Choosing
+pub is_choice : (p : Phase) → is_choosing p ≡ true → p ≡ Choosing
 is_choice Choosing is = refl
 is_choice Collecting is = absurd (false_true is)
 is_choice SeizingVotes is = absurd (false_true is)

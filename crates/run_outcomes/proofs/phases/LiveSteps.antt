@@ -73,7 +73,7 @@ staid_act (Goes_on a k) h quiet = absurd quiet
 staid_act (Makes change) h quiet = staid_change change h
 staid_act _ h quiet = tt
 
-staid_leaves : (k : Course) → IsStaid k → Quiet k → Leaves k
+pub staid_leaves : (k : Course) → IsStaid k → Quiet k → Leaves k
 staid_leaves Stops h quiet = tt
 staid_leaves (Acts a rest) h quiet = (staid_act a h.0 quiet.0, staid_leaves rest h.1 quiet.1)
 staid_leaves (Keeps change rest) h quiet = (staid_change change h.0, staid_leaves rest h.1 quiet.1)

@@ -154,7 +154,7 @@ again_to_calm x (Some r) (Some president) = (tt, tt)
 again_to_calm x None president = tt
 again_to_calm x (Some r) None = tt
 
-again_by_calm : (x : UpNode) (o : Option Presidency) → AllCalm (request_again_by x o)
+pub again_by_calm : (x : UpNode) (o : Option Presidency) → AllCalm (request_again_by x o)
 again_by_calm x None =
     if_either AllCalm (queue.goes_again x.requests) (request_again_to x (queue.oldest x.requests) (coordinator_of x)) []
     (again_to_calm x (queue.oldest x.requests) (coordinator_of x)) tt

@@ -1,5 +1,5 @@
 -- What is proved of each run of the world, as things that happen: the tasks of coordinators at shared devices, and with them the device queue of each node.
-use Rattle.std.specs.Prelude.{ℕ, ◌%◌, ◌≡◌, ◌≢◌, ◌<◌, ◌≤◌, ◌^◌, ◌==◌, ◌&&◌, not, Bool, true, false, if◌then◌else◌, List, filter, length, map, Option, None, Some}
+use Rattle.std.specs.Prelude.{ℕ, ◌%◌, ◌≡◌, ◌≢◌, ◌<◌, ◌≤◌, ◌^◌, ◌==◌, ◌&&◌, not, nat_lt, Bool, true, false, List, filter, length, map, Option, None, Some, if◌then◌else◌}
 use Rattle.std.specs.List.{AllByRecursion, find, list_any}
 use Rattle.std.specs.Option.{option_and_then}
 use Rattle.attempt_laws.specs.Asking.{entry_of}
@@ -78,8 +78,9 @@ pub record AsksTold (a : AttemptState) (moments : List Moment) : Type 0 where
   pub last : (d : ℕ) → told.asked_last a.plan.epoch d moments ≡ option_and_then (other_seizer a) (entry_of a.devices d)
   pub asked : (d m : ℕ) → list_any (sends a.plan.coordinator m (name.SeizeQuorum d)) (since (is_attempt a.plan.epoch) moments) ≡ has_asked a m (entry_of a.devices d)
 
+-- So it is while a packet number is left: behind the last one no message is sent any more, and no line tells it.
 abbrev pub AsksAreTold : Type 0
-AsksAreTold = OfEachInHand AsksTold
+AsksAreTold = OfEachPoint (λ h s. nat_lt s.links.next (2 ^ 63) ≡ true → (n : ℕ) (a : AttemptState) → HasAttempt s n a → AsksTold a s.moments)
 
 -- ---- what they answer
 
@@ -147,6 +148,6 @@ abbrev pub NodeQueue : Node → List told.Task → Type 0
 NodeQueue Down tasks = Unit {0}
 NodeQueue (Up x) tasks = Same (filter is_queued x.tasks) tasks
 
--- The tasks that a node has queued are those of `history`, on their devices and as far, in order, but where that leaves them open.
+-- While a packet number is left, the tasks that a node has queued are those of `history`, on their devices and as far, in order, but where that leaves them open.
 abbrev pub QueuesAreTold : Type 0
-QueuesAreTold = OfEachPoint (λ h s. (n : ℕ) → told.queue_is_open (setting_of h) n s.moments ≡ false → NodeQueue (s.nodes.node n) (told.queued_of (setting_of h) n s.moments))
+QueuesAreTold = OfEachPoint (λ h s. nat_lt s.links.next (2 ^ 63) ≡ true → (n : ℕ) → told.queue_is_open (setting_of h) n s.moments ≡ false → NodeQueue (s.nodes.node n) (told.queued_of (setting_of h) n s.moments))

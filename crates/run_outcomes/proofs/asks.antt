@@ -1,0 +1,15 @@
+pub mod Apart
+pub mod Requests
+pub mod Entries
+pub mod Counting
+pub mod Turns
+pub mod Requested
+pub mod Silent
+pub mod Leading
+pub mod Inputs
+pub mod Lines
+pub mod Owns
+pub mod Steps
+pub mod Firsts
+pub mod Devices
+pub mod Runs
