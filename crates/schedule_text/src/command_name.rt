@@ -1,6 +1,6 @@
-ghost use Rattle.std.specs.Prelude.{◌≡◌, ◌≢◌, MatchOption};
-ghost use Rattle.schedule_text.specs.Names.{name_text};
-ghost use Rattle.schedule_text.specs.declared.command_name.CommandName.{CommandName};
+ghost use Rattle.std.specs.Prelude.{◌≡◌, find};
+ghost use Rattle.std.specs.Str.{bytes_eq};
+ghost use Rattle.schedule_text.specs.Names.{name_in, name_text};
 
 /// The word that names a command to a device.
 #[derive(Clone, Copy)]
@@ -19,23 +19,51 @@ pub enum CommandName {
     Swap,
 }
 
+/// All of them.
+const COMMANDS: [CommandName; 12] = [
+    CommandName::Register,
+    CommandName::Ignore,
+    CommandName::Reserve,
+    CommandName::Release,
+    CommandName::Clear,
+    CommandName::Preempt,
+    CommandName::Keys,
+    CommandName::Holder,
+    CommandName::Read,
+    CommandName::Write,
+    CommandName::Word,
+    CommandName::Swap,
+];
+
 /// The command that the word names, if it names one.
+#[tactic(auto, unfolding(crate::specs::Names::name_in))]
 pub fn command_name(word: &[u8]) -> Option<CommandName>
-    ensures { MatchOption result ((k : CommandName) → word.now ≢ name_text k) (λ k. word.now ≡ name_text k) }
+    ensures { result ≡ name_in word.now }
 {
-    match word {
-        b"register" => Some(CommandName::Register),
-        b"ignore" => Some(CommandName::Ignore),
-        b"reserve" => Some(CommandName::Reserve),
-        b"release" => Some(CommandName::Release),
-        b"clear" => Some(CommandName::Clear),
-        b"preempt" => Some(CommandName::Preempt),
-        b"keys" => Some(CommandName::Keys),
-        b"holder" => Some(CommandName::Holder),
-        b"read" => Some(CommandName::Read),
-        b"write" => Some(CommandName::Write),
-        b"word" => Some(CommandName::Word),
-        b"swap" => Some(CommandName::Swap),
-        _ => None,
+    named_among(&COMMANDS, word)
+}
+
+fn named_among(commands: &[CommandName], word: &[u8]) -> Option<CommandName>
+    ensures { result ≡ find (λ k. bytes_eq (name_text k) word.now) commands.now }
+{
+    commands.iter().copied().find(|k| text(*k) == word)
+}
+
+fn text(command: CommandName) -> &'static [u8]
+    ensures { result.now ≡ name_text command }
+{
+    match command {
+        CommandName::Register => b"register",
+        CommandName::Ignore => b"ignore",
+        CommandName::Reserve => b"reserve",
+        CommandName::Release => b"release",
+        CommandName::Clear => b"clear",
+        CommandName::Preempt => b"preempt",
+        CommandName::Keys => b"keys",
+        CommandName::Holder => b"holder",
+        CommandName::Read => b"read",
+        CommandName::Write => b"write",
+        CommandName::Word => b"word",
+        CommandName::Swap => b"swap",
     }
 }

@@ -1,36 +1,54 @@
-ghost use Rattle.std.specs.Prelude.{◌≡◌, ◌≢◌, MatchOption};
-ghost use Rattle.cl_base.specs.declared.method.Method.{Method};
+ghost use Rattle.std.specs.Prelude.{◌≡◌, find};
+ghost use Rattle.std.specs.Str.{bytes_eq};
 ghost use Rattle.schedule_text.specs.MethodNames.{method_in, method_text};
 
 use cl_base::Method;
 
+/// All methods.
+const METHODS: [Method; 12] = [
+    Method::PrenetStart,
+    Method::Start,
+    Method::MonitorStart,
+    Method::MonitorCheck,
+    Method::MonitorStop,
+    Method::Stop,
+    Method::PostnetStop,
+    Method::Validate,
+    Method::Init,
+    Method::Fini,
+    Method::Boot,
+    Method::Update,
+];
+
 /// The method that the word names, if it names one.
+#[tactic(auto, unfolding(crate::specs::MethodNames::method_in))]
 pub fn method(word: &[u8]) -> Option<Method>
     ensures { result ≡ method_in word.now }
 {
-    spelled(word)
+    named_among(&METHODS, word)
 }
 
-fn spelled(word: &[u8]) -> Option<Method>
-    ensures { MatchOption result ((m : Method) → word.now ≢ method_text m) (λ m. word.now ≡ method_text m) }
+fn named_among(methods: &[Method], word: &[u8]) -> Option<Method>
+    ensures { result ≡ find (λ m. bytes_eq (method_text m) word.now) methods.now }
 {
-    if word == b"MONITOR_START".as_slice() {
-        return Some(Method::MonitorStart);
-    }
-    if word == b"MONITOR_CHECK".as_slice() {
-        return Some(Method::MonitorCheck);
-    }
-    match word {
-        b"PRENET_START" => Some(Method::PrenetStart),
-        b"START" => Some(Method::Start),
-        b"MONITOR_STOP" => Some(Method::MonitorStop),
-        b"STOP" => Some(Method::Stop),
-        b"POSTNET_STOP" => Some(Method::PostnetStop),
-        b"VALIDATE" => Some(Method::Validate),
-        b"INIT" => Some(Method::Init),
-        b"FINI" => Some(Method::Fini),
-        b"BOOT" => Some(Method::Boot),
-        b"UPDATE" => Some(Method::Update),
-        _ => None,
+    methods.iter().copied().find(|m| text(*m) == word)
+}
+
+fn text(method: Method) -> &'static [u8]
+    ensures { result.now ≡ method_text method }
+{
+    match method {
+        Method::PrenetStart => b"PRENET_START",
+        Method::Start => b"START",
+        Method::MonitorStart => b"MONITOR_START",
+        Method::MonitorCheck => b"MONITOR_CHECK",
+        Method::MonitorStop => b"MONITOR_STOP",
+        Method::Stop => b"STOP",
+        Method::PostnetStop => b"POSTNET_STOP",
+        Method::Validate => b"VALIDATE",
+        Method::Init => b"INIT",
+        Method::Fini => b"FINI",
+        Method::Boot => b"BOOT",
+        Method::Update => b"UPDATE",
     }
 }
