@@ -5,4 +5,5 @@ pub mod Begins
 pub mod Steps
 pub mod Runs
 pub mod rounds
+pub mod few
 pub mod writes

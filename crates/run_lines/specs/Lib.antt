@@ -3,4 +3,5 @@ pub mod Laws
 -- what only the proofs need
 pub mod Entries
 pub mod rounds
+pub mod few
 pub mod writes

@@ -6,3 +6,4 @@ pub mod saves
 pub mod stops
 pub mod phases
 pub mod asks
+pub mod rounds_told

@@ -48,7 +48,7 @@ event_agree : (S : Setting) (coming : Option Event) (ms : List Moment) (o : Opti
 event_agree S coming ms None = refl
 event_agree S coming ms (Some p) = ap (λ z. option_map (λ (n : Next). n.event) z) (next_agree S coming ms p)
 
-progress_agrees : (S : Setting) (ms : List Moment) → parts.progress_of S (works S) ms ≡ told.progress_of S ms
+pub progress_agrees : (S : Setting) (ms : List Moment) → parts.progress_of S (works S) ms ≡ told.progress_of S ms
 progress_agrees S [] = refl
 progress_agrees S (Said (line.Event (event.Rounds count nodes)) ∷ ms) = refl
 progress_agrees S (Said l ∷ ms) = refl

@@ -1,5 +1,5 @@
 -- The parts of rounds of each run.
-use Rattle.std.specs.Prelude.{ℕ, ◌+◌, ◌≡◌, ◌≤◌, ◌<◌, nat_lt, true, false, List, [], ◌∷◌, None, Some, length, is_some}
+use Rattle.std.specs.Prelude.{ℕ, ◌+◌, ◌≡◌, ◌≤◌, ◌<◌, nat_lt, true, false, List, [], ◌∷◌, Option, None, Some, length, is_some}
 use Rattle.std.proofs.Common.{refl, sym, ap, subst, ◌∙◌, arith}
 use Rattle.cl_base.specs.Limits.{most_devices}
 use Rattle.cl_base.specs.declared.header.Header.{Header}
@@ -9,7 +9,7 @@ use Rattle.history.specs.Links.{links_after}
 use Rattle.history.specs.Member.{is_up}
 use Rattle.history.specs.Moment.{Moment, Part, Said, Told}
 use Rattle.history.specs.Queue.{has_work, queue_is_open}
-use Rattle.history.specs.Round.{Stage, works}
+use Rattle.history.specs.Round.{Progress, Stage, works}
 use Rattle.history.specs.Round.Stage.{Delivering, Working, Ticking}
 use Rattle.history.specs.Setting.{Setting}
 use Rattle.node_model.specs.declared.cluster.Cluster.{Cluster}
@@ -29,10 +29,12 @@ use Rattle.run_history.specs.Shapes.{nothing}
 use Rattle.run_history.proofs.LinksRun.{links_of_each_run}
 use Rattle.run_history.proofs.MemberScenes.{members_of_each_run}
 use Rattle.run_history.proofs.Reached.{Reached}
-use Rattle.run_lines.specs.rounds.Following.{AreOf, SameStage}
-use Rattle.run_lines.specs.rounds.Laws.{AllAskSome, AtEachPart, AtPart, FewCommands, PartsByQueues, PartsOfEachRun, QueuesTold, in_a_row}
+use Rattle.run_lines.specs.rounds.Following.{AreOf, SameRounds, SameStage}
+use Rattle.run_lines.specs.rounds.Laws.{AllAskSome, AtEachPart, AtPart, FewCommands, NoneLeftByQueues, PartsByQueues, PartsOfEachRun, QueuesTold, WhereTold, in_a_row}
+use Rattle.run_lines.specs.rounds.Parts as parts
 use Rattle.run_lines.specs.rounds.Parts.{Works, shown}
-use Rattle.run_lines.proofs.rounds.Agree.{to_rounds}
+use Rattle.run_lines.proofs.few.Runs.{few_commands_in_each_run}
+use Rattle.run_lines.proofs.rounds.Agree.{progress_agrees, to_rounds}
 use Rattle.run_lines.proofs.rounds.Downs.{down_has_no_work}
 use Rattle.run_lines.proofs.rounds.Tells.{MayDo, StageFits, queued_tells, shown_tells}
 use Rattle.run_lines.proofs.rounds.Walk.{Facts, IsClosed, Kept, TellsAt, run_kept}
@@ -127,9 +129,22 @@ AsksFew ms = AllAskSome ms × FewCommands ms
 few_closed : IsClosed AsksFew
 few_closed m ms h = (asks_closed m ms h.0, h.1.1)
 
+-- the parts, and what is left of rounds, at the end
+kept_by_queues : WhereTold (λ S ms. Kept S (works S) ms None)
+kept_by_queues h cells hs S devices small same may shaped asks told =
+    run_kept (QueuesTold S) AsksFew few_closed (λ ms m. m.0) (first_cluster h) (first_scene h cells) S (works S) (all_facts h cells S devices same)
+    (λ s r m q. queued_at S s m.1 q (down_has_no_work h cells S devices small s r)) hs (first_scene h cells) nothing nothing (record { happenings = []; may = tt; is = refl }) may shaped
+    (asks, few_commands_in_each_run h cells hs nothing devices small may shaped) told tt (first_kept h cells S (works S))
+
 pub parts_by_queues : PartsByQueues
-parts_by_queues h cells hs S devices small same may shaped asks told few =
-    to_rounds S (all_happened (first_cluster h) (first_scene h cells) hs).moments
-    (run_kept (QueuesTold S) AsksFew few_closed (λ ms m. m.0) (first_cluster h) (first_scene h cells) S (works S) (all_facts h cells S devices same)
-    (λ s r m q. queued_at S s m.1 q (down_has_no_work h cells S devices small s r)) hs (first_scene h cells) nothing nothing (record { happenings = []; may = tt; is = refl }) may shaped (asks, few) told tt
-    (first_kept h cells S (works S))).parts
+parts_by_queues h cells hs S devices small same may shaped asks told =
+    to_rounds S (all_happened (first_cluster h) (first_scene h cells) hs).moments (kept_by_queues h cells hs S devices small same may shaped asks told).parts
+
+none_of : (l : Links) (ms : List Moment) (o : Option Progress) → SameRounds l ms None o → o ≡ None
+none_of l ms None h = refl
+none_of l ms (Some q) h = absurd h
+
+pub none_left_by_queues : NoneLeftByQueues
+none_left_by_queues h cells hs S devices small same may shaped asks told =
+    let ms : List Moment = (all_happened (first_cluster h) (first_scene h cells) hs).moments in
+    sym (progress_agrees S ms) ∙ none_of (links_after S.cells ms) ms (parts.progress_of S (works S) ms) (kept_by_queues h cells hs S devices small same may shaped asks told).rounds

@@ -188,7 +188,7 @@ notes_kept Q S works s p e is facts tells so none k =
 
 -- ---- one thing more
 
-own_after : (c : Cluster) (s t : Scene) (wants : List Want) (rounds : Option world.Progress) (h : Happening) → AreOwn wants → AreOwn (due_after c t (record { wants = wants; rounds = rounds }) h).wants
+pub own_after : (c : Cluster) (s t : Scene) (wants : List Want) (rounds : Option world.Progress) (h : Happening) → AreOwn wants → AreOwn (due_after c t (record { wants = wants; rounds = rounds }) h).wants
 own_after c s t (w ∷ wants) rounds h own = still_own t wants own.1
 own_after c s t [] rounds (Speaks e) own = brought_own c t e
 own_after c s t [] rounds (Begins e) own = brought_own c t e

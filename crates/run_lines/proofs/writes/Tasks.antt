@@ -26,16 +26,16 @@ use Rattle.run_lines.specs.writes.Joins.{AllLone, Lone}
 
 -- ---- at most one of a kind
 
-found_here : (p : Task → Bool) (t : Task) (ts : List Task) → p t ≡ true → find p (t ∷ ts) ≡ Some t
+pub found_here : (p : Task → Bool) (t : Task) (ts : List Task) → p t ≡ true → find p (t ∷ ts) ≡ Some t
 found_here p t ts is = ap (λ b. if b then Some t else find p ts) is
 
-found_later : (p : Task → Bool) (t : Task) (ts : List Task) → p t ≡ false → find p (t ∷ ts) ≡ find p ts
+pub found_later : (p : Task → Bool) (t : Task) (ts : List Task) → p t ≡ false → find p (t ∷ ts) ≡ find p ts
 found_later p t ts is = ap (λ b. if b then Some t else find p ts) is
 
 none_put : (p : Task → Bool) (x : Task) (ts : List Task) → find p ts ≡ None → p x ≡ false → find p (ts ++ x ∷ []) ≡ None
 none_put p x ts none other = put_other p None x ts other ∙ none
 
-lone_put : (p : Task → Bool) (o : Option Task) (x : Task) (ts : List Task) → Lone p ts → (p x ≡ true → find p ts ≡ o) → Lone p (put_unless o x ts)
+pub lone_put : (p : Task → Bool) (o : Option Task) (x : Task) (ts : List Task) → Lone p ts → (p x ≡ true → find p ts ≡ o) → Lone p (put_unless o x ts)
 lone_put p (Some u) x ts lone first = lone
 lone_put p None x [] lone first = ((λ own. refl), tt)
 lone_put p None x (t ∷ ts) lone first =
@@ -49,7 +49,7 @@ lone_put p None x (t ∷ ts) lone first =
     by_new true is own = absurd (none_some t (sym (first is) ∙ found_here p t ts own))
     by_new false is own = none_put p x ts (lone.0 own) is
 
-lone_answered : (p : Task → Bool) (a : Answer) → ((t : Task) → p (answered a t) ≡ p t) → (ts : List Task) → Lone p ts → Lone p (after_answer ts a)
+pub lone_answered : (p : Task → Bool) (a : Answer) → ((t : Task) → p (answered a t) ≡ p t) → (ts : List Task) → Lone p ts → Lone p (after_answer ts a)
 lone_answered p a same [] lone = tt
 lone_answered p a same (t ∷ ts) lone =
     if_either (Lone p) (is_queued t) (answered a t ∷ ts) (t ∷ after_answer ts a) ((λ own. lone.0 (sym (same t) ∙ own)), lone.1)

@@ -1,5 +1,5 @@
 -- What is proved of each run of the world, as things that happen: the order of the parts of its rounds.
-use Rattle.std.specs.Prelude.{ℕ, suc, ◌==◌, ◌≡◌, ◌≤◌, ◌<◌, ◌^◌, false, if◌then◌else◌, List, [], ◌∷◌, Some, length, is_some, ◌↔◌}
+use Rattle.std.specs.Prelude.{ℕ, suc, ◌==◌, ◌≡◌, ◌≤◌, ◌<◌, ◌^◌, false, if◌then◌else◌, List, [], ◌∷◌, None, Some, length, is_some, ◌↔◌}
 use Rattle.std.specs.List.{AllByRecursion}
 use Rattle.cl_base.specs.Limits.{most_devices}
 use Rattle.cl_base.specs.declared.header.Header.{Header}
@@ -10,7 +10,7 @@ use Rattle.status_report.specs.declared.schedule_entry.ScheduleEntry.TheVariants
 use Rattle.history.specs.Moment.{Moment, Part, Told, lines_of}
 use Rattle.history.specs.Order.{Always}
 use Rattle.history.specs.Queue.{has_work, queue_is_open}
-use Rattle.history.specs.Round.{Rounds, works}
+use Rattle.history.specs.Round.{Rounds, progress_of, works}
 use Rattle.history.specs.Setting.{Setting}
 use Rattle.node_model.specs.declared.cluster.Cluster.{Cluster}
 use Rattle.world_model.specs.Devices.{due_at}
@@ -70,14 +70,21 @@ IsFew before x = (n : ℕ) → in_a_row n (x ∷ before) < most_commands
 abbrev pub FewCommands : List Moment → Type 0
 FewCommands moments = Always IsFew moments
 
--- Then rounds are as `history` has them.
-abbrev pub PartsByQueues : Type 0
-PartsByQueues = (h : Header) (cells : ℕ) (hs : List Happening) (S : Setting) → length h.devices ≤ most_devices → h.cluster < 2 ^ 32 → S.cells ≡ cells
+-- P of the lines of a run of whole lines, where they tell the queues
+abbrev pub WhereTold : (Setting → List Moment → Type 0) → Type 0
+WhereTold P = (h : Header) (cells : ℕ) (hs : List Happening) (S : Setting) → length h.devices ≤ most_devices → h.cluster < 2 ^ 32 → S.cells ≡ cells
     → MayAllHappen (first_cluster h) (first_scene h cells) hs → IsShaped (first_cluster h) (first_scene h cells) hs
     → AllAskSome (all_happened (first_cluster h) (first_scene h cells) hs).moments
     → QueuesAreTold S (first_cluster h) (first_scene h cells) hs
-    → FewCommands (all_happened (first_cluster h) (first_scene h cells) hs).moments
-    → Rounds S (all_happened (first_cluster h) (first_scene h cells) hs).moments
+    → P S (all_happened (first_cluster h) (first_scene h cells) hs).moments
+
+-- Then rounds are as `history` has them ..
+abbrev pub PartsByQueues : Type 0
+PartsByQueues = WhereTold Rounds
+
+-- .. and at its end no round is left open.
+abbrev pub NoneLeftByQueues : Type 0
+NoneLeftByQueues = WhereTold (λ S moments. progress_of S moments ≡ None)
 
 -- `history`'s own way to tell which nodes have work makes of the parts its rounds.
 abbrev pub PartsAreRounds : Type 0

@@ -1,0 +1,14 @@
+pub mod Totals
+pub mod Costs
+pub mod Tasks
+pub mod Most
+pub mod Left
+pub mod Phases
+pub mod Alone
+pub mod Courses
+pub mod Acts
+pub mod Words
+pub mod Steps
+pub mod Scenes
+pub mod Opens
+pub mod Runs
