@@ -4,3 +4,4 @@ pub mod Laws
 pub mod Asks
 pub mod AsksGiven
 pub mod AsksCourses
+pub mod Own

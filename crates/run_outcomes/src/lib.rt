@@ -11,7 +11,8 @@
 //!   Excluded, at which it panics only while it is in the session of that attempt.
 //! - `saves`, `stops`: where nodes stop, only in a save that the rules let them make there.
 //! - `phases`: how far the attempt of a coordinator is, as the lines tell it.
-//! - `tasks`: the tasks of coordinators at shared devices: whom an attempt asks to seize quorum devices.
+//! - `tasks`: the tasks of coordinators at shared devices, and with them the device queue of each node. Whom an attempt asks to seize quorum devices is told by
+//!   its lines; the tasks that a coordinator has of its own are the seizings that its attempt asked it for.
 //!
 //! Each function here is a law. It has no body, and its contract is proved of every header, every list of lines, everything that happens and
 //! all agents.
@@ -24,8 +25,8 @@ ghost use Rattle.run_outcomes.specs.exclusions.Laws.{ExclusionsOfEachRun};
 ghost use Rattle.run_outcomes.specs.panics.Laws.{ExclusionsAreToldInEachRun};
 ghost use Rattle.run_outcomes.specs.saves.Laws.{LetterStopsOfEachRun};
 ghost use Rattle.run_outcomes.specs.stops.Laws.{TickStopsOfEachRun};
-ghost use Rattle.run_outcomes.specs.tasks.Laws.{AsksAreTold};
 ghost use Rattle.run_outcomes.specs.phases.Laws.{CollectorsHaveNothingDue, NoneIsOver, PromisesAreTold, SeizingsAreTold, VotesAreTold};
+ghost use Rattle.run_outcomes.specs.tasks.Laws.{AsksAreTold, OwnTasksAreAsked};
 
 /// An attempt ends for a foreign member once all have promised, and names the least of its members that is configured neither in the newest
 /// committed updates in hand nor with the pending one.
@@ -125,4 +126,11 @@ pub fn votes_are_told_in_each_run()
 /// answer it has, or waits for. So it is while a packet number is left.
 pub fn asks_are_told_in_each_run()
     ensures { AsksAreTold }
+{}
+
+/// The coordinator of an attempt is the least of its members. While the attempt collects Promises it has no task; while it seizes devices it has one task for each
+/// device that it was asked to seize itself, in the order of the attempt's. Where it was asked last, the attempt has the result of that task; where another
+/// was asked since, its own key was not registered.
+pub fn own_tasks_are_asked_in_each_run()
+    ensures { OwnTasksAreAsked }
 {}

@@ -1,0 +1,16 @@
+pub mod Matching
+pub mod Moving
+pub mod Requests
+pub mod Entries
+pub mod Answered
+pub mod Turns
+pub mod Calls
+pub mod Courses
+pub mod Beside
+pub mod Messages
+pub mod Devices
+pub mod Inputs
+pub mod Least
+pub mod Grounds
+pub mod Arrivals
+pub mod Runs
