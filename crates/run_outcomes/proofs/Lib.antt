@@ -8,3 +8,5 @@ pub mod phases
 pub mod asks
 pub mod rounds_told
 pub mod own_tasks
+pub mod said
+pub mod seized

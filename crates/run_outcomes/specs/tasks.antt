@@ -5,3 +5,5 @@ pub mod Asks
 pub mod AsksGiven
 pub mod AsksCourses
 pub mod Own
+pub mod Said
+pub mod Answers

@@ -11,8 +11,8 @@
 //!   Excluded, at which it panics only while it is in the session of that attempt.
 //! - `saves`, `stops`: where nodes stop, only in a save that the rules let them make there.
 //! - `phases`: how far the attempt of a coordinator is, as the lines tell it.
-//! - `tasks`: the tasks of coordinators at shared devices, and with them the device queue of each node. Whom an attempt asks to seize quorum devices is told by
-//!   its lines; the tasks that a coordinator has of its own are the seizings that its attempt asked it for.
+//! - `tasks`: the tasks of coordinators at shared devices, and with them the device queue of each node. Whom an attempt asks to seize quorum devices, and what
+//!   these answer, is told by its lines; the tasks that a coordinator has of its own are the seizings that its attempt asked it for.
 //!
 //! Each function here is a law. It has no body, and its contract is proved of every header, every list of lines, everything that happens and
 //! all agents.
@@ -26,7 +26,7 @@ ghost use Rattle.run_outcomes.specs.panics.Laws.{ExclusionsAreToldInEachRun};
 ghost use Rattle.run_outcomes.specs.saves.Laws.{LetterStopsOfEachRun};
 ghost use Rattle.run_outcomes.specs.stops.Laws.{TickStopsOfEachRun};
 ghost use Rattle.run_outcomes.specs.phases.Laws.{CollectorsHaveNothingDue, NoneIsOver, PromisesAreTold, SeizingsAreTold, VotesAreTold};
-ghost use Rattle.run_outcomes.specs.tasks.Laws.{AsksAreTold, OwnTasksAreAsked};
+ghost use Rattle.run_outcomes.specs.tasks.Laws.{AsksAreTold, OwnTasksAreAsked, SeizedsAreTold};
 
 /// An attempt ends for a foreign member once all have promised, and names the least of its members that is configured neither in the newest
 /// committed updates in hand nor with the pending one.
@@ -133,4 +133,10 @@ pub fn asks_are_told_in_each_run()
 /// was asked since, its own key was not registered.
 pub fn own_tasks_are_asked_in_each_run()
     ensures { OwnTasksAreAsked }
+{}
+
+/// Before an attempt installs, the answer that it has of another member which it asked last to seize a device is what the last Seized told which that
+/// member sent of it and which came to the coordinator since the attempt began; it has none where none came. No packet is foreign to its receiver there.
+pub fn seizeds_are_told_in_each_run()
+    ensures { SeizedsAreTold }
 {}

@@ -37,11 +37,18 @@ use Rattle.wire.specs.declared.message.Install.{Install}
 use Rattle.run_downs.proofs.Courses.{by_test}
 use Rattle.run_outcomes.specs.saves.Courses.{LeadsTo, Leaves, LeavesAct, LeavesChange}
 use Rattle.run_outcomes.proofs.saves.Rests.{joined_l, leads_joined}
-use Rattle.run_outcomes.specs.phases.Kept.{In}
+use Rattle.run_outcomes.specs.phases.Kept.{In, IsOwnCall}
 
 -- each call keeps it
 abbrev pub IsKept : (AttemptState → Type 0) → Type 0
 IsKept I = (a : AttemptState) (k : Call) → May a k → I a → I (turn a k).after
+
+-- .. but one that takes a message
+abbrev pub IsLed : (AttemptState → Type 0) → Type 0
+IsLed I = (a : AttemptState) (k : Call) → May a k → IsOwnCall k → I a → I (turn a k).after
+
+kept_led : (I : AttemptState → Type 0) → IsKept I → IsLed I
+kept_led I keeps a k may own h = keeps a k may h
 
 abbrev pub Has : (AttemptState → Type 0) → UpNode → Type 0
 Has I x = In I x.attempt
@@ -137,17 +144,20 @@ turned_all_has I c me x a k h =
     leads_joined c me (Has I) (Has I) x (turned c me x a k) (if_started c me (turn a k).steps) (turned_by_has I c me x a k (turn a k).steps h)
     (λ y kept. if_either (LeadsTo c me (Has I) y) (starts_in (turn a k).steps) (deciding_course c me y) Stops (leaves_has I c me y (deciding_course c me y) (deciding_by_l c me y y.presidency) kept) kept)
 
-readied_has : (I : AttemptState → Type 0) (c : Cluster) (me : ℕ) (x : UpNode) (o : Option AttemptState) → IsKept I → In I o → Has I x → LeadsTo c me (Has I) x (cuts.readied_course c me x o)
+readied_has : (I : AttemptState → Type 0) (c : Cluster) (me : ℕ) (x : UpNode) (o : Option AttemptState) → IsLed I → In I o → Has I x → LeadsTo c me (Has I) x (cuts.readied_course c me x o)
 readied_has I c me x None keeps here h = h
-readied_has I c me x (Some a) keeps here h = turned_all_has I c me x a Own_ready (keeps a Own_ready tt here)
+readied_has I c me x (Some a) keeps here h = turned_all_has I c me x a Own_ready (keeps a Own_ready tt tt here)
+
+own_ready_leads : (I : AttemptState → Type 0) (c : Cluster) (me : ℕ) (x : UpNode) → IsLed I → Has I x → LeadsTo c me (Has I) x (cuts.own_ready_course c me x)
+own_ready_leads I c me x keeps h = if_either (LeadsTo c me (Has I) x) (joins x.tasks) Stops (cuts.readied_course c me x x.attempt) h (readied_has I c me x x.attempt keeps h h)
 
 pub own_ready_has : (I : AttemptState → Type 0) (c : Cluster) (me : ℕ) (x : UpNode) → IsKept I → Has I x → LeadsTo c me (Has I) x (cuts.own_ready_course c me x)
-own_ready_has I c me x keeps h = if_either (LeadsTo c me (Has I) x) (joins x.tasks) Stops (cuts.readied_course c me x x.attempt) h (readied_has I c me x x.attempt keeps h h)
+own_ready_has I c me x keeps h = own_ready_leads I c me x (kept_led I keeps) h
 
-called_has : (I : AttemptState → Type 0) (c : Cluster) (me : ℕ) (x : UpNode) (a : AttemptState) (k : Call) → IsKept I → I (turn a k).after → LeadsTo c me (Has I) x (cuts.called c me x a k)
+called_has : (I : AttemptState → Type 0) (c : Cluster) (me : ℕ) (x : UpNode) (a : AttemptState) (k : Call) → IsLed I → I (turn a k).after → LeadsTo c me (Has I) x (cuts.called c me x a k)
 called_has I c me x a k keeps h =
     leads_joined c me (Has I) (Has I) x (cuts.turned_all c me x a k) (if_installed c me (turn a k).steps) (turned_all_has I c me x a k h)
-    (λ y kept. if_either (LeadsTo c me (Has I) y) (begins_install (turn a k).steps) (cuts.own_ready_course c me y) Stops (own_ready_has I c me y keeps kept) kept)
+    (λ y kept. if_either (LeadsTo c me (Has I) y) (begins_install (turn a k).steps) (cuts.own_ready_course c me y) Stops (own_ready_leads I c me y keeps kept) kept)
 
 pub is_choice : (p : Phase) → is_choosing p ≡ true → p ≡ Choosing
 is_choice Choosing is = refl
@@ -157,8 +167,12 @@ is_choice SeizingOthers is = absurd (false_true is)
 is_choice Installing is = absurd (false_true is)
 is_choice Over is = absurd (false_true is)
 
-pub going_has : (I : AttemptState → Type 0) (c : Cluster) (me : ℕ) (x : UpNode) (a : AttemptState) (k : Call) → IsKept I → I (turn a k).after → LeadsTo c me (Has I) x (cuts.going_course c me x a k)
-going_has I c me x a k keeps h =
+-- a call of which it is known what it leaves
+pub going_leads : (I : AttemptState → Type 0) (c : Cluster) (me : ℕ) (x : UpNode) (a : AttemptState) (k : Call) → IsLed I → I (turn a k).after → LeadsTo c me (Has I) x (cuts.going_course c me x a k)
+going_leads I c me x a k keeps h =
     let t : AttemptState = (turn a k).after in
     by_test (LeadsTo c me (Has I) x) (is_choosing t.phase) (Acts (Goes_on a k) (cuts.called c me (going x a k) t (With_votes (votes_in c t)))) (cuts.called c me x a k)
-    (λ chooses. called_has I c me (going x a k) t (With_votes (votes_in c t)) keeps (keeps t (With_votes (votes_in c t)) (is_choice t.phase chooses) h)) (λ rests. called_has I c me x a k keeps h)
+    (λ chooses. called_has I c me (going x a k) t (With_votes (votes_in c t)) keeps (keeps t (With_votes (votes_in c t)) (is_choice t.phase chooses) tt h)) (λ rests. called_has I c me x a k keeps h)
+
+pub going_has : (I : AttemptState → Type 0) (c : Cluster) (me : ℕ) (x : UpNode) (a : AttemptState) (k : Call) → IsKept I → I (turn a k).after → LeadsTo c me (Has I) x (cuts.going_course c me x a k)
+going_has I c me x a k keeps h = going_leads I c me x a k (kept_led I keeps) h

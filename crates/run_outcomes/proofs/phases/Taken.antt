@@ -49,12 +49,12 @@ abbrev pub AllIn : Nodes → List Moment → Type 0
 AllIn v ms = (n : ℕ) (x : UpNode) (a : AttemptState) → v.node n ≡ Up x → x.attempt ≡ Some a → Takes ms a
 
 -- a node has the attempt of this number
-record HasIn (node : Node) (e : ℕ) : Type 0 where
-  x : UpNode
-  a : AttemptState
-  up : node ≡ Up x
-  has : x.attempt ≡ Some a
-  number : a.plan.epoch ≡ e
+pub record HasIn (node : Node) (e : ℕ) : Type 0 where
+  pub x : UpNode
+  pub a : AttemptState
+  pub up : node ≡ Up x
+  pub has : x.attempt ≡ Some a
+  pub number : a.plan.epoch ≡ e
 
 has_in : (node : Node) (e : ℕ) → is_number e (epoch_at node) ≡ true → HasIn node e
 has_in Down e is = absurd (false_true is)
@@ -71,7 +71,7 @@ pub way_of : (v : Nodes) (ms : List Moment) (n : ℕ) (x : UpNode) (a : AttemptS
 way_of v ms n x a w up has =
     w.theirs a.plan.epoch ∙ (ap (λ k. is_number a.plan.epoch (epoch_at (v.node k))) (w.own n x a up has) ∙ (ap (λ z. is_number a.plan.epoch (epoch_at z)) up ∙ (ap (λ o. is_number a.plan.epoch (epoch_of o)) has ∙ itself a.plan.epoch a.plan.epoch refl)))
 
-has_of : (v : Nodes) (ms : List Moment) (n e : ℕ) → Ways v ms → coordinator e ≡ n → is_under_way e ms ≡ true → HasIn (v.node n) e
+pub has_of : (v : Nodes) (ms : List Moment) (n e : ℕ) → Ways v ms → coordinator e ≡ n → is_under_way e ms ≡ true → HasIn (v.node n) e
 has_of v ms n e w own way = has_in (v.node n) e (sym (ap (λ k. is_number e (epoch_at (v.node k))) own) ∙ (sym (w.theirs e) ∙ way))
 
 same_up : (node : Node) (x y : UpNode) → node ≡ Up x → node ≡ Up y → x ≡ y

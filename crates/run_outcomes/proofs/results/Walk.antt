@@ -106,7 +106,7 @@ tied_installed c M n (Up x) disk tied =
     ap (λ (r : Saved). r.installed) sight.saved ∙ ap (λ (r : NodeRecord). r.installed) (sym sight.disk_so)
 
 -- an attempt that has not installed yet has a number above what its coordinator has installed
-none_late : (c : Cluster) (M : Memberships) (n : ℕ) (told : Delivered) (disk : NodeRecord) (x : UpNode) (f : ℕ → ℕ) → At c M n told disk x → ((k : ℕ) → f k ≤ inst M k) → NoneLate f x
+pub none_late : (c : Cluster) (M : Memberships) (n : ℕ) (told : Delivered) (disk : NodeRecord) (x : UpNode) (f : ℕ → ℕ) → At c M n told disk x → ((k : ℕ) → f k ≤ inst M k) → NoneLate f x
 unfolding epochs.coordinator
 none_late c M n told disk x f at low b is before late =
     at_attempt c M n told disk x b ⊥ at is

@@ -4,6 +4,7 @@ use Rattle.std.specs.List.{list_any}
 use Rattle.cl_base.specs.Limits.{most_devices}
 use Rattle.cl_base.specs.declared.header.Header.{Header}
 use Rattle.cmm_attempt.specs.Attempts.{AttemptState, is_over}
+use Rattle.cmm_attempt.specs.Calls.{Call, Take}
 use Rattle.cmm_attempt.specs.Promises.{has_promised}
 use Rattle.cmm_attempt.specs.declared.phase.Phase.TheVariants.{Collecting}
 use Rattle.history.specs.Moment.{Moment}
@@ -31,6 +32,11 @@ Gathers Due a = a.phase ≡ Collecting → (m : ℕ) → IsMember a m → Due m 
 -- .. of each whose Promise came
 abbrev pub Takes : List Moment → AttemptState → Type 0
 Takes moments a = Gathers (λ m. told.has_promised a.plan.epoch moments m ≡ true) a
+
+-- another call than to take a message
+abbrev pub IsOwnCall : Call → Type 0
+IsOwnCall (Take from m) = ⊥
+IsOwnCall _ = Unit {0}
 
 -- it is of this number
 abbrev pub GathersIn : ℕ → (ℕ → Type 0) → AttemptState → Type 0

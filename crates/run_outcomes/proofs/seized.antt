@@ -1,0 +1,14 @@
+pub mod Finding
+pub mod Entries
+pub mod Turns
+pub mod Calls
+pub mod Machine
+pub mod Arriving
+pub mod Lines
+pub mod Quiet
+pub mod Letters
+pub mod Taken
+pub mod Scenes
+pub mod Steps
+pub mod Packets
+pub mod Runs
