@@ -2,3 +2,4 @@ pub mod Commands
 pub mod Events
 pub mod Fields
 pub mod Heads
+pub mod Lengths

@@ -1,5 +1,5 @@
 -- What is read of a cluster schedule: its header, line by line, and the events of the lines behind it.
-use Rattle.std.specs.Prelude.{◌≡◌, ℕ, ◌<◌, ◌^◌, false, List, [], ◌∷◌, Ok, Some}
+use Rattle.std.specs.Prelude.{◌≡◌, ℕ, ◌<◌, ◌≤◌, ◌^◌, false, List, [], ◌∷◌, length, Ok, Some}
 use Rattle.std.specs.List.{AllByRecursion}
 use Rattle.cl_base.specs.declared.header.Header.{Header}
 use Rattle.cl_base.specs.declared.header.HeaderDevice.{HeaderDevice}
@@ -25,6 +25,11 @@ abbrev pub HasSeconds : Event → Type 0
 HasSeconds (event.Clock second) = second < 2 ^ 64
 HasSeconds _ = Unit {0}
 
+-- an event whose words, if it is a command, have so many bytes at most
+abbrev pub HasFewBytes : ℕ → Event → Type 0
+HasFewBytes most (event.Command node words) = length words ≤ most
+HasFewBytes most _ = Unit {0}
+
 -- A header that lines lead to from the beginning is allowed.
 abbrev pub HeadsAreAllowed : Type 0
 HeadsAreAllowed = (lines : List (List ℕ)) (now : HeaderState) (head : Head) → LeadTo Opening lines now → head_of now ≡ Some head
@@ -44,7 +49,12 @@ abbrev pub EventsAreAllowed : Type 0
 EventsAreAllowed = (h : Header) (s : SoFar) (bytes : List ℕ) (e : Event)
     → cluster_line_of h s bytes ≡ Ok (cluster.Event e) → IsAllowedEvent h s e
 
--- and its seconds have 64 bits.
+-- its seconds have 64 bits,
 abbrev pub SecondsFit : Type 0
 SecondsFit = (h : Header) (s : SoFar) (bytes : List ℕ) (e : Event)
     → cluster_line_of h s bytes ≡ Ok (cluster.Event e) → HasSeconds e
+
+-- and the words of a command are no longer than its line.
+abbrev pub CommandsFitTheirLines : Type 0
+CommandsFitTheirLines = (h : Header) (s : SoFar) (bytes : List ℕ) (e : Event)
+    → cluster_line_of h s bytes ≡ Ok (cluster.Event e) → HasFewBytes (length bytes) e

@@ -7,7 +7,7 @@ ghost use Rattle.schedule_text.specs.Lines.{pr_line_of};
 ghost use Rattle.schedule_text.specs.declared.line.PrLine.TheVariants.{Command};
 ghost use Rattle.status_report.specs.Entries.{IsPrCommand};
 ghost use Rattle.status_report.specs.PrAnswers.{command_text};
-ghost use Rattle.grammar_laws.specs.Reads.{EventsAreAllowed, HeadsAreAllowed, SecondsFit, ServersAreNotRead};
+ghost use Rattle.grammar_laws.specs.Reads.{CommandsFitTheirLines, EventsAreAllowed, HeadsAreAllowed, SecondsFit, ServersAreNotRead};
 
 /// The words in which the trace tells a command to a device are, behind the number of a sender and a
 /// space (32), the line of a reservation schedule that gives this command.
@@ -21,6 +21,11 @@ pub fn printed_commands_are_read()
 pub fn read_lines_are_allowed()
     ensures allowed { EventsAreAllowed }
     ensures seconds { SecondsFit }
+{}
+
+/// The words of a command that a line of a cluster schedule is read as are no longer than the line.
+pub fn read_commands_fit_their_lines()
+    ensures { CommandsFitTheirLines }
 {}
 
 /// A header that lines lead to from the beginning is allowed: the id of its cluster, its nodes and its devices are in their

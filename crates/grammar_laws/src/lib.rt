@@ -4,4 +4,7 @@
 
 mod laws;
 
-pub use laws::{printed_commands_are_read, read_headers_are_allowed, read_lines_are_allowed};
+pub use laws::{
+    printed_commands_are_read, read_commands_fit_their_lines, read_headers_are_allowed,
+    read_lines_are_allowed,
+};

@@ -16,12 +16,14 @@ use Rattle.schedule_text.specs.declared.line.SoFar.{SoFar}
 use Rattle.schedule_text.specs.Allowed.{IsAllowedEvent, IsHeader}
 use Rattle.schedule_text.specs.Headers.{HeaderStep, More, Over, Bad, head_of, header_step}
 use Rattle.schedule_text.specs.Lines.{cluster_line_of, so_far_after_event}
-use Rattle.grammar_laws.specs.Reads.{HasSeconds, LacksServers}
+use Rattle.grammar_laws.specs.Reads.{HasFewBytes, HasSeconds, LacksServers}
 use Rattle.grammar_laws.proofs.Events.{events_are_allowed, seconds_fit}
 use Rattle.grammar_laws.proofs.Heads.{IsFineHead, IsFineState, head_fine, state_kept}
+use Rattle.history.specs.Moment.{Moment, Part, Said, Told, lines_of}
 use Rattle.refinement.specs.Worlds.{IsNamed}
 use Rattle.run_history.specs.Telling.{IsInHeader, lines_upon}
 use Rattle.run_lines.specs.rounds.Laws.{AsksSome}
+use Rattle.run_owed.specs.waiting.Laws.{CommandIsShort, CommandsAreShort}
 use Rattle.replay.specs.Sessions.{first_so_far}
 use Rattle.replay.specs.Replays.{OfCluster, OfDevice, Schedule, behind, events_of, schedule_of, stepped, with_event}
 use Rattle.replay.specs.Histories.{AreAllowed}
@@ -129,3 +131,26 @@ asks h s _ is = tt
 pub all_ask : (h : Header) (s : SoFar) (events : List Event) (before : List Line) → AreAllowed h s events → AllByRecursion AsksSome before → AllByRecursion AsksSome (lines_upon before events)
 all_ask h s [] before are some = some
 all_ask h s (e ∷ events) before are some = all_ask h (so_far_after_event s e) events (line.Event e ∷ before) are.2 (asks h s e are.0, some)
+
+-- a line that gives a command gives one of so few bytes
+abbrev pub GivesFew : Line → Type 0
+GivesFew (line.Event e) = HasFewBytes 4096 e
+GivesFew _ = Unit {0}
+
+pub all_give_few : (events : List Event) (before : List Line) → AllByRecursion (HasFewBytes 4096) events → AllByRecursion GivesFew before → AllByRecursion GivesFew (lines_upon before events)
+all_give_few [] before few stood = stood
+all_give_few (e ∷ events) before few stood = all_give_few events (line.Event e ∷ before) few.1 (few.0, stood)
+
+event_short : (before : List Moment) (e : Event) → HasFewBytes 4096 e → CommandIsShort before (Said (line.Event e))
+event_short before (event.Command n words) few = few
+event_short before _ few = tt
+
+line_short : (before : List Moment) (l : Line) → GivesFew l → CommandIsShort before (Said l)
+line_short before (line.Event e) few = event_short before e few
+line_short before _ few = tt
+
+pub commands_are_short : (moments : List Moment) → AllByRecursion GivesFew (lines_of moments) → CommandsAreShort moments
+commands_are_short [] few = tt
+commands_are_short (Said l ∷ before) few = (line_short before l few.0, commands_are_short before few.1)
+commands_are_short (Part e ∷ before) few = (tt, commands_are_short before few)
+commands_are_short (Told entry ∷ before) few = (tt, commands_are_short before few)

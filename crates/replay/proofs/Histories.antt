@@ -15,7 +15,7 @@ use Rattle.schedule_text.specs.Allowed.{IsHeader}
 use Rattle.schedule_text.specs.Headers.{is_server}
 use Rattle.schedule_text.specs.Versions.{most_nodes_of}
 use Rattle.refinement.specs.Worlds.{lines_on}
-use Rattle.grammar_laws.specs.Reads.{LacksServers}
+use Rattle.grammar_laws.specs.Reads.{HasFewBytes, LacksServers}
 use Rattle.grammar_laws.proofs.Heads.{first_fine}
 use Rattle.run_history.specs.WorldLines.{AreDisks, IsDisk}
 use Rattle.run_history.proofs.DevicesRun.{devices_of_each_run}
@@ -33,6 +33,7 @@ use Rattle.run_attempts.proofs.endings.Runs as endings
 use Rattle.run_outcomes.proofs.counts.Runs as counts
 use Rattle.run_lines.proofs.Runs.{lines_of_each_run}
 use Rattle.run_outcomes.proofs.exclusions.Runs.{exclusions_of_each_run}
+use Rattle.run_owed.proofs.installs.Runs.{installs_of_each_run}
 use Rattle.run_owed.proofs.prepares.Runs as owed
 use Rattle.run_devices.proofs.queues.Disks.{disk_lines_of_each_run}
 use Rattle.run_devices.proofs.readings.Runs as readings
@@ -45,6 +46,7 @@ use Rattle.run_owed.proofs.repeats.Runs.{prepares_again_of_each_run}
 use Rattle.run_owed.proofs.replies.Runs.{orders_are_answered_in_each_run}
 use Rattle.run_owed.proofs.replies.Collects.{collects_are_answered_in_each_run}
 use Rattle.run_owed.proofs.replies.Prepares.{prepares_are_answered_in_each_run}
+use Rattle.run_owed.specs.waiting.Laws.{CommandsAreShort}
 use Rattle.run_owed.proofs.waiting.Runs.{requests_of_each_run}
 use Rattle.order_laws.specs.Laws.{ToldCyclesHaveNames}
 use Rattle.run_lines.proofs.writes.Runs.{writes_of_each_run}
@@ -77,7 +79,7 @@ use Rattle.replay.specs.Sessions.{first_so_far}
 use Rattle.replay.specs.Outcomes.{outcome_of, pieces}
 use Rattle.replay.specs.Replays.{OfCluster, OfDevice, Schedule, schedule_of, texts_of}
 use Rattle.replay.specs.Histories.{AreAllowed, IsTrace, TellsFirstOf, TellsHistory}
-use Rattle.replay.proofs.Allows.{IsAllowedSchedule, all_ask, all_in_header, all_named, first_allowed, schedule_allowed}
+use Rattle.replay.proofs.Allows.{GivesFew, IsAllowedSchedule, all_ask, all_give_few, all_in_header, all_named, commands_are_short, first_allowed, schedule_allowed}
 use Rattle.replay.proofs.Firsts.{IsFirstOf, lines_first}
 use Rattle.replay.proofs.Plays.{line_behind}
 
@@ -107,12 +109,15 @@ disks_in : (devices : List HeaderDevice) → AllByRecursion (λ (d : HeaderDevic
 disks_in [] are = tt
 disks_in (d ∷ devices) are = (disk_of d.kind are.0, disks_in devices are.1)
 
-told_trace : ToldCyclesHaveNames → (h : Header) (events : List Event) (text : List ℕ) (p : Play) → IsHeader h → LacksServers h → AllByRecursion AsksSome (lines_upon [] events) → AllByRecursion (IsInHeader h) events → text ≡ p.text → IsTold h 65536 [] events p
+told_trace : ToldCyclesHaveNames → (h : Header) (events : List Event) (text : List ℕ) (p : Play) → IsHeader h → LacksServers h → AllByRecursion AsksSome (lines_upon [] events) → AllByRecursion (IsInHeader h) events → AllByRecursion (HasFewBytes 4096) events → text ≡ p.text → IsTold h 65536 [] events p
     → IsTrace h events text
-told_trace cycles h events text p header disks asks named is told =
+told_trace cycles h events text p header disks asks named few_bytes is told =
     let nodes = few_nodes h.version h.nodes header.nodes_high in
     let of_header = subst (λ (ls : List Line). AllByRecursion (IsOfHeader h) ls) (sym told.said) (events_are_of h events [] named tt) in
     let boots = boots_are_of_the_header h 65536 told.happenings told.shaped (all_lines h (first_cluster h) (first_scene h 65536) told.happenings of_header).1 in
+    let short : CommandsAreShort (all_happened (first_cluster h) (first_scene h 65536) told.happenings).moments =
+    commands_are_short (all_happened (first_cluster h) (first_scene h 65536) told.happenings).moments
+    (subst (λ (ls : List Line). AllByRecursion GivesFew ls) (sym told.said) (all_give_few events [] few_bytes tt)) in
     let links = links_of_each_run h 65536 told.happenings told.may in
     let built : AreDisks h = disks_in h.devices disks in
     let devices = devices_of_each_run h 65536 told.happenings header.devices built told.may in
@@ -151,7 +156,8 @@ told_trace cycles h events text p header disks asks named is told =
       orders_answered = orders_are_answered_in_each_run h 65536 told.happenings (setting_of h) header.devices header.cluster_high refl told.may told.shaped;
       collects_answered = collects_are_answered_in_each_run h 65536 told.happenings (setting_of h) nodes header.devices header.cluster_high refl told.may told.shaped boots;
       prepares_answered = prepares_are_answered_in_each_run h 65536 told.happenings (setting_of h) header.devices header.cluster_high refl told.may told.shaped;
-      requests = λ few short. requests_of_each_run h 65536 told.happenings (setting_of h) header.devices header.cluster_high refl told.may told.shaped few short;
+      requests = λ few. requests_of_each_run h 65536 told.happenings (setting_of h) header.devices header.cluster_high refl told.may told.shaped few short;
+      installs_sent = installs_of_each_run h 65536 told.happenings (setting_of h) nodes header.devices header.cluster_high refl told.may told.shaped boots;
       links = links.run;
       no_drop_due = links.due;
       devices = devices.run;
@@ -240,11 +246,11 @@ told_trace cycles h events text p header disks asks named is told =
           no_disk_fails_by_lines h 65536 told.happenings nodes header.devices header.cluster_high told.may told.shaped of_header;
     }
 
-pub trace_of : ToldCyclesHaveNames → (agents : List AgentState) (h : Header) (events : List Event) (text : List ℕ) → IsHeader h → LacksServers h → AreAllowed h first_so_far events
+pub trace_of : ToldCyclesHaveNames → (agents : List AgentState) (h : Header) (events : List Event) (text : List ℕ) → IsHeader h → LacksServers h → AreAllowed h first_so_far events → AllByRecursion (HasFewBytes 4096) events
     → text ≡ texts_of (first_world h 65536 agents) events → IsTrace h events text
-trace_of cycles agents h events text header disks allowed is =
+trace_of cycles agents h events text header disks allowed short is =
     told_trace cycles h events text (lines_on events (play (first_world h 65536 agents) [])) header disks (all_ask h first_so_far events [] allowed tt)
-    (all_in_header h first_so_far events allowed) (is ∙ sym (texts_are events (first_world h 65536 agents) []))
+    (all_in_header h first_so_far events allowed) short (is ∙ sym (texts_are events (first_world h 65536 agents) []))
     (worlds_are_told h 65536 agents [] events (few_nodes h.version h.nodes header.nodes_high) header.devices header.cluster_high (all_named h first_so_far events allowed)
     (all_in_header h first_so_far events allowed))
 
@@ -259,7 +265,7 @@ tells_first cycles (Some (OfCluster h events)) agents text allowed is = record {
   allowed = allowed.2;
   count = is.count;
   written = is.written;
-  trace = trace_of cycles agents h (take is.count events) text allowed.0 allowed.1 (first_allowed h first_so_far is.count events allowed.2) is.written;
+  trace = trace_of cycles agents h (take is.count events) text allowed.0 allowed.1 (first_allowed h first_so_far is.count events allowed.2) is.short is.written;
 }
 
 pub tells_history : ToldCyclesHaveNames → (agents : List AgentState) (ended : Bool) (bytes : List ℕ) → TellsHistory bytes agents (outcome_of Run agents ended bytes).text

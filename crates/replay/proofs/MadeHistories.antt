@@ -1,8 +1,9 @@
 -- What the summary of a schedule that is made counts is a history.
 use Rattle.std.proofs.Common.{◌≡◌, ℕ, ◌+◌, ◌≤◌, List, [], ◌∷◌, Ok, refl, ap}
+use Rattle.std.specs.List.{AllByRecursion}
 use Rattle.agents.specs.Calls.{AgentState}
 use Rattle.cl_base.specs.declared.header.Header.{Header}
-use Rattle.grammar_laws.specs.Reads.{LacksServers, LeadTo}
+use Rattle.grammar_laws.specs.Reads.{HasFewBytes, LacksServers, LeadTo}
 use Rattle.grammar_laws.proofs.Events.{events_are_allowed, seconds_fit}
 use Rattle.grammar_laws.proofs.Heads.{heads_are_allowed, servers_are_not_read}
 use Rattle.schedule_gen.specs.Events.{events_from}
@@ -24,8 +25,10 @@ use Rattle.replay.specs.Outcomes.{Outcome}
 use Rattle.replay.specs.Replays.{texts_of}
 use Rattle.replay.specs.Sessions.{first_so_far}
 use Rattle.order_laws.specs.Laws.{ToldCyclesHaveNames}
+use Rattle.replay.proofs.Firsts.{short_line}
 use Rattle.replay.proofs.Histories.{trace_of}
-use Rattle.replay.proofs.MadeOutcomes.{event_of, made_outcome}
+use Rattle.replay.proofs.MadeWords.{AreFine}
+use Rattle.replay.proofs.MadeOutcomes.{back_fine, event_of, made_outcome}
 
 -- the lines of the header, which lead to four nodes
 lead_on : (from to : HeaderState) (lines : List (List ℕ)) → Leads from lines to → LeadTo from lines to
@@ -41,6 +44,14 @@ are_allowed h s (line ∷ lines) (e ∷ events) are =
     let is : cluster_line_of h s line ≡ Ok (cluster.Event e) = event_of (cluster_line_of h s line) e are.0 in
     (events_are_allowed h s line e is, seconds_fit h s line e is, are_allowed h (so_far_after_event s e) lines events are.1)
 
+-- and so few bytes has each command among them as its line
+are_few : (h : Header) (s : SoFar) (lines : List (List ℕ)) (events : List Event) → AreReadAs (Cluster h) s lines events → AreFine lines → AllByRecursion (HasFewBytes 4096) events
+are_few h s [] [] are fine = tt
+are_few h s [] (e ∷ events) are fine = absurd are
+are_few h s (line ∷ lines) [] are fine = absurd are
+are_few h s (line ∷ lines) (e ∷ events) are fine =
+    (short_line line fine.0.short h s e (event_of (cluster_line_of h s line) e are.0), are_few h (so_far_after_event s e) lines events are.1 fine.1)
+
 four_leads : (m : Making) → LeadTo Opening (lines_from m.seed 0 5) (Devices four_nodes)
 four_leads m = lead_on Opening (Devices four_nodes) (lines_from m.seed 0 5) (header_leads m.seed)
 
@@ -50,6 +61,8 @@ made_history cycles m agents few =
     let header : IsHeader four_nodes = heads_are_allowed (lines_from m.seed 0 5) (Devices four_nodes) (Cluster four_nodes) (four_leads m) refl in
     let disks : LacksServers four_nodes = servers_are_not_read (lines_from m.seed 0 5) (Devices four_nodes) four_nodes (four_leads m) refl in
     let allowed : AreAllowed four_nodes first_so_far events = are_allowed four_nodes first_so_far (lines_from m.seed 5 (5 + m.count)) events (lines_read_as m.seed m.count few) in
+    let short : AllByRecursion (HasFewBytes 4096) events =
+    are_few four_nodes first_so_far (lines_from m.seed 5 (5 + m.count)) events (lines_read_as m.seed m.count few) (back_fine m.seed m.count few) in
     record {
       text = texts_of (first_world four_nodes 65536 agents) events;
       counted = ap (λ (o : Outcome). counts_of o.text) (made_outcome m agents few);
@@ -57,5 +70,5 @@ made_history cycles m agents few =
       no_server = disks;
       allowed = allowed;
       written = refl;
-      trace = trace_of cycles agents four_nodes events (texts_of (first_world four_nodes 65536 agents) events) header disks allowed refl;
+      trace = trace_of cycles agents four_nodes events (texts_of (first_world four_nodes 65536 agents) events) header disks allowed short refl;
     }

@@ -114,7 +114,7 @@ are_both : (first second : List (List ℕ)) → AreFine first → AreFine second
 are_both [] second fine too = too
 are_both (line ∷ first) second fine too = (fine.0, are_both first second fine.1 too)
 
-back_fine : (seed count : ℕ) → count ≤ 90000 → AreFine (lines_from seed 5 (5 + count))
+pub back_fine : (seed count : ℕ) → count ≤ 90000 → AreFine (lines_from seed 5 (5 + count))
 back_fine seed count most =
     let five : 5 + count ≡ suc (suc (suc (suc (suc count)))) = omega arith in
     rw five (lines_fine seed count most)

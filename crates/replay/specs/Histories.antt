@@ -46,10 +46,11 @@ use Rattle.run_lines.specs.rounds.Parts.{PartsInOrder, shown}
 use Rattle.run_outcomes.specs.counts.Laws.{EndsForeign, EndsNeeding, EndsShort, NamesLacking}
 use Rattle.run_outcomes.specs.exclusions.Laws.{EndsExcluded}
 use Rattle.run_outcomes.specs.results.Laws.{NamesShown}
+use Rattle.run_owed.specs.installs.Laws.{HasInstalls}
 use Rattle.run_owed.specs.prepares.Laws.{HasPrepares, IsOfOne}
 use Rattle.run_owed.specs.repeats.Laws.{HasPreparesAgain}
 use Rattle.run_owed.specs.replies.Laws.{HasDone, HasPrepared, HasPromiseOrNack}
-use Rattle.run_owed.specs.waiting.Laws.{CommandsAreShort, HasRequests}
+use Rattle.run_owed.specs.waiting.Laws.{HasRequests}
 use Rattle.run_devices.specs.queues.Laws.{IsDone}
 use Rattle.run_devices.specs.readings.Laws.{BringsWhatWasRead, SaysWhatWasRead}
 use Rattle.run_commands.specs.taken.Laws.{ClientIsAnswered}
@@ -63,29 +64,29 @@ use Rattle.replay.specs.Replays.{OfCluster, OfDevice, Schedule, entries, schedul
 -- which `run_lines` says nothing); a write of a node that is up is refused for the cause that is due, or comes to what
 -- the device answers; the parts of rounds come in their order; a `disk` line at a node whose tasks are told does the
 -- command that is due; a client's request is served by a president, or skipped; the entries of an event are one node's;
--- a proposal has its Prepares, which go again, an Order, a Collect and a Prepare are answered, and a command goes to
--- the president as it becomes the oldest that waits, where it is no longer than a line; the links and the devices do
--- what their lines say, each start has its base, what was acknowledged is kept, no device takes a write of a node that
--- a greater membership left out, a node installs, is ready, is a member and has prepared by the messages that tell of
--- it, and a membership starts with a majority of the votes under its base and with devices that were seized for it, as
--- its coordinator knew. The bytes of each message spell it: a Promise and an Install show the record of their sender, a
--- Promise the devices that are valid to it (where no stop left that open), the newest in hand is installed and is the
--- base, a Seized and an Install bring what was read by the one node that seized the device, an Install tells no other,
--- and a Heartbeat says who is a member, is sent in a tick and to whom it is due. An attempt begins in a tick of its
--- coordinator, exactly with the nodes that it sees and for a reason, not alone where its coordinator is not configured,
--- and its Installs bring its members; it ends, and starts, while it is under way, is superseded by what stands against
--- it, ends for want of an answer at its eighth tick at the earliest and for want of votes once all have promised, by
--- what the newest record in hand counts and with obstacles that are shown (but for keys that are not registered), for
--- the least member that is foreign by that record, or for one that an earlier attempt left out, and names a member. A
--- node comes up, crashes and saves in the event that makes it do so, panics for a fence where a write of its own was
--- refused and for an exclusion where it was told so, and stops exactly where an armed stop falls in a save that the
--- rules let it make (but for commands at a device, where the rules are not proved). While there are fewer than 2^63
--- lines, which number the commands, all holds that a trace has to keep at each prefix (`Holds` of `history`): with what
--- stands above, a Prepare has the words that were proposed, a Request those of its command, a member answers what the
--- president's Answer says, each update was asked for by a request of its own, and is answered `ok` behind its
--- acknowledgement alone. Then, too, each command is numbered and is answered once at most, by its node itself exactly
--- where that is due, and with an answer that fits. While there are fewer than 2^63 moments, which number the saves of a
--- record, no local disk fails but by a stop.
+-- a proposal has its Prepares, which go again, an Order, a Collect and a Prepare are answered, a command goes to the
+-- president as it becomes the oldest that waits, and an Install to each other member as its coordinator installs; the
+-- links and the devices do what their lines say, each start has its base, what was acknowledged is kept, no device
+-- takes a write of a node that a greater membership left out, a node installs, is ready, is a member and has prepared
+-- by the messages that tell of it, and a membership starts with a majority of the votes under its base and with devices
+-- that were seized for it, as its coordinator knew. The bytes of each message spell it: a Promise and an Install show
+-- the record of their sender, a Promise the devices that are valid to it (where no stop left that open), the newest in
+-- hand is installed and is the base, a Seized and an Install bring what was read by the one node that seized the
+-- device, an Install tells no other, and a Heartbeat says who is a member, is sent in a tick and to whom it is due. An
+-- attempt begins in a tick of its coordinator, exactly with the nodes that it sees and for a reason, not alone where
+-- its coordinator is not configured, and its Installs bring its members; it ends, and starts, while it is under way, is
+-- superseded by what stands against it, ends for want of an answer at its eighth tick at the earliest and for want of
+-- votes once all have promised, by what the newest record in hand counts and with obstacles that are shown (but for
+-- keys that are not registered), for the least member that is foreign by that record, or for one that an earlier
+-- attempt left out, and names a member. A node comes up, crashes and saves in the event that makes it do so, panics for
+-- a fence where a write of its own was refused and for an exclusion where it was told so, and stops exactly where an
+-- armed stop falls in a save that the rules let it make (but for commands at a device, where the rules are not proved).
+-- While there are fewer than 2^63 lines, which number the commands, all holds that a trace has to keep at each prefix
+-- (`Holds` of `history`): with what stands above, a Prepare has the words that were proposed, a Request those of its
+-- command, a member answers what the president's Answer says, each update was asked for by a request of its own, and is
+-- answered `ok` behind its acknowledgement alone. Then, too, each command is numbered and is answered once at most, by
+-- its node itself exactly where that is due, and with an answer that fits. While there are fewer than 2^63 moments,
+-- which number the saves of a record, no local disk fails but by a stop.
 pub record IsTrace (h : Header) (events : List Event) (text : List ℕ) : Type 0 where
   pub moments : List Moment
   pub said : lines_of moments ≡ lines_upon [] events
@@ -101,7 +102,8 @@ pub record IsTrace (h : Header) (events : List Event) (text : List ℕ) : Type 0
   pub orders_answered : EachEvent (HasDone (setting_of h)) moments
   pub collects_answered : EachEvent (HasPromiseOrNack (setting_of h)) moments
   pub prepares_answered : EachEvent (HasPrepared (setting_of h)) moments
-  pub requests : length (lines_of moments) < 2 ^ 63 → CommandsAreShort moments → EachEvent (HasRequests (setting_of h)) moments
+  pub requests : length (lines_of moments) < 2 ^ 63 → EachEvent (HasRequests (setting_of h)) moments
+  pub installs_sent : EachEvent (HasInstalls (setting_of h)) moments
   pub links : Links 65536 moments
   pub no_drop_due : drop_due 65536 moments ≡ None
   pub devices : DeviceRun h moments

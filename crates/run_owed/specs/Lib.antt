@@ -2,3 +2,4 @@ pub mod prepares
 pub mod repeats
 pub mod replies
 pub mod waiting
+pub mod installs

@@ -3,11 +3,14 @@
 //! - `prepares`: the Prepares of a proposal; and that all doings in one event are one node's.
 //! - `repeats`: the Prepares that lack their Prepared go again.
 //! - `replies`: Orders, Collects and Prepares are answered.
+//! - `waiting`: the Requests of commands.
+//! - `installs`: the Installs of a coordinator that installs.
 //!
 //! Each function here is a law. It has no body, and its contract is proved of every header, every list of lines, everything that happens and
 //! all agents.
 #![tactic(auto)]
 
+ghost use Rattle.run_owed.specs.installs.Laws.{InstallsOfEachRun};
 ghost use Rattle.run_owed.specs.prepares.Laws.{OneNodeOfEachRun, PreparesOfEachRun};
 ghost use Rattle.run_owed.specs.repeats.Laws.{PreparesAgainOfEachRun};
 ghost use Rattle.run_owed.specs.replies.Laws.{CollectsAreAnsweredInEachRun, OrdersAreAnsweredInEachRun, PreparesAreAnsweredInEachRun};
@@ -58,4 +61,10 @@ pub fn requests_of_each_run()
 /// The canonical words of a command of 4,096 bytes at most have 65,536 bytes at most, so that a Request can carry them.
 pub fn canonical_words_are_short()
     ensures { CanonicalWordsAreShort }
+{}
+
+/// A coordinator that installs sends its Install in that event, to each other member of its attempt. Nothing is said of an event behind which no packet
+/// number is left.
+pub fn installs_of_each_run()
+    ensures { InstallsOfEachRun }
 {}

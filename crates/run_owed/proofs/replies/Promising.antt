@@ -48,19 +48,19 @@ key_long : (k : ℕ) → 7 ≤ length (codes "update." ++ decimal k)
 key_long k = let seven : length (codes "update.") ≡ 7 = refl in omega (arith, length-append (codes "update.") (decimal k), seven)
 
 -- texts are no longer in a message than in the rows of a record
-texts_shorter : (k : ℕ) (texts : List (List ℕ)) → sum_by text_length texts ≤ rows_length (update_rows k texts)
+pub texts_shorter : (k : ℕ) (texts : List (List ℕ)) → sum_by text_length texts ≤ rows_length (update_rows k texts)
 texts_shorter k [] = omega arith
 texts_shorter k (text ∷ texts) = omega (arith, sum_by-cons text_length text texts, key_long (k + 1), texts_shorter (k + 1) texts)
 
-texts_append : (xs ys : List (List ℕ)) → sum_by text_length (xs ++ ys) ≡ sum_by text_length xs + sum_by text_length ys
+pub texts_append : (xs ys : List (List ℕ)) → sum_by text_length (xs ++ ys) ≡ sum_by text_length xs + sum_by text_length ys
 texts_append [] ys = omega arith
 texts_append (x ∷ xs) ys = omega (arith, sum_by-cons text_length x (xs ++ ys), sum_by-cons text_length x xs, texts_append xs ys)
 
-same_listed : (pending : Option (List ℕ)) → sum_by text_length (option_to_list pending) ≡ sum_by text_length (listed pending)
+pub same_listed : (pending : Option (List ℕ)) → sum_by text_length (option_to_list pending) ≡ sum_by text_length (listed pending)
 same_listed None = refl
 same_listed (Some text) = refl
 
-le_test : (a b : ℕ) → a ≤ b → nat_le a b ≡ true
+pub le_test : (a b : ℕ) → a ≤ b → nat_le a b ≡ true
 le_test a b h = grind (arith, nat_tests)
 
 pub promise_short : (nodes devices n p : ℕ) (r : NodeRecord) (flagged : Bool) → HasRoom nodes devices (texts_of r.entries) → IsShort n (shown_in r flagged p)

@@ -24,6 +24,7 @@ use Rattle.status_report.specs.declared.entry.Entry.TheVariants as entry
 use Rattle.status_report.specs.declared.schedule_entry.ScheduleEntry.TheVariants as schedule
 use Rattle.world_model.specs.Devices.{due_at}
 use Rattle.world_model.specs.First.{first_cluster}
+use Rattle.run_owed.specs.repeats.Events.{AlongRun}
 use Rattle.run_owed.specs.waiting.Events.{AreWithin, Awaits, EventLaw, Goes, IsOpening, IsWithin, Meanwhile, Underway, Way}
 
 -- ---- what is due
@@ -180,6 +181,10 @@ back_all : (c : Cluster) (C : List Moment → Type 0) → ((s : Scene) (g : Happ
 back_all c C back [] s may h = h
 back_all c C back (g ∷ hs) s may h = back s g may.0 (back_all c C back hs (happened c s g) may.1 h)
 
+along_first : (F : Scene → Type 0) (c : Cluster) (s : Scene) (hs : List Happening) → AlongRun F c s hs → F s
+along_first F c s [] known = known
+along_first F c s (g ∷ hs) known = known.0
+
 run_so : (h : Header) (cells : ℕ) (C : List Moment → Type 0) (F : Scene → Type 0) (J : Meanwhile) (P : EventLaw) → Way (first_cluster h) F J P
     → ((s : Scene) (g : Happening) → MayHappen (first_cluster h) s g → C (happened (first_cluster h) s g).moments → C s.moments)
     → ((s : Scene) → Reached (first_cluster h) (first_scene h cells) s → C s.moments → F s) → (hs : List Happening) (s : Scene) (d : Due) → Reached (first_cluster h) (first_scene h cells) s
@@ -205,6 +210,19 @@ pub each_of_run : (h : Header) (cells : ℕ) (C : List Moment → Type 0) (F : S
     → EachEvent P (all_happened (first_cluster h) (first_scene h cells) hs).moments
 each_of_run h cells C F J P W back known hs may shaped all =
     run_so h cells C F J P W back known hs (first_scene h cells) nothing (record { happenings = []; may = tt; is = refl }) may shaped all tt (first_awaits h cells F J P)
+
+-- .. where F is known along the run
+run_along : (h : Header) (cells : ℕ) (F : Scene → Type 0) (J : Meanwhile) (P : EventLaw) → Way (first_cluster h) F J P → (hs : List Happening) (s : Scene) (d : Due) → MayAllHappen (first_cluster h) s hs
+    → ShapedFrom (first_cluster h) s d hs nothing → AlongRun F (first_cluster h) s hs → AreWithin d.wants → Awaits F J P s d.wants → EachEvent P (all_happened (first_cluster h) s hs).moments
+run_along h cells F J P W [] s d may shaped known within k = past_of (first_cluster h) F J P W s d.wants known k
+run_along h cells F J P W (g ∷ hs) s d may shaped known within k =
+    let c : Cluster = first_cluster h in
+    run_along h cells F J P W hs (happened c s g) (due_after c (happened c s g) d g) may.1 shaped.1 known.1 (step_within c F J P W s d.wants d.rounds g shaped.0 within)
+    (step_so c F J P W s d.wants d.rounds g may.0 known.0 (along_first F c (happened c s g) hs known.1) shaped.0 within k)
+
+pub each_along_run : (h : Header) (cells : ℕ) (F : Scene → Type 0) (J : Meanwhile) (P : EventLaw) → Way (first_cluster h) F J P → (hs : List Happening) → MayAllHappen (first_cluster h) (first_scene h cells) hs
+    → IsShaped (first_cluster h) (first_scene h cells) hs → AlongRun F (first_cluster h) (first_scene h cells) hs → EachEvent P (all_happened (first_cluster h) (first_scene h cells) hs).moments
+each_along_run h cells F J P W hs may shaped known = run_along h cells F J P W hs (first_scene h cells) nothing may shaped known tt (first_awaits h cells F J P)
 
 -- what is so of each event by one definition is so by another
 pub events_so : (P Q : List Moment → Moment → List Moment → Type 0) → ((before : List Moment) (x : Moment) (entries : List Moment) → P before x entries → Q before x entries)

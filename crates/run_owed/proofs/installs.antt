@@ -1,0 +1,11 @@
+pub mod Turns
+pub mod Few
+pub mod Else
+pub mod Courses
+pub mod Doings
+pub mod Short
+pub mod Sent
+pub mod Known
+pub mod Taking
+pub mod Steps
+pub mod Runs
