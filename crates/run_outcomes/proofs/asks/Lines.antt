@@ -60,7 +60,7 @@ dropping_next : (l : Links) (number : ℕ) (o : Option ℕ) → (dropping l numb
 dropping_next l number None = refl
 dropping_next l number (Some oldest) = refl
 
-crowding_next : (l : Links) (number from to : ℕ) → (crowding l number from to).after.next ≡ l.next
+pub crowding_next : (l : Links) (number from to : ℕ) → (crowding l number from to).after.next ≡ l.next
 crowding_next l number from to =
     if_either (λ (o : net.Outcome). o.after.next ≡ l.next) (nat_lt most_packets (count_on l.packets from to)) (dropping l number (oldest_on l.packets from to)) _
     (dropping_next l number (oldest_on l.packets from to)) refl

@@ -23,7 +23,9 @@ use Rattle.status_report.specs.declared.schedule_entry.ScheduleEntry.TheVariants
 use Rattle.world_model.specs.Devices.{due_at}
 use Rattle.world_model.specs.First.{first_cluster}
 use Rattle.run_outcomes.specs.rounds_told.Laws.{NoRoundIsLeft, RoundsAreTold}
+use Rattle.run_outcomes.specs.tasks.AsksGiven.{IsLeft}
 use Rattle.run_outcomes.specs.tasks.Laws.{NodeQueue, QueuesAreTold}
+use Rattle.run_outcomes.proofs.rounds_told.Numbers.{left_here, run_left}
 
 -- a node has a command due where a task is told
 node_told : (S : Setting) (ms : List Moment) (n : ℕ) (node : Node) → IsUp node → NodeQueue node (told.queued_of S n ms) → told.has_work S n ms ≡ is_some (due_at (Some node))
@@ -75,34 +77,36 @@ part_so P s (Notes schedule.RoundsDone) p = p
 part_so P s _ p = tt
 
 told_at : QueuesAreTold → (h : Header) (cells : ℕ) (s : Scene) (d : Due) → length h.devices ≤ most_devices → h.cluster < 2 ^ 32 → AreDisks h
-    → Before (first_cluster h) (first_scene h cells) d s → QueuesTold (setting_of h) s
-told_at queues h cells s d few small disks r =
+    → Before (first_cluster h) (first_scene h cells) d s → IsLeft s.links.next → QueuesTold (setting_of h) s
+told_at queues h cells s d few small disks r left =
     subst (QueuesTold (setting_of h)) r.is (λ n up shut.
     let t : Scene = all_happened (first_cluster h) (first_scene h cells) r.happenings in
-    node_told (setting_of h) t.moments n (t.nodes.node n) up (queues h cells r.happenings d few small disks r.may r.shaped r.native n shut))
+    node_told (setting_of h) t.moments n (t.nodes.node n) up (queues h cells r.happenings d few small disks r.may r.shaped r.native (subst (λ (z : Scene). IsLeft z.links.next) (sym r.is) left) n shut))
 
 each_told : QueuesAreTold → (h : Header) (cells : ℕ) (hs : List Happening) (s : Scene) (d last : Due) → length h.devices ≤ most_devices → h.cluster < 2 ^ 32 → AreDisks h
     → Before (first_cluster h) (first_scene h cells) d s → MayAllHappen (first_cluster h) s hs → ShapedFrom (first_cluster h) s d hs last → NoneForeign (first_cluster h) s hs
-    → AtEachPart (QueuesTold (setting_of h)) (first_cluster h) s hs
-each_told queues h cells [] s d last few small disks r may shaped native = tt
-each_told queues h cells (g ∷ hs) s d last few small disks r may shaped native =
+    → IsLeft (all_happened (first_cluster h) s hs).links.next → AtEachPart (QueuesTold (setting_of h)) (first_cluster h) s hs
+each_told queues h cells [] s d last few small disks r may shaped native left = tt
+each_told queues h cells (g ∷ hs) s d last few small disks r may shaped native left =
     let c : Cluster = first_cluster h in (
-      part_so (QueuesTold (setting_of h)) s g (told_at queues h cells s d few small disks r),
-      each_told queues h cells hs (happened c s g) (due_after c (happened c s g) d g) last few small disks (one_more c (first_scene h cells) d s g r may.0 shaped.0 native.0) may.1 shaped.1 native.1,
+      part_so (QueuesTold (setting_of h)) s g (told_at queues h cells s d few small disks r (left_here c s (g ∷ hs) left)),
+      each_told queues h cells hs (happened c s g) (due_after c (happened c s g) d g) last few small disks (one_more c (first_scene h cells) d s g r may.0 shaped.0 native.0) may.1 shaped.1 native.1 left,
     )
 
 -- ---- the run
 
 run_told : QueuesAreTold → (h : Header) (cells : ℕ) (hs : List Happening) → length h.devices ≤ most_devices → h.cluster < 2 ^ 32 → AreDisks h
     → MayAllHappen (first_cluster h) (first_scene h cells) hs → IsShaped (first_cluster h) (first_scene h cells) hs → NoneForeign (first_cluster h) (first_scene h cells) hs
-    → AtEachPart (QueuesTold (setting_of h)) (first_cluster h) (first_scene h cells) hs
-run_told queues h cells hs few small disks may shaped native =
-    each_told queues h cells hs (first_scene h cells) nothing nothing few small disks (record { happenings = []; may = tt; shaped = refl; native = tt; is = refl }) may shaped native
+    → IsLeft (all_happened (first_cluster h) (first_scene h cells) hs).links.next → AtEachPart (QueuesTold (setting_of h)) (first_cluster h) (first_scene h cells) hs
+run_told queues h cells hs few small disks may shaped native left =
+    each_told queues h cells hs (first_scene h cells) nothing nothing few small disks (record { happenings = []; may = tt; shaped = refl; native = tt; is = refl }) may shaped native left
 
 pub rounds_from : QueuesAreTold → RoundsAreTold
-rounds_from queues h cells hs few small disks same may shaped native asks =
-    parts_by_queues h cells hs (setting_of h) few small same may shaped asks (run_told queues h cells hs few small disks may shaped native)
+rounds_from queues h cells hs few small disks same may shaped native asks short =
+    parts_by_queues h cells hs (setting_of h) few small same may shaped asks
+    (run_told queues h cells hs few small disks may shaped native (run_left h cells hs few small same may shaped short))
 
 pub none_left_from : QueuesAreTold → NoRoundIsLeft
-none_left_from queues h cells hs few small disks same may shaped native asks =
-    none_left_by_queues h cells hs (setting_of h) few small same may shaped asks (run_told queues h cells hs few small disks may shaped native)
+none_left_from queues h cells hs few small disks same may shaped native asks short =
+    none_left_by_queues h cells hs (setting_of h) few small same may shaped asks
+    (run_told queues h cells hs few small disks may shaped native (run_left h cells hs few small same may shaped short))
