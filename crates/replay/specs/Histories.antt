@@ -43,9 +43,9 @@ use Rattle.run_history.specs.Scenes.{text_of}
 use Rattle.run_lines.specs.Laws.{IsAnswered}
 use Rattle.run_lines.specs.writes.Laws.{IsWritten}
 use Rattle.run_lines.specs.rounds.Parts.{PartsInOrder, shown}
-use Rattle.run_outcomes.specs.counts.Laws.{EndsForeign, EndsNeeding, EndsShort, NamesLacking}
+use Rattle.run_outcomes.specs.counts.Laws.{EndsForeign, EndsNeeding, NamesLacking}
 use Rattle.run_outcomes.specs.exclusions.Laws.{EndsExcluded}
-use Rattle.run_outcomes.specs.results.Laws.{NamesShown}
+use Rattle.run_outcomes.specs.results.Laws.{EndsAsShort}
 use Rattle.run_owed.specs.installs.Laws.{HasInstalls}
 use Rattle.run_owed.specs.prepares.Laws.{HasPrepares, IsOfOne}
 use Rattle.run_owed.specs.repeats.Laws.{HasPreparesAgain}
@@ -76,8 +76,8 @@ use Rattle.replay.specs.Replays.{OfCluster, OfDevice, Schedule, entries, schedul
 -- attempt begins in a tick of its coordinator, exactly with the nodes that it sees and for a reason, not alone where
 -- its coordinator is not configured, and its Installs bring its members; it ends, and starts, while it is under way, is
 -- superseded by what stands against it, ends for want of an answer at its eighth tick at the earliest and for want of
--- votes once all have promised, by what the newest record in hand counts and with obstacles that are shown (but for
--- keys that are not registered), for the least member that is foreign by that record, or for one that an earlier
+-- votes once all have promised, by what the newest record in hand counts and with obstacles that are shown, for keys
+-- that are not registered of each attached member, for the least member that is foreign by that record, or for one that an earlier
 -- attempt left out, and names a member. A node comes up, crashes and saves in the event that makes it do so, panics for
 -- a fence where a write of its own was refused and for an exclusion where it was told so, and stops exactly where an
 -- armed stop falls in a save that the rules let it make (but for commands at a device, where the rules are not proved).
@@ -138,9 +138,8 @@ pub record IsTrace (h : Header) (events : List Event) (text : List ℕ) : Type 0
   pub foreign : Always (EndsForeign (setting_of h)) moments
   pub exclusions : Always EndsExcluded moments
   pub needed : Always (EndsNeeding (setting_of h)) moments
-  pub counted : Always (EndsShort (setting_of h)) moments
   pub lacking : Always (NamesLacking (setting_of h)) moments
-  pub results : Always (NamesShown h) moments
+  pub short : Always (EndsAsShort (setting_of h)) moments
   pub seizeds : Always (SaysWhatWasRead h) moments
   pub readings : Always (BringsWhatWasRead h) moments
   pub one_seizer : OneSeizer h moments

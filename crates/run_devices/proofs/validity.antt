@@ -9,6 +9,7 @@ pub mod Tasks
 pub mod Answers
 pub mod Courses
 pub mod Downs
+pub mod Collected
 pub mod Doings
 pub mod Steps
 pub mod Dues

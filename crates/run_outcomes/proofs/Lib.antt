@@ -10,3 +10,4 @@ pub mod rounds_told
 pub mod own_tasks
 pub mod said
 pub mod seized
+pub mod accounts

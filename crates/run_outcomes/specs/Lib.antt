@@ -7,3 +7,4 @@ pub mod stops
 pub mod phases
 pub mod tasks
 pub mod rounds_told
+pub mod accounts

@@ -3,3 +3,4 @@ pub mod Laws
 pub mod Paths
 -- what only the proofs need
 pub mod Shown
+pub mod Tried

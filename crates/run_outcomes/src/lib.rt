@@ -4,7 +4,8 @@
 //!   hand are its own at the attempt and those that were promised to it since; it counts the votes of the newest.
 //! - `results`: which results of seizings an attempt names, where it ends for want of votes. Who is asked to seize a device has a path to it
 //!   (`specs/results/Paths`); how a seizing ended is told by the task, by its Seized and by the attempt, as the device lines show it since the attempt
-//!   began; and the Promises that an attempt has are those that were sent (`specs/results/Shown`).
+//!   began (`specs/results/Shown`); and what a record does not hold valid it did not hold so where its node promised, or began, the attempt of its session
+//!   (`specs/results/Tried`): but for a device that is seized without its votes, which is lost before the seizing, when all Promises are collected.
 //! - `exclusions`: whom attempts exclude. What a node has installed is no older than its last `installed` line says, and its Promise tells it with its
 //!   members.
 //! - `panics`: which nodes panic since an attempt excluded them. An attempt that excludes its own coordinator makes it panic; another node is told by an
@@ -58,9 +59,10 @@ pub fn paths_of_each_run()
     ensures { PathsOfEachRun }
 {}
 
-/// Where an attempt ends for want of votes, each obstacle that it names is shown: no member has a path to the device, or device lines of a member since the
-/// attempt began show the greater word, the expelled member, the contended device or the failed command. Where keys are not registered, a member read the
-/// keys of the device since then, or each attached member but the coordinator has sent a Promise of the attempt that does not show the device as valid.
+/// An attempt that ends for want of votes ends as the rules say it: all have promised, and it has fewer votes than are needed, as they are counted by the newest
+/// record in hand. Each obstacle that it names is shown: no member has a path to the device, or device lines of a member since the attempt began show the greater
+/// word, the expelled member, the contended device or the failed command. Where no registered member was found, this is shown of each attached one by itself:
+/// keys that a member read there since then lack its own; or its own record did not hold the device valid where it promised the attempt, or began it.
 pub fn results_of_each_run()
     ensures { ResultsOfEachRun }
 {}

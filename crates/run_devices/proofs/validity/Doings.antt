@@ -50,6 +50,7 @@ use Rattle.run_seizings.proofs.Asked.{DoingMay, SavesSo}
 use Rattle.run_seizings.proofs.Doings.{differ_before, doing_goes, rises_so}
 use Rattle.run_seizings.proofs.Goes as seizings
 use Rattle.run_seizings.proofs.Promising.{ChangeMay}
+use Rattle.run_seizings.specs.Sites.{InHand}
 use Rattle.run_seizings.proofs.Changes.{IsPromise, NoCollect, fit_parts}
 use Rattle.history.specs.Moment.{Moment}
 use Rattle.history.specs.Validated.{validity}
@@ -60,6 +61,7 @@ use Rattle.run_devices.proofs.validity.Acts.{act_goes, strict}
 use Rattle.run_devices.proofs.validity.Answers.{NotJoined, admitted_valid, taken_valid}
 use Rattle.run_devices.proofs.validity.Tasks.{IsFirst, line_of, taken_up}
 use Rattle.run_devices.proofs.validity.Changes.{counts_go, joins_go, leads_go, promises_go}
+use Rattle.run_devices.proofs.validity.Collected.{promise_agrees}
 use Rattle.run_devices.proofs.validity.Plainly.{IsPlain, mid_goes, plain_goes}
 use Rattle.run_devices.proofs.validity.Courses.{AllTrust, DoingTrusts, TrustsAct, TrustsChange}
 use Rattle.run_devices.proofs.validity.Goes.{Goes, line_goes}
@@ -223,12 +225,15 @@ ahead_next h c n x d ds s k = record { differ = differ_next c n x d ds s k.diffe
 record_agrees : (h : Header) (n : ℕ) (ms : List Moment) (x : Site) → SiteSo h ms n NoExcuse x → RecordAgrees h n ms x.disk
 record_agrees h n ms x k = λ d is. strict (Agrees (validity h n d ms) (has x.disk.valid d)) (k.valid d is)
 
-doing_agrees : (h : Header) (n : ℕ) (x : Site) (ms : List Moment) (d : Doing) → DoingTrusts d → DoingInstalls h n ms d → RecordAgrees h n ms x.disk → DoingAgrees h n x ms d
-doing_agrees h n x ms (Saves (Counts a q r i)) trusts tells k = (tells, k)
-doing_agrees h n x ms (Saves (Installs r i)) trusts tells k = (tells, k)
-doing_agrees h n x ms (Does (Takes at command a)) trusts tells k = absurd trusts
-doing_agrees h n x ms (Saves (Admits at command a d)) trusts tells k = absurd trusts
-doing_agrees h n x ms _ trusts tells k = tt
+doing_agrees : (h : Header) (c : Cluster) (n : ℕ) (told : Delivered) (x : Site) (ms : List Moment) (d : Doing) → May c n told x d → InHand h ms n told → DoingTrusts d → DoingInstalls h n ms d
+    → RecordAgrees h n ms x.disk → DoingAgrees h n x ms d
+doing_agrees h c n told x ms (Saves (Promises p)) may hand trusts tells k = promise_agrees h c n told x ms p may hand k
+doing_agrees h c n told x ms (Saves (Leads p members)) may hand trusts tells k = k
+doing_agrees h c n told x ms (Saves (Counts a q r i)) may hand trusts tells k = (tells, k)
+doing_agrees h c n told x ms (Saves (Installs r i)) may hand trusts tells k = (tells, k)
+doing_agrees h c n told x ms (Does (Takes at command a)) may hand trusts tells k = absurd trusts
+doing_agrees h c n told x ms (Saves (Admits at command a d)) may hand trusts tells k = absurd trusts
+doing_agrees h c n told x ms _ may hand trusts tells k = tt
 
 pub all_go : (h : Header) (c : Cluster) (M : Memberships) (n : ℕ) (told : Delivered) (v w : Nodes) (x : Site) (g : Hand) (ds : List Doing) (s : Scene) → Fixed h c n → Ready c M n told x
     → Small h c n told g x ds → AllTrust ds → Ahead h c n x ds s → seizings.Goes h n told v w x g s → Goes h n told v w NoExcuse x s
@@ -245,7 +250,7 @@ all_go h c M n told v w x g (d ∷ ds) s fixed r small trusts differ z k =
     all_go h c next.machine n told v w (effect c n x d) (hand_after g d) ds (passing n first s) fixed next.ready (small_rest h c n told g x d ds small) trusts.1
     (ahead_next h c n x d ds s differ) (also_next h c M n told v w x g d ds s fixed r small differ.differ z) one in (
       subst (λ t. Goes h n told v w NoExcuse (after_all c n (effect c n x d) ds) t) (sym (passing_append n first rest s)) later.0,
-      (doing_agrees h n x s.moments d trusts.0 differ.installs.0 (record_agrees h n s.moments x k.here), later.1),
+      (doing_agrees h c n told x s.moments d small.may.0 z.hand trusts.0 differ.installs.0 (record_agrees h n s.moments x k.here), later.1),
     )
 
 -- the rest goes on behind the first

@@ -41,7 +41,7 @@ use Rattle.run_devices.proofs.validity.Wants.{Kept, KeptBy, step_so}
 stage_at : (h : Header) (cells : ℕ) (s : Scene) → length h.devices ≤ most_devices → h.cluster < 2 ^ 32 → Reached (first_cluster h) (first_scene h cells) s → Stage (first_cluster h) s
 stage_at h cells s few small r = subst (Stage (first_cluster h)) r.is (run_stage h cells r.happenings few small r.may)
 
-known_at : (h : Header) (cells : ℕ) (s : Scene) → length h.devices ≤ most_devices → h.cluster < 2 ^ 32 → Reached (first_cluster h) (first_scene h cells) s → Known h s
+pub known_at : (h : Header) (cells : ℕ) (s : Scene) → length h.devices ≤ most_devices → h.cluster < 2 ^ 32 → Reached (first_cluster h) (first_scene h cells) s → Known h s
 known_at h cells s few small r =
     let cuts : CutsOf h cells r.happenings = runs_are_cut h cells r.happenings in
     record {
@@ -68,7 +68,7 @@ run_so h cells few small (x ∷ xs) s d last may shaped k =
       kept = step_so h s d x shaped.0 may.0 (known_at h cells s few small k.reached) (stage_at h cells (happened c s x) few small next).laws.once k.kept;
     })
 
-first_strict : (h : Header) (cells : ℕ) → length h.devices ≤ most_devices → AreDisks h → Strict h (first_scene h cells)
+pub first_strict : (h : Header) (cells : ℕ) → length h.devices ≤ most_devices → AreDisks h → Strict h (first_scene h cells)
 unfolding first_scene
 first_strict h cells few disks = record { sites = λ n. record { valid = λ d is. inl (first_told h n d few disks is); up = tt }; shown = tt }
 

@@ -10,7 +10,7 @@ use Rattle.device_queue.specs.Queue.{begins_plainly, first_of}
 use Rattle.device_queue.specs.Tasks.{is_joining}
 use Rattle.seize.specs.declared.step.JoinStep.{JoinStep}
 use Rattle.seize.specs.declared.step.JoinStep.TheVariants as join
-use Rattle.history.specs.Member.{last_installed}
+use Rattle.history.specs.Member.{in_collect, last_installed, promised_to}
 use Rattle.history.specs.Moment.{Moment}
 use Rattle.history.specs.Order.{since}
 use Rattle.history.specs.Seizing.{is_install}
@@ -24,7 +24,7 @@ use Rattle.cmm_member.specs.Records.{NodeRecord}
 use Rattle.history.specs.Trace.{saved}
 use Rattle.refinement.specs.Doings.{Doing, Site, effect, gives}
 use Rattle.refinement.specs.Doings.Act.{Takes}
-use Rattle.refinement.specs.Doings.Change.{Admits, Counts, Installs}
+use Rattle.refinement.specs.Doings.Change.{Admits, Counts, Installs, Leads, Promises}
 use Rattle.refinement.specs.Doings.Doing.{Does, Saves}
 use Rattle.run_history.specs.Scenes.{Scene, passing}
 use Rattle.run_devices.specs.installs.Shown.{InstallSo}
@@ -96,8 +96,11 @@ abbrev pub JoinsFirstIn : Node → Type 0
 JoinsFirstIn Down = Unit {0}
 JoinsFirstIn (Up x) = JoinsFirst x
 
--- It installs what tells the seizings, and its record is as the lines tell; and once it has installed its session the answers that come are of joinings.
+-- It installs what tells the seizings, and its record is as the lines tell, as it is where it promises the number of the Collect that has come, or begins an attempt; and once it
+-- has installed its session the answers that come are of joinings.
 abbrev pub DoingAgrees : Header → ℕ → Site → List Moment → Doing → Type 0
+DoingAgrees h n x moments (Saves (Promises p)) = (in_collect n moments ≡ true) × (promised_to moments ≡ Some p) × RecordAgrees h n moments x.disk
+DoingAgrees h n x moments (Saves (Leads p members)) = RecordAgrees h n moments x.disk
 DoingAgrees h n x moments (Saves (Counts a q r i)) = InstallSo h (saved n ∷ moments) n r i × RecordAgrees h n moments x.disk
 DoingAgrees h n x moments (Saves (Installs r i)) = InstallSo h (saved n ∷ moments) n r i × RecordAgrees h n moments x.disk
 DoingAgrees h n x moments (Does (Takes at command a)) = JoinsFirstIn x.node

@@ -58,7 +58,7 @@ or_second : (a b : Bool) → b ≡ true → (a || b) ≡ true
 or_second true b h = refl
 or_second false b h = h
 
-has_quorum : (v : VoteTable) (both : BothVotes) (d : ℕ) → IsOneOf v both → is_counted v d ≡ true → is_quorum both d ≡ true
+pub has_quorum : (v : VoteTable) (both : BothVotes) (d : ℕ) → IsOneOf v both → is_counted v d ≡ true → is_quorum both d ≡ true
 has_quorum v both d (inl is) e = or_first _ (is_enabled_pending both.pending d) (subst (λ z. is_counted z d ≡ true) is e)
 has_quorum v both d (inr is) e = or_second (is_counted both.committed d) _ (subst (λ o. is_enabled_pending o d ≡ true) (sym is) e)
 

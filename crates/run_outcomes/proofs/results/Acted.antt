@@ -1,8 +1,13 @@
 -- What a node gives in its acts, by which no answer of a device comes, tells what is shown, and so does the node after them.
-use Rattle.std.specs.Prelude.{All, List, None, Some, [], true, ℕ, ◌∷◌, ◌≡◌, ◌<◌, ◌≤◌}
+use Rattle.std.specs.Prelude.{All, Bool, List, None, Some, [], false, true, ℕ, ◌∷◌, ◌≡◌, ◌≢◌, ◌<◌, ◌≤◌, ◌==◌, ◌⊎◌}
 use Rattle.std.specs.List.{AllByRecursion, list_any}
-use Rattle.std.proofs.Common.{ap, inl, inr, subst, sym}
-use Rattle.cl_base.specs.Seizings.{SeizeResult, bare}
+use Rattle.std.proofs.Common.{ap, arith, inl, inr, refl, subst, sym, ◌∙◌}
+use Rattle.cl_base.specs.Sets.{has}
+use Rattle.cmm_attempt.proofs.Basics.{same_number}
+use Rattle.run_seizings.proofs.Progress.{begun_stays}
+use Rattle.run_history.specs.WorldLines.{IsDevice as IsDeviceOf}
+use Rattle.run_outcomes.proofs.results.Fresh.{FreshNode, act_fresh}
+use Rattle.cl_base.specs.Seizings.{SeizeResult}
 use Rattle.cl_base.specs.declared.header.Header.{Header}
 use Rattle.cl_base.specs.declared.seizing.Lack.{Lack}
 use Rattle.cmm_attempt.specs.Attempts.{AttemptState}
@@ -26,12 +31,12 @@ use Rattle.node_model.specs.declared.output.Output.TheVariants.{Sends, Tells}
 use Rattle.refinement.specs.Doings.{Act, Change, acted, said}
 use Rattle.refinement.specs.Doings.Act.{Accepts, Dates, Ends, Gives, Goes_on, Hears, Makes, Minds, Notes, Queues, Spreads, Stores, Takes, Ticks, Waits, Works, Writes}
 use Rattle.refinement.specs.Doings.Change.{Admits, Counts, Starts}
-use Rattle.refinement.specs.Guards.{MayAct, MayChange}
+use Rattle.refinement.specs.Guards.{MayAct, MayChange, MayWrite}
 use Rattle.refinement.specs.Ties.{Delivered}
 use Rattle.run_outcomes.proofs.counts.Short.{call_short}
 use Rattle.run_outcomes.specs.counts.Ends.{ActFits, IsGivenBy, Last, last_by, last_by_change}
 use Rattle.run_outcomes.specs.counts.Shorts.{ShortBy}
-use Rattle.run_history.specs.Guards.{AtAct, AtWrite, Hand, IsPlainBody, TellsEnd}
+use Rattle.run_history.specs.Guards.{AtAct, AtWrite, Hand, IsPlainBody, MadeAt, TellsEnd}
 use Rattle.run_history.specs.Marks.{ActSo}
 use Rattle.run_history.specs.Scenes.{Scene, passing, telling}
 use Rattle.status_report.specs.declared.attempt_entry.AttemptEntry.TheVariants as attempt_entry
@@ -39,12 +44,14 @@ use Rattle.status_report.specs.declared.entry.Entry.TheVariants as entry
 use Rattle.wire.specs.declared.message.Body.{Body}
 use Rattle.wire.specs.declared.message.Body.TheVariants as body
 use Rattle.run_outcomes.proofs.results.Calm.{AllCalm, IsMute, IsPlain, made_calm, minor_calm, spread_calm, ticked_calm, write_calm}
-use Rattle.run_outcomes.proofs.results.Lacking.{lacks_shown}
+use Rattle.run_outcomes.proofs.results.Lacking.{lacks_shown, one_of}
 use Rattle.run_outcomes.proofs.results.Passing.{Lasts, idle_ends, idle_spares, passing_lasts, posting_lasts}
 use Rattle.run_outcomes.proofs.results.Stays.{hand_stays, node_stays, says_stay}
 use Rattle.run_outcomes.proofs.results.Tasks.{Ended, ended_shown}
-use Rattle.run_outcomes.proofs.results.Ups.{NoneLate, act_up, attempt_of}
+use Rattle.run_outcomes.proofs.results.Ups.{IsOpen, NoneLate, attempt_of}
+use Rattle.run_outcomes.proofs.results.Changed.{act_up}
 use Rattle.run_outcomes.specs.results.Shown.{AttemptShown, EndShown, EndsShown, HandShown, NodeShown, ObstacleShown, OfHeader, SaysShown, UpShown}
+use Rattle.run_outcomes.specs.results.Tried.{Collected, HeldOr, Without}
 
 -- ---- in the step of a node
 
@@ -52,32 +59,40 @@ abbrev pub LastReached : Last → Type 0
 LastReached None = Unit {0}
 LastReached (Some l) = IsReached l.0
 
-pub record Now (h : Header) (n : ℕ) (told : Delivered) (f : ℕ → ℕ) (node : Node) (last : Last) (ms : List Moment) : Type 0 where
-  pub here : NodeShown h ms n node
-  pub hand : HandShown h f ms told
+pub record Now (h : Header) (past : Collected) (n : ℕ) (told : Delivered) (f : ℕ → ℕ) (node : Node) (last : Last) (ms : List Moment) : Type 0 where
+  pub here : NodeShown h past ms n node
+  pub hand : HandShown h past f ms told
   pub lines : Always (EndsShown h) ms
   pub reached : LastReached last
+  pub fresh : FreshNode past node
+  pub begun : (e : ℕ) → past e → list_any (is_attempt e) ms ≡ true
 
 -- as long as no two attempts have one number
-abbrev pub Goes : Header → ℕ → Delivered → (ℕ → ℕ) → Node → Last → List Moment → Type 0
-Goes h n told f node last ms = AttemptsDiffer ms → Now h n told f node last ms
+abbrev pub Goes : Header → Collected → ℕ → Delivered → (ℕ → ℕ) → Node → Last → List Moment → Type 0
+Goes h past n told f node last ms = AttemptsDiffer ms → Now h past n told f node last ms
 
-pub goes_last : (h : Header) (n : ℕ) (told : Delivered) (f : ℕ → ℕ) (node : Node) (last : Last) → Lasts (Goes h n told f node last)
-goes_last h n told f node last x ms idle k differ =
-    let z : Now h n told f node last ms = k differ.1 in
+pub goes_last : (h : Header) (past : Collected) (n : ℕ) (told : Delivered) (f : ℕ → ℕ) (node : Node) (last : Last) → Lasts (Goes h past n told f node last)
+goes_last h past n told f node last x ms idle k differ =
+    let z : Now h past n told f node last ms = k differ.1 in
     record {
-      here = node_stays h ms x n node differ.0 (idle_spares n x idle) z.here;
-      hand = hand_stays h f ms x told differ.0 z.hand;
+      here = node_stays h past ms x n node differ.0 (idle_spares n x idle) z.here;
+      hand = hand_stays h past f ms x told differ.0 z.hand;
       lines = (idle_ends h ms x idle, z.lines);
       reached = z.reached;
+      fresh = z.fresh;
+      begun = λ e gone. begun_stays ms x e (z.begun e gone);
     }
 
+-- what is known of the node once it has gone on
+abbrev pub After : Header → Collected → List Moment → ℕ → Node → Type 0
+After h past ms n other = NodeShown h past ms n other × FreshNode past other
+
 -- the node has gone on, in memory
-goes_to : (h : Header) (n : ℕ) (told : Delivered) (f : ℕ → ℕ) (node other : Node) (last more : Last) (ms : List Moment) → (Now h n told f node last ms → NodeShown h ms n other)
-    → (Now h n told f node last ms → LastReached more) → Goes h n told f node last ms → Goes h n told f other more ms
-goes_to h n told f node other last more ms up so k differ =
-    let z : Now h n told f node last ms = k differ in
-    record { here = up z; hand = z.hand; lines = z.lines; reached = so z }
+goes_to : (h : Header) (past : Collected) (n : ℕ) (told : Delivered) (f : ℕ → ℕ) (node other : Node) (last more : Last) (ms : List Moment) → (Now h past n told f node last ms → After h past ms n other)
+    → (Now h past n told f node last ms → LastReached more) → Goes h past n told f node last ms → Goes h past n told f other more ms
+goes_to h past n told f node other last more ms up so k differ =
+    let z : Now h past n told f node last ms = k differ in
+    record { here = (up z).0; hand = z.hand; lines = z.lines; reached = so z; fresh = (up z).1; begun = z.begun }
 
 -- what the node has installed is no newer than that
 abbrev pub NoneNewer : (ℕ → ℕ) → UpNode → Type 0
@@ -85,42 +100,43 @@ NoneNewer top x = (e : ℕ) → 0 < e → e ≡ installed_of x → e ≤ top (co
 
 -- ---- what is said
 
-abbrev pub OutShown : Header → (ℕ → ℕ) → List Moment → Output → Type 0
-OutShown h top ms (Tells e) = Unit {0}
-OutShown h top ms (Sends to b) = SaysShown h top ms b
+abbrev pub OutShown : Header → Collected → ℕ → (ℕ → ℕ) → List Moment → Output → Type 0
+OutShown h past n top ms (Tells e) = Unit {0}
+OutShown h past n top ms (Sends to b) = SaysShown h past top ms n b
 
-abbrev pub OutsShown : Header → (ℕ → ℕ) → List Output → List Moment → Type 0
-OutsShown h top os ms = AttemptsDiffer ms → AllByRecursion (OutShown h top ms) os
+abbrev pub OutsShown : Header → Collected → ℕ → (ℕ → ℕ) → List Output → List Moment → Type 0
+OutsShown h past n top os ms = AttemptsDiffer ms → AllByRecursion (OutShown h past n top ms) os
 
-mute_says : (h : Header) (top : ℕ → ℕ) (ms : List Moment) (b : Body) → IsMute b → SaysShown h top ms b
-mute_says h top ms (body.Seized e d r) k = absurd k
-mute_says h top ms _ k = tt
+mute_says : (h : Header) (past : Collected) (top : ℕ → ℕ) (ms : List Moment) (n : ℕ) (b : Body) → IsMute b → SaysShown h past top ms n b
+mute_says h past top ms n (body.Seized e d r) k = absurd k
+mute_says h past top ms n (body.Promise e last members valid flagged committed pending) k = absurd k
+mute_says h past top ms n _ k = tt
 
-pub calm_says : (h : Header) (top : ℕ → ℕ) (ms : List Moment) (os : List Output) → AllCalm os → AllByRecursion (OutShown h top ms) os
-calm_says h top ms [] k = tt
-calm_says h top ms (Tells e ∷ os) k = (tt, calm_says h top ms os k.1)
-calm_says h top ms (Sends to b ∷ os) k = (mute_says h top ms b k.0, calm_says h top ms os k.1)
+pub calm_says : (h : Header) (past : Collected) (n : ℕ) (top : ℕ → ℕ) (ms : List Moment) (os : List Output) → AllCalm os → AllByRecursion (OutShown h past n top ms) os
+calm_says h past n top ms [] k = tt
+calm_says h past n top ms (Tells e ∷ os) k = (tt, calm_says h past n top ms os k.1)
+calm_says h past n top ms (Sends to b ∷ os) k = (mute_says h past top ms n b k.0, calm_says h past n top ms os k.1)
 
-outs_stay : (h : Header) (top : ℕ → ℕ) (ms : List Moment) (x : Moment) (os : List Output) → IsNew ms x → AllByRecursion (OutShown h top ms) os → AllByRecursion (OutShown h top (x ∷ ms)) os
-outs_stay h top ms x [] new k = tt
-outs_stay h top ms x (Tells e ∷ os) new k = (tt, outs_stay h top ms x os new k.1)
-outs_stay h top ms x (Sends to b ∷ os) new k = (says_stay h top ms x b new k.0, outs_stay h top ms x os new k.1)
+outs_stay : (h : Header) (past : Collected) (n : ℕ) (top : ℕ → ℕ) (ms : List Moment) (x : Moment) (os : List Output) → IsNew ms x → AllByRecursion (OutShown h past n top ms) os → AllByRecursion (OutShown h past n top (x ∷ ms)) os
+outs_stay h past n top ms x [] new k = tt
+outs_stay h past n top ms x (Tells e ∷ os) new k = (tt, outs_stay h past n top ms x os new k.1)
+outs_stay h past n top ms x (Sends to b ∷ os) new k = (says_stay h past top ms x n b new k.0, outs_stay h past n top ms x os new k.1)
 
-pub outs_last : (h : Header) (top : ℕ → ℕ) (os : List Output) (x : Moment) (ms : List Moment) → OutsShown h top os ms → OutsShown h top os (x ∷ ms)
-outs_last h top os x ms k differ = outs_stay h top ms x os differ.0 (k differ.1)
+pub outs_last : (h : Header) (past : Collected) (n : ℕ) (top : ℕ → ℕ) (os : List Output) (x : Moment) (ms : List Moment) → OutsShown h past n top os ms → OutsShown h past n top os (x ∷ ms)
+outs_last h past n top os x ms k differ = outs_stay h past n top ms x os differ.0 (k differ.1)
 
 -- a small step with what it gives
-pub record Done (h : Header) (n : ℕ) (told : Delivered) (f top : ℕ → ℕ) (node : Node) (last : Last) (os : List Output) (ms : List Moment) : Type 0 where
-  pub goes : Goes h n told f node last ms
-  pub says : OutsShown h top os ms
+pub record Done (h : Header) (past : Collected) (n : ℕ) (told : Delivered) (f top : ℕ → ℕ) (node : Node) (last : Last) (os : List Output) (ms : List Moment) : Type 0 where
+  pub goes : Goes h past n told f node last ms
+  pub says : OutsShown h past n top os ms
 
-pub calm_done : (h : Header) (n : ℕ) (told : Delivered) (f top : ℕ → ℕ) (node other : Node) (last more : Last) (os : List Output) (s : Scene) → AllCalm os
-    → ((ms : List Moment) → Now h n told f node last ms → NodeShown h ms n other) → ((ms : List Moment) → Now h n told f node last ms → LastReached more) → Goes h n told f node last s.moments
-    → Done h n told f top other more os (passing n os s).moments
-calm_done h n told f top node other last more os s calm up so k = record {
-  goes = goes_to h n told f node other last more (passing n os s).moments (up (passing n os s).moments) (so (passing n os s).moments)
-      (passing_lasts (Goes h n told f node last) (goes_last h n told f node last) n os s calm k);
-  says = λ differ. calm_says h top (passing n os s).moments os calm;
+pub calm_done : (h : Header) (past : Collected) (n : ℕ) (told : Delivered) (f top : ℕ → ℕ) (node other : Node) (last more : Last) (os : List Output) (s : Scene) → AllCalm os
+    → ((ms : List Moment) → Now h past n told f node last ms → After h past ms n other) → ((ms : List Moment) → Now h past n told f node last ms → LastReached more) → Goes h past n told f node last s.moments
+    → Done h past n told f top other more os (passing n os s).moments
+calm_done h past n told f top node other last more os s calm up so k = record {
+  goes = goes_to h past n told f node other last more (passing n os s).moments (up (passing n os s).moments) (so (passing n os s).moments)
+      (passing_lasts (Goes h past n told f node last) (goes_last h past n told f node last) n os s calm k);
+  says = λ differ. calm_says h past n top (passing n os s).moments os calm;
 }
 
 -- ---- acts
@@ -130,69 +146,99 @@ lacking_in : AttemptEnd → List Lack
 lacking_in (end.Votes have need lacking) = lacking
 lacking_in _ = []
 
-ends_votes : (h : Header) (n : ℕ) (told : Delivered) (f : ℕ → ℕ) (x : UpNode) (a : AttemptState) (have need : ℕ) (lacking : List Lack) (last : Last) (ms : List Moment) → x.attempt ≡ Some a
-    → IsGivenBy last a (end.Votes have need lacking) → Now h n told f (Up x) last ms → AllByRecursion (λ (z : Lack). ObstacleShown h a.plan.epoch z.device ms z.obstacle) lacking
+ends_votes : (h : Header) (past : Collected) (n : ℕ) (told : Delivered) (f : ℕ → ℕ) (x : UpNode) (a : AttemptState) (have need : ℕ) (lacking : List Lack) (last : Last) (ms : List Moment) → x.attempt ≡ Some a
+    → IsGivenBy last a (end.Votes have need lacking) → Now h past n told f (Up x) last ms → AllByRecursion (λ (z : Lack). ObstacleShown h a.plan.epoch z.device ms z.obstacle) lacking
 unfolding lacking_in
-ends_votes h n told f x a have need lacking None ms is given k = absurd given
-ends_votes h n told f x a have need lacking (Some l) ms is given k =
+ends_votes h past n told f x a have need lacking None ms is given k = absurd given
+ends_votes h past n told f x a have need lacking (Some l) ms is given k =
     let t : AttemptState = (turn l.0 l.1).after in
     let short : ShortBy t (end.Votes have need lacking) = call_short l.0 l.1 (end.Votes have need lacking) k.reached given.1 tt in
     let so : AttemptShown h ms (session_of x) a = attempt_of h ms (session_of x) x.attempt a is k.here.attempt in
     let old : AttemptShown h ms (session_of x) t = subst (λ z. AttemptShown h ms (session_of x) z) given.0 so in
     subst (λ (z : AttemptState). AllByRecursion (λ (y : Lack). ObstacleShown h z.plan.epoch y.device ms y.obstacle) lacking) (sym given.0)
     (subst (λ zs. AllByRecursion (λ (y : Lack). ObstacleShown h t.plan.epoch y.device ms y.obstacle) zs) (sym (ap lacking_in short.is))
-    (lacks_shown h ms short.v t t.plan.attached (record { members = old.of.1; plan = old.plan; promises = old.promises; rests = old.rests })))
+    (lacks_shown h ms short.v t t.plan.attached (record {
+      members = old.of.1;
+      plan = old.plan;
+      promises = old.promises;
+      rests = old.rests;
+      reached = old.reached;
+      both = short.both;
+      given = short.given;
+      one = one_of short.both t.plan.members short.set short.v short.short;
+    })))
 
-ends_done : (h : Header) (n : ℕ) (told : Delivered) (f top : ℕ → ℕ) (x y : UpNode) (a : AttemptState) (why : AttemptEnd) (last more : Last) (s : Scene) → x.attempt ≡ Some a → IsGivenBy last a why
-    → ((ms : List Moment) → Now h n told f (Up x) last ms → NodeShown h ms n (Up y)) → ((ms : List Moment) → Now h n told f (Up x) last ms → LastReached more) → Goes h n told f (Up x) last s.moments
-    → Done h n told f top (Up y) more (Tells (entry.Attempt (ended_entry a.plan.epoch why)) ∷ []) (telling (entry.Attempt (ended_entry a.plan.epoch why)) s).moments
-ends_done h n told f top x y a (end.Votes have need lacking) last more s is given up so k = record {
-  goes = goes_to h n told f (Up x) (Up y) last more _ (up _) (so _) ended;
+ends_done : (h : Header) (past : Collected) (n : ℕ) (told : Delivered) (f top : ℕ → ℕ) (x y : UpNode) (a : AttemptState) (why : AttemptEnd) (last more : Last) (s : Scene) → x.attempt ≡ Some a → IsGivenBy last a why
+    → ((ms : List Moment) → Now h past n told f (Up x) last ms → After h past ms n (Up y)) → ((ms : List Moment) → Now h past n told f (Up x) last ms → LastReached more) → Goes h past n told f (Up x) last s.moments
+    → Done h past n told f top (Up y) more (Tells (entry.Attempt (ended_entry a.plan.epoch why)) ∷ []) (telling (entry.Attempt (ended_entry a.plan.epoch why)) s).moments
+ends_done h past n told f top x y a (end.Votes have need lacking) last more s is given up so k = record {
+  goes = goes_to h past n told f (Up x) (Up y) last more _ (up _) (so _) ended;
   says = λ differ. (tt, tt);
 }
   where
-    ended : Goes h n told f (Up x) last (Told (entry.Attempt (attempt_entry.Votes a.plan.epoch have need lacking)) ∷ s.moments)
+    ended : Goes h past n told f (Up x) last (Told (entry.Attempt (attempt_entry.Votes a.plan.epoch have need lacking)) ∷ s.moments)
     ended differ =
-        let z : Now h n told f (Up x) last s.moments = k differ.1 in
+        let z : Now h past n told f (Up x) last s.moments = k differ.1 in
         record {
-          here = node_stays h s.moments (Told (entry.Attempt (attempt_entry.Votes a.plan.epoch have need lacking))) n (Up x) tt tt z.here;
-          hand = hand_stays h f s.moments (Told (entry.Attempt (attempt_entry.Votes a.plan.epoch have need lacking))) told tt z.hand;
-          lines = (ends_votes h n told f x a have need lacking last s.moments is given z, z.lines);
+          here = node_stays h past s.moments (Told (entry.Attempt (attempt_entry.Votes a.plan.epoch have need lacking))) n (Up x) tt tt z.here;
+          hand = hand_stays h past f s.moments (Told (entry.Attempt (attempt_entry.Votes a.plan.epoch have need lacking))) told tt z.hand;
+          lines = (ends_votes h past n told f x a have need lacking last s.moments is given z, z.lines);
           reached = z.reached;
+          fresh = z.fresh;
+          begun = λ e gone. begun_stays s.moments (Told (entry.Attempt (attempt_entry.Votes a.plan.epoch have need lacking))) e (z.begun e gone);
         }
-ends_done h n told f top x y a (end.Superseded q) last more s is given up so k =
-    calm_done h n told f top (Up x) (Up y) last more (Tells (entry.Attempt (ended_entry a.plan.epoch (end.Superseded q))) ∷ []) s (tt, tt) up so k
-ends_done h n told f top x y a (end.Silent m) last more s is given up so k =
-    calm_done h n told f top (Up x) (Up y) last more (Tells (entry.Attempt (ended_entry a.plan.epoch (end.Silent m))) ∷ []) s (tt, tt) up so k
-ends_done h n told f top x y a (end.Foreign m) last more s is given up so k =
-    calm_done h n told f top (Up x) (Up y) last more (Tells (entry.Attempt (ended_entry a.plan.epoch (end.Foreign m))) ∷ []) s (tt, tt) up so k
-ends_done h n told f top x y a (end.Excluded m) last more s is given up so k =
-    calm_done h n told f top (Up x) (Up y) last more (Tells (entry.Attempt (ended_entry a.plan.epoch (end.Excluded m))) ∷ []) s (tt, tt) up so k
+ends_done h past n told f top x y a (end.Superseded q) last more s is given up so k =
+    calm_done h past n told f top (Up x) (Up y) last more (Tells (entry.Attempt (ended_entry a.plan.epoch (end.Superseded q))) ∷ []) s (tt, tt) up so k
+ends_done h past n told f top x y a (end.Silent m) last more s is given up so k =
+    calm_done h past n told f top (Up x) (Up y) last more (Tells (entry.Attempt (ended_entry a.plan.epoch (end.Silent m))) ∷ []) s (tt, tt) up so k
+ends_done h past n told f top x y a (end.Foreign m) last more s is given up so k =
+    calm_done h past n told f top (Up x) (Up y) last more (Tells (entry.Attempt (ended_entry a.plan.epoch (end.Foreign m))) ∷ []) s (tt, tt) up so k
+ends_done h past n told f top x y a (end.Excluded m) last more s is given up so k =
+    calm_done h past n told f top (Up x) (Up y) last more (Tells (entry.Attempt (ended_entry a.plan.epoch (end.Excluded m))) ∷ []) s (tt, tt) up so k
 
 -- what it sends of how a seizing ended
-tells_shown : (h : Header) (top : ℕ → ℕ) (ms : List Moment) (n e d : ℕ) (r : SeizeResult) (told : Delivered) (x : UpNode) → TellsEnd told x e d r → NoneNewer top x → UpShown h ms n x
-    → SaysShown h top ms (body.Seized e d r)
-tells_shown h top ms n e d r told x (inr fault) newer k = inl (fault.0, newer e fault.1 fault.2)
-tells_shown h top ms n e d r told x (inl ended) newer k =
-    let z : Ended h ms (session_of x) d r = ended_shown h ms n (session_of x) d r x.tasks ended.1 k.tasks in
-    inr (subst (λ q. list_any (is_attempt q) ms ≡ true) (sym ended.0) z.begun, subst (λ q. EndShown h q d ms (bare r)) (sym ended.0) z.shown)
+tells_shown : (h : Header) (past : Collected) (top : ℕ → ℕ) (ms : List Moment) (n e d : ℕ) (r : SeizeResult) (told : Delivered) (x : UpNode) → TellsEnd told x e d r → NoneNewer top x → UpShown h past ms n x
+    → SaysShown h past top ms n (body.Seized e d r)
+tells_shown h past top ms n e d r told x (inr fault) newer k = inl (fault.0, newer e fault.1 fault.2)
+tells_shown h past top ms n e d r told x (inl ended) newer k =
+    let z : Ended h ms n (session_of x) d r = ended_shown h ms n (session_of x) d r x.tasks ended.1 k.tasks in
+    inr (subst (λ q. list_any (is_attempt q) ms ≡ true) (sym ended.0) z.begun, subst (λ q. EndShown h q d ms n r) (sym ended.0) z.shown)
 
-written_shown : (h : Header) (top : ℕ → ℕ) (ms : List Moment) (n : ℕ) (told : Delivered) (g : Hand) (x : UpNode) (to : ℕ) (b : Body) → AtWrite told g x to b → NoneNewer top x → UpShown h ms n x → SaysShown h top ms b
-written_shown h top ms n told g x to (body.Seized e d r) at newer k = tells_shown h top ms n e d r told x at newer k
-written_shown h top ms n told g x to _ at newer k = tt
+-- the devices that a Promise shows as valid
+valid_of : Body → ℕ
+valid_of (body.Promise e last members valid flagged committed pending) = valid
+valid_of _ = 0
 
-writes_done : (h : Header) (n : ℕ) (told : Delivered) (f top : ℕ → ℕ) (g : Hand) (x : UpNode) (last more : Last) (to : ℕ) (b : Body) (s : Scene) → AtWrite told g x to b → NoneNewer top x
-    → ((ms : List Moment) → Now h n told f (Up x) last ms → LastReached more) → Goes h n told f (Up x) last s.moments
-    → Done h n told f top (Up x) more (Sends to b ∷ []) (passing n (Sends to b ∷ []) s).moments
-writes_done h n told f top g x last more to b s at newer so k = record {
-  goes = goes_to h n told f (Up x) (Up x) last more _ (λ z. z.here) (so _)
-      (posting_lasts (Goes h n told f (Up x) last) (goes_last h n told f (Up x) last) n to (record { sender = n; body = b }) s k);
-  says = posting_lasts (OutsShown h top (Sends to b ∷ [])) (λ y ms idle z. outs_last h top (Sends to b ∷ []) y ms z) n to (record { sender = n; body = b }) s
-      (λ differ. (written_shown h top s.moments n told g x to b at newer (k differ).here, tt));
+written_shown : (h : Header) (past : Collected) (top : ℕ → ℕ) (ms : List Moment) (n : ℕ) (told : Delivered) (g : Hand) (x : UpNode) (to : ℕ) (b : Body) → AtWrite told g x to b → MayWrite x b → NoneNewer top x → UpShown h past ms n x → SaysShown h past top ms n b
+unfolding valid_of
+written_shown h past top ms n told g x to (body.Seized e d r) at may newer k = tells_shown h past top ms n e d r told x at newer k
+written_shown h past top ms n told g x to (body.Promise e last members valid flagged committed pending) at may newer k = by_open (installed_of x == session_of x) refl
+  where
+    by_open : (b : Bool) → (installed_of x == session_of x) ≡ b → (e ≤ top (coordinator e)) ⊎ ((d : ℕ) → IsDeviceOf h d → has valid d ≡ false → Without h e d ms n ⊎ past e)
+    by_open true same = inl (newer e may.0 (may.1 ∙ sym (same_number (installed_of x) (session_of x) same)))
+    by_open false other = inr (λ d is none. by_case d (k.seat (subst (λ q. 0 < q) may.1 may.0) (no_same (installed_of x) (session_of x) other) d is (ap (λ z. has z d) (sym (ap valid_of may.2)) ∙ none)))
+      where
+        no_same : (a b : ℕ) → (a == b) ≡ false → a ≢ b
+        no_same a b i = grind arith
+
+        by_case : (d : ℕ) → HeldOr h past ms n (session_of x) d x.tasks → Without h e d ms n ⊎ past e
+        by_case d (inl w) = inl (subst (λ q. Without h q d ms n) (sym may.1) w)
+        by_case d (inr seizes) = inr (subst past (sym may.1) seizes.1)
+written_shown h past top ms n told g x to _ at may newer k = tt
+
+writes_done : (h : Header) (past : Collected) (n : ℕ) (told : Delivered) (f top : ℕ → ℕ) (g : Hand) (x : UpNode) (last more : Last) (to : ℕ) (b : Body) (s : Scene) → AtWrite told g x to b → MayWrite x b → NoneNewer top x
+    → ((ms : List Moment) → Now h past n told f (Up x) last ms → LastReached more) → Goes h past n told f (Up x) last s.moments
+    → Done h past n told f top (Up x) more (Sends to b ∷ []) (passing n (Sends to b ∷ []) s).moments
+writes_done h past n told f top g x last more to b s at may newer so k = record {
+  goes = goes_to h past n told f (Up x) (Up x) last more _ (λ z. (z.here, z.fresh)) (so _)
+      (posting_lasts (Goes h past n told f (Up x) last) (goes_last h past n told f (Up x) last) n to (record { sender = n; body = b }) s k);
+  says = posting_lasts (OutsShown h past n top (Sends to b ∷ [])) (λ y ms idle z. outs_last h past n top (Sends to b ∷ []) y ms z) n to (record { sender = n; body = b }) s
+      (λ differ. (written_shown h past top s.moments n told g x to b at may newer (k differ).here, tt));
 }
 
 pub plain_mute : (b : Body) → IsPlainBody b → IsMute b
 plain_mute (body.Seized e d r) k = absurd k
+plain_mute (body.Promise e last members valid flagged committed pending) k = absurd k
 plain_mute (body.SeizeQuorum e members d) k = absurd k
 plain_mute (body.SeizeData e members d) k = absurd k
 plain_mute _ k = tt
@@ -202,41 +248,44 @@ made_plain told x n g (Admits on command a d) k = absurd k
 made_plain told x n g _ k = tt
 
 -- the attempt that takes a call is one that is reached
-reached_in : (h : Header) (n : ℕ) (told : Delivered) (f : ℕ → ℕ) (x : UpNode) (a : AttemptState) (last : Last) (ms : List Moment) → x.attempt ≡ Some a → Now h n told f (Up x) last ms → IsReached a
-reached_in h n told f x a last ms is k = (attempt_of h ms (session_of x) x.attempt a is k.here.attempt).reached
+reached_in : (h : Header) (past : Collected) (n : ℕ) (told : Delivered) (f : ℕ → ℕ) (x : UpNode) (a : AttemptState) (last : Last) (ms : List Moment) → x.attempt ≡ Some a → Now h past n told f (Up x) last ms → IsReached a
+reached_in h past n told f x a last ms is k = (attempt_of h ms (session_of x) x.attempt a is k.here.attempt).reached
 
-pub change_reached : (h : Header) (c : Cluster) (n : ℕ) (told : Delivered) (f : ℕ → ℕ) (x : UpNode) (ch : Change) (last more : Last) (ms : List Moment) → MayChange c n told x ch → Now h n told f (Up x) last ms
+pub change_reached : (h : Header) (past : Collected) (c : Cluster) (n : ℕ) (told : Delivered) (f : ℕ → ℕ) (x : UpNode) (ch : Change) (last more : Last) (ms : List Moment) → MayChange c n told x ch → Now h past n told f (Up x) last ms
     → LastReached (last_by_change more ch)
-change_reached h c n told f x (Counts a k s i) last more ms may z = reached_in h n told f x a last ms may.0 z
-change_reached h c n told f x (Starts a k s) last more ms may z = reached_in h n told f x a last ms may.0 z
-change_reached h c n told f x _ last more ms may z = tt
+change_reached h past c n told f x (Counts a k s i) last more ms may z = reached_in h past n told f x a last ms may.0 z
+change_reached h past c n told f x (Starts a k s) last more ms may z = reached_in h past n told f x a last ms may.0 z
+change_reached h past c n told f x _ last more ms may z = tt
 
-act_reached : (h : Header) (c : Cluster) (n : ℕ) (told : Delivered) (f : ℕ → ℕ) (x : UpNode) (a : Act) (last : Last) (ms : List Moment) → MayAct c n told x a → Now h n told f (Up x) last ms
+act_reached : (h : Header) (past : Collected) (c : Cluster) (n : ℕ) (told : Delivered) (f : ℕ → ℕ) (x : UpNode) (a : Act) (last : Last) (ms : List Moment) → MayAct c n told x a → Now h past n told f (Up x) last ms
     → LastReached (last_by last a)
-act_reached h c n told f x (Goes_on b k) last ms may z = reached_in h n told f x b last ms may.0 z
-act_reached h c n told f x (Queues b d kind) last ms may z = z.reached
-act_reached h c n told f x (Writes to b) last ms may z = z.reached
-act_reached h c n told f x (Makes ch) last ms may z = change_reached h c n told f x ch last last ms may.0 z
-act_reached h c n told f x _ last ms may z = tt
+act_reached h past c n told f x (Goes_on b k) last ms may z = reached_in h past n told f x b last ms may.0 z
+act_reached h past c n told f x (Queues b d kind) last ms may z = z.reached
+act_reached h past c n told f x (Writes to b) last ms may z = z.reached
+act_reached h past c n told f x (Makes ch) last ms may z = change_reached h past c n told f x ch last last ms may.0 z
+act_reached h past c n told f x _ last ms may z = tt
 
-pub act_done : (h : Header) (c : Cluster) (n : ℕ) (told : Delivered) (f top : ℕ → ℕ) (g : Hand) (x : UpNode) (a : Act) (last : Last) (s : Scene) → All IsDevice c.attached → OfHeader h c
-    → MayAct c n told x a → AtAct n told g x a → ActFits last x a → ActSo a → NoneLate f x → NoneNewer top x → Goes h n told f (Up x) last s.moments
-    → Done h n told f top (Up (acted c n x a)) (last_by last a) (said c n x a) (passing n (said c n x a) s).moments
-act_done h c n told f top g x a last s fits id may at ends so late newer k = by_act a may at ends so
+pub act_done : (h : Header) (past : Collected) (c : Cluster) (n : ℕ) (told : Delivered) (f top : ℕ → ℕ) (g : Hand) (x : UpNode) (a : Act) (last : Last) (s : Scene) → All IsDevice c.attached → OfHeader h c
+    → MayAct c n told x a → AtAct n told g x a → ActFits last x a → ActSo a → NoneLate f x → NoneNewer top x → IsOpen x → Goes h past n told f (Up x) last s.moments
+    → Done h past n told f top (Up (acted c n x a)) (last_by last a) (said c n x a) (passing n (said c n x a) s).moments
+act_done h past c n told f top g x a last s fits id may at ends so late newer opens k = by_act a may at ends so
   where
-    up : (b : Act) → MayAct c n told x b → AtAct n told g x b → (ms : List Moment) → Now h n told f (Up x) last ms → NodeShown h ms n (Up (acted c n x b))
-    up b m l ms z = act_up h c f ms n told g x b fits id m l z.hand late z.here
+    made_so : (b : Act) → AtAct n told g x b → (ch : Change) → b ≡ Makes ch → MadeAt ch
+    made_so b l ch is = subst (AtAct n told g x) is l
+
+    up : (b : Act) → MayAct c n told x b → AtAct n told g x b → (ms : List Moment) → Now h past n told f (Up x) last ms → After h past ms n (Up (acted c n x b))
+    up b m l ms z = (act_up h past c f ms n told g x b fits id m l z.hand (late, z.fresh) opens z.here, act_fresh past c n told x b m (made_so b l) z.fresh)
 
     calm : (b : Act) → MayAct c n told x b → AtAct n told g x b → AllCalm (said c n x b)
-        → Done h n told f top (Up (acted c n x b)) (last_by last b) (said c n x b) (passing n (said c n x b) s).moments
+        → Done h past n told f top (Up (acted c n x b)) (last_by last b) (said c n x b) (passing n (said c n x b) s).moments
     calm b m l is =
-        calm_done h n told f top (Up x) (Up (acted c n x b)) last (last_by last b) (said c n x b) s is (up b m l) (λ ms z. act_reached h c n told f x b last ms m z) k
+        calm_done h past n told f top (Up x) (Up (acted c n x b)) last (last_by last b) (said c n x b) s is (up b m l) (λ ms z. act_reached h past c n told f x b last ms m z) k
 
     by_act : (b : Act) → MayAct c n told x b → AtAct n told g x b → ActFits last x b → ActSo b
-        → Done h n told f top (Up (acted c n x b)) (last_by last b) (said c n x b) (passing n (said c n x b) s).moments
+        → Done h past n told f top (Up (acted c n x b)) (last_by last b) (said c n x b) (passing n (said c n x b) s).moments
     by_act (Ends b why) m l e o =
-        ends_done h n told f top x (acted c n x (Ends b why)) b why last None s e.0 e.1 (up (Ends b why) m l) (λ ms z. tt) k
-    by_act (Writes to b) m l e o = writes_done h n told f top g x last last to b s l newer (λ ms z. z.reached) k
+        ends_done h past n told f top x (acted c n x (Ends b why)) b why last None s e.0 e.1 (up (Ends b why) m l) (λ ms z. tt) k
+    by_act (Writes to b) m l e o = writes_done h past n told f top g x last last to b s l m newer (λ ms z. z.reached) k
     by_act (Hears from b) m l e o = calm (Hears from b) m l tt
     by_act Ticks m l e o = calm Ticks m l (tt, ticked_calm c x (later c x))
     by_act Waits m l e o = calm Waits m l tt

@@ -1,14 +1,14 @@
 -- A seizing that takes the answer to its command is as far as the line of the command shows; where it ends by the answer, the line shows how.
-use Rattle.std.specs.Prelude.{ℕ, ◌+◌, ◌-◌, ◌*◌, ◌^◌, ◌≡◌, ◌<◌, ◌≤◌, ◌==◌, ◌&&◌, ◌||◌, not, nat_le, nat_lt, Bool, true, false, List, [], ◌∷◌, Option, None, Some, find, Ok, Err, if◌then◌else◌}
+use Rattle.std.specs.Prelude.{ℕ, ◌+◌, ◌-◌, ◌*◌, ◌^◌, ◌≡◌, ◌<◌, ◌≤◌, ◌⊎◌, ◌==◌, ◌&&◌, ◌||◌, not, nat_le, nat_lt, Bool, true, false, List, [], ◌∷◌, Option, None, Some, find, Ok, Err, if◌then◌else◌}
 use Rattle.std.specs.List.{AllByRecursion, count_by, list_any}
-use Rattle.std.proofs.Common.{refl, sym, ap, subst, ◌∙◌, arith}
+use Rattle.std.proofs.Common.{refl, sym, ap, subst, ◌∙◌, arith, inl, inr}
 use Rattle.attempt_laws.proofs.Told.{is_among}
 use Rattle.cl_base.specs.Keys as keys
 use Rattle.cl_base.specs.Sets.{has}
 use Rattle.cl_base.specs.declared.header.Header.{Header}
 use Rattle.cl_base.specs.declared.seizing.SeizeEnd.TheVariants.{Contended, Expelled, NotRegistered}
-use Rattle.cmm_attempt.proofs.Basics.{if_either, none_some, same_some}
-use Rattle.history.specs.Attempts.{lacks_key, reads_keys, reserves, shows_contended, shows_expelled}
+use Rattle.cmm_attempt.proofs.Basics.{none_some, same_some}
+use Rattle.history.specs.Attempts.{is_unregistered, lacks_key, reads_keys, reads_without, reserves, shows_contended, shows_expelled, some_member}
 use Rattle.history.specs.Member.{members_of}
 use Rattle.history.specs.Moment.{Moment}
 use Rattle.history.specs.Order.{since, somewhere}
@@ -28,7 +28,11 @@ use Rattle.seize.specs.Keys.{first_stranger, has_key, is_key_of, node_of}
 use Rattle.seize.specs.Seizing.{SeizeState, checked, cleared, command_at, looked, next_step, own_key}
 use Rattle.seize.specs.declared.step.SeizeStep.{SeizeStep}
 use Rattle.seize.specs.declared.step.SeizeStep.TheVariants as step
-use Rattle.run_outcomes.proofs.results.Stays.{count_skips, count_takes}
+use Rattle.run_outcomes.proofs.results.Held.{barred_stays}
+use Rattle.run_outcomes.proofs.results.Stays.{both_true, count_skips, count_takes}
+use Rattle.run_outcomes.specs.results.Tried.{AreRead, Tried, Unheld, is_unheld}
+use Rattle.run_history.specs.WorldLines.{IsDevice}
+use Rattle.attempt_laws.proofs.Walk.{if_with}
 use Rattle.run_outcomes.specs.results.Shown.{StepShown, readings}
 use Rattle.run_outcomes.proofs.results.Words.{Fits, IsHigh, Known, confirm_shown, four, known_of, line, lost, odd, shows, swap_shown, taken_or, two_same, word_shown}
 
@@ -138,20 +142,41 @@ keys_shown h ms n d reading (Ok (answer.Value v)) s known fine own k = odd h ms 
 keys_shown h ms n d reading (Ok (answer.Miscompare w)) s known fine own k = odd h ms n d command.Keys (answer.Miscompare w) s fine refl
 keys_shown h ms n d reading (Err e) s known fine own k = lost h ms n d command.Keys e s known
 
-check_shown : (h : Header) (ms : List Moment) (n d : ℕ) (a : Answer) (s : SeizeState) → Known h ms n s → Fits command.Keys a
+-- the keys are not as a seizing for votes asks them: the own is not among them, or the device was not valid
+unregistered : (h : Header) (ms : List Moment) (n d : ℕ) (ks : List ℕ) (s : SeizeState) → Known h ms n s → Unheld h s.epoch d ms n s.valid → (has_key (own_key s) ks && s.valid) ≡ false
+    → Tried h s.epoch d (line n d command.Keys (Ok (answer.Keys ks)) ∷ ms) n ks
+unregistered h ms n d ks s known held bad = record { read = read; without = λ is. by_case (and_not (has_key (own_key s) ks) s.valid bad) is }
+  where
+    x : Moment
+    x = line n d command.Keys (Ok (answer.Keys ks))
+
+    read : AreRead h s.epoch d (x ∷ ms) ks
+    read m lacks = shows h ms n s x (λ reader. reads_without h d m reader) known (both_true ((n == n) && (d == d)) (lacks_key h m ks) (two_same n d) lacks)
+
+    and_not : (a b : Bool) → (a && b) ≡ false → (a ≡ false) ⊎ (b ≡ false)
+    and_not true b k = inr k
+    and_not false b k = inl refl
+
+    by_case : (has_key (own_key s) ks ≡ false) ⊎ (s.valid ≡ false) → IsDevice h d → is_unregistered h s.epoch d (x ∷ ms) n ≡ true
+    by_case (inl none) is =
+        or_right (is_unheld h s.epoch d (x ∷ ms) n) (some_member s.epoch (x ∷ ms) (reads_without h d n)) (read n (lacks_own h n s ks known.cluster known.me none))
+    by_case (inr none) is =
+        or_left (is_unheld h s.epoch d (x ∷ ms) n) (some_member s.epoch (x ∷ ms) (reads_without h d n)) (barred_stays h s.epoch d n x ms tt (held is none)).unheld
+
+check_shown : (h : Header) (ms : List Moment) (n d : ℕ) (a : Answer) (s : SeizeState) → Known h ms n s → Unheld h s.epoch d ms n s.valid → Fits command.Keys a
     → StepShown h (line n d command.Keys a ∷ ms) n s.epoch d (checked s (keys_told a))
-check_shown h ms n d (Ok (answer.Keys ks)) s known fine =
-    if_either (StepShown h (line n d command.Keys (Ok (answer.Keys ks)) ∷ ms) n s.epoch d) (has_key (own_key s) ks && s.valid) step.ReadWord (step.Ended (NotRegistered ks)) tt
-    (shows h ms n s (line n d command.Keys (Ok (answer.Keys ks))) (λ m earlier y. reads_keys m d y) known (two_same n d))
-check_shown h ms n d (Ok answer.Good) s known fine = odd h ms n d command.Keys answer.Good s fine refl
-check_shown h ms n d (Ok answer.Conflict) s known fine = odd h ms n d command.Keys answer.Conflict s fine refl
-check_shown h ms n d (Ok answer.InvalidRelease) s known fine = odd h ms n d command.Keys answer.InvalidRelease s fine refl
-check_shown h ms n d (Ok answer.NoPath) s known fine = odd h ms n d command.Keys answer.NoPath s fine refl
-check_shown h ms n d (Ok (answer.Holder holder)) s known fine = odd h ms n d command.Keys (answer.Holder holder) s fine refl
-check_shown h ms n d (Ok (answer.Word w)) s known fine = odd h ms n d command.Keys (answer.Word w) s fine refl
-check_shown h ms n d (Ok (answer.Value v)) s known fine = odd h ms n d command.Keys (answer.Value v) s fine refl
-check_shown h ms n d (Ok (answer.Miscompare w)) s known fine = odd h ms n d command.Keys (answer.Miscompare w) s fine refl
-check_shown h ms n d (Err e) s known fine = lost h ms n d command.Keys e s known
+check_shown h ms n d (Ok (answer.Keys ks)) s known held fine =
+    if_with (StepShown h (line n d command.Keys (Ok (answer.Keys ks)) ∷ ms) n s.epoch d) (has_key (own_key s) ks && s.valid) (has_key (own_key s) ks && s.valid) step.ReadWord
+    (step.Ended (NotRegistered ks)) refl (λ good. tt) (λ bad. unregistered h ms n d ks s known held bad)
+check_shown h ms n d (Ok answer.Good) s known held fine = odd h ms n d command.Keys answer.Good s fine refl
+check_shown h ms n d (Ok answer.Conflict) s known held fine = odd h ms n d command.Keys answer.Conflict s fine refl
+check_shown h ms n d (Ok answer.InvalidRelease) s known held fine = odd h ms n d command.Keys answer.InvalidRelease s fine refl
+check_shown h ms n d (Ok answer.NoPath) s known held fine = odd h ms n d command.Keys answer.NoPath s fine refl
+check_shown h ms n d (Ok (answer.Holder holder)) s known held fine = odd h ms n d command.Keys (answer.Holder holder) s fine refl
+check_shown h ms n d (Ok (answer.Word w)) s known held fine = odd h ms n d command.Keys (answer.Word w) s fine refl
+check_shown h ms n d (Ok (answer.Value v)) s known held fine = odd h ms n d command.Keys (answer.Value v) s fine refl
+check_shown h ms n d (Ok (answer.Miscompare w)) s known held fine = odd h ms n d command.Keys (answer.Miscompare w) s fine refl
+check_shown h ms n d (Err e) s known held fine = lost h ms n d command.Keys e s known
 
 -- ---- what is taken
 
@@ -229,39 +254,41 @@ preempted_shown h ms n d reading victim a s kind key other k = (
 abbrev After : Header → List Moment → ℕ → ℕ → SeizeState → SeizeStep → Answer → PrCommand → Type 0
 After h ms n d s next a k = StepShown h (line n d k a ∷ ms) n s.epoch d (next_step s next a)
 
-step_shown : (h : Header) (ms : List Moment) (n d : ℕ) (s : SeizeState) (next : SeizeStep) (k : PrCommand) (a : Answer) → command_at s next ≡ Some k → Known h ms n s → Fits k a
+step_shown : (h : Header) (ms : List Moment) (n d : ℕ) (s : SeizeState) (next : SeizeStep) (k : PrCommand) (a : Answer) → command_at s next ≡ Some k → Known h ms n s
+    → Unheld h s.epoch d ms n s.valid → Fits k a
     → (k ≡ command.Keys → (ks : List ℕ) → a ≡ Ok (answer.Keys ks) → AreOwn h.cluster ks) → ((ks : List ℕ) (w : ℕ) → next ≡ step.Confirm ks → a ≡ Ok (answer.Word w) → s.epoch ≤ w)
     → StepShown h ms n s.epoch d next → After h ms n d s next a k
-step_shown h ms n d s step.Check k a is known fine own high so =
-    subst (After h ms n d s step.Check a) (same_some _ k is) (check_shown h ms n d a s known (subst (λ j. Fits j a) (sym (same_some _ k is)) fine))
-step_shown h ms n d s step.Register k a is known fine own high so =
+step_shown h ms n d s step.Check k a is known held fine own high so =
+    subst (After h ms n d s step.Check a) (same_some _ k is) (check_shown h ms n d a s known held (subst (λ j. Fits j a) (sym (same_some _ k is)) fine))
+step_shown h ms n d s step.Register k a is known held fine own high so =
     subst (After h ms n d s step.Register a) (same_some _ k is)
     (taken_or h ms n d (command.Ignore (own_key s)) a s (is_good a) step.ReadWord known (subst (λ j. Fits j a) (sym (same_some _ k is)) fine) (registers (own_key s) a) tt)
-step_shown h ms n d s step.ReadWord k a is known fine own high so =
+step_shown h ms n d s step.ReadWord k a is known held fine own high so =
     subst (After h ms n d s step.ReadWord a) (same_some _ k is) (word_shown h ms n d a s known (subst (λ j. Fits j a) (sym (same_some _ k is)) fine))
-step_shown h ms n d s (step.Swap expected) k a is known fine own high so =
+step_shown h ms n d s (step.Swap expected) k a is known held fine own high so =
     subst (After h ms n d s (step.Swap expected) a) (same_some _ k is) (swap_shown h ms n d expected a s known (subst (λ j. Fits j a) (sym (same_some _ k is)) fine))
-step_shown h ms n d s step.Reserve k a is known fine own high so =
+step_shown h ms n d s step.Reserve k a is known held fine own high so =
     subst (After h ms n d s step.Reserve a) (same_some _ k is)
     (taken_or h ms n d (command.Reserve WriteExclusiveRegistrantsOnly (own_key s)) a s (is_good a || is_conflict a) (step.ReadKeys 1) known
     (subst (λ j. Fits j a) (sym (same_some _ k is)) fine) (reserves_so WriteExclusiveRegistrantsOnly (own_key s) a) (reserved_shown h ms n d a s WriteExclusiveRegistrantsOnly (own_key s)))
-step_shown h ms n d s (step.ReadKeys reading) k a is known fine own high so =
+step_shown h ms n d s (step.ReadKeys reading) k a is known held fine own high so =
     subst (After h ms n d s (step.ReadKeys reading) a) (same_some _ k is)
     (keys_shown h ms n d reading a s known (subst (λ j. Fits j a) (sym (same_some _ k is)) fine) (own (sym (same_some _ k is))) so)
-step_shown h ms n d s (step.Preempt victim reading) k a is known fine own high so =
+step_shown h ms n d s (step.Preempt victim reading) k a is known held fine own high so =
     subst (After h ms n d s (step.Preempt victim reading) a) (same_some _ k is)
     (taken_or h ms n d (command.Preempt WriteExclusiveRegistrantsOnly (own_key s) victim) a s (is_good a || is_conflict a) (step.ReadKeys (reading + 1)) known
     (subst (λ j. Fits j a) (sym (same_some _ k is)) fine) (preempts_so WriteExclusiveRegistrantsOnly (own_key s) victim a)
     (preempted_shown h ms n d reading victim a s WriteExclusiveRegistrantsOnly (own_key s) victim so))
-step_shown h ms n d s (step.Confirm ks) k a is known fine own high so =
+step_shown h ms n d s (step.Confirm ks) k a is known held fine own high so =
     subst (After h ms n d s (step.Confirm ks) a) (same_some _ k is)
     (confirm_shown h ms n d ks a s known (subst (λ j. Fits j a) (sym (same_some _ k is)) fine) (λ w told. high ks w refl told))
-step_shown h ms n d s (step.Ended result) k a is known fine own high so = absurd (none_some k is)
+step_shown h ms n d s (step.Ended result) k a is known held fine own high so = absurd (none_some k is)
 
 -- the seizing of session q
-pub seizing_shown : (h : Header) (ms : List Moment) (n q d : ℕ) (s : SeizeState) (k : PrCommand) (a : Answer) → nat_le n 32 ≡ true → command_at s s.step ≡ Some k → Base h ms n q s → Fits k a
+pub seizing_shown : (h : Header) (ms : List Moment) (n q d : ℕ) (s : SeizeState) (k : PrCommand) (a : Answer) → nat_le n 32 ≡ true → command_at s s.step ≡ Some k → Base h ms n q s
+    → Unheld h q d ms n s.valid → Fits k a
     → (k ≡ command.Keys → (ks : List ℕ) → a ≡ Ok (answer.Keys ks) → AreOwn h.cluster ks) → IsHigh s a → StepShown h ms n q d s.step
     → StepShown h (line n d k a ∷ ms) n q d (next_step s s.step a)
-seizing_shown h ms n q d s k a low is b fine own high so =
+seizing_shown h ms n q d s k a low is b held fine own high so =
     subst (λ e. StepShown h (line n d k a ∷ ms) n e d (next_step s s.step a)) b.epoch
-    (step_shown h ms n d s s.step k a is (known_of h ms n q s low b) fine own high (subst (λ e. StepShown h ms n e d s.step) (sym b.epoch) so))
+    (step_shown h ms n d s s.step k a is (known_of h ms n q s low b) (subst (λ e. Unheld h e d ms n s.valid) (sym b.epoch) held) fine own high (subst (λ e. StepShown h ms n e d s.step) (sym b.epoch) so))

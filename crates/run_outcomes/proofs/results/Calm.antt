@@ -56,6 +56,7 @@ IsCalm _ = Unit {0}
 
 abbrev pub IsMute : Body → Type 0
 IsMute (body.Seized e d r) = ⊥
+IsMute (body.Promise e last members valid flagged committed pending) = ⊥
 IsMute (body.SeizeQuorum e members d) = ⊥
 IsMute (body.SeizeData e members d) = ⊥
 IsMute _ = Unit {0}
@@ -188,6 +189,7 @@ minor_line (entry.Schedule e) k = absurd k
 
 nothing_mute : (to : ℕ) (b : Body) → TellsNothing (Sends to b) → IsMute b
 nothing_mute to (body.Seized e d r) k = absurd k
+nothing_mute to (body.Promise e last members valid flagged committed pending) k = absurd k
 nothing_mute to (body.SeizeQuorum e members d) k = absurd k
 nothing_mute to (body.SeizeData e members d) k = absurd k
 nothing_mute to _ k = tt

@@ -2,7 +2,8 @@
 use Rattle.std.specs.Prelude.{ℕ, ◌≡◌, ◌==◌, ◌&&◌, ◌||◌, not, Bool, true, false, List, [], ◌∷◌, Option, None, Some, IfSome, find, if◌then◌else◌}
 use Rattle.std.specs.List.{AllByRecursion, list_any}
 use Rattle.std.proofs.Common.{refl, subst, sym}
-use Rattle.attempt_laws.proofs.Walk.{Walk, walks, walks_begun}
+use Rattle.attempt_laws.proofs.Walk.{Walk, awaits_collecting, walks, walks_begun}
+use Rattle.cmm_attempt.specs.declared.phase.Phase.TheVariants.{Choosing, Collecting, Installing, Over, SeizingOthers, SeizingVotes}
 use Rattle.cl_base.specs.Sets.{has}
 use Rattle.cmm_attempt.proofs.Basics.{false_true, none_some, same_number}
 use Rattle.cmm_attempt.specs.Attempts.{AttemptState, Turn, asked_next, beginning, first_state, installing, is_of, promises_of}
@@ -14,54 +15,85 @@ use Rattle.cmm_attempt.specs.declared.promised.Promised.{Promised}
 use Rattle.run_history.proofs.Lists.{both}
 use Rattle.wire.specs.declared.message.Message.{Message}
 
-abbrev Keeps : (Promised → Type 0) → AttemptState → AttemptState → Type 0
-Keeps Q a s = (s.plan ≡ a.plan) × AllByRecursion Q s.promises
+-- while it collects, it collected before
+abbrev Back : AttemptState → AttemptState → Type 0
+Back a s = s.phase ≡ Collecting → a.phase ≡ Collecting
 
-abbrev Leaves : (Promised → Type 0) → Turn → Type 0
-Leaves Q t = AllByRecursion Q t.after.promises
+abbrev Keeps : (Promised → Type 0) → AttemptState → AttemptState → Type 0
+Keeps Q a s = (s.plan ≡ a.plan) × AllByRecursion Q s.promises × Back a s
+
+abbrev Leaves : (Promised → Type 0) → AttemptState → Turn → Type 0
+Leaves Q a t = AllByRecursion Q t.after.promises × Back a t.after
 
 -- what is taken is so
 abbrev pub Taken : (Promised → Type 0) → AttemptState → Call → Type 0
-Taken Q a c = (from : ℕ) (m : Message) (p : Promised) → c ≡ Take from m → is_of a.plan.epoch m.body ≡ true → promised_by m (shown_by from m.body) ≡ Some p → Q p
+Taken Q a c = (from : ℕ) (m : Message) (p : Promised) → c ≡ Take from m → a.phase ≡ Collecting → is_of a.plan.epoch m.body ≡ true → promised_by m (shown_by from m.body) ≡ Some p → Q p
 
-promises_walk : (Q : Promised → Type 0) (a : AttemptState) (c : Call) → Taken Q a c → Walk c (Keeps Q a) (Keeps Q a) (Leaves Q)
+no_over : Over ≡ Collecting → ⊥
+no_over e = cc
+
+no_choosing : Choosing ≡ Collecting → ⊥
+no_choosing e = cc
+
+no_votes : SeizingVotes ≡ Collecting → ⊥
+no_votes e = cc
+
+no_others : SeizingOthers ≡ Collecting → ⊥
+no_others e = cc
+
+no_installing : Installing ≡ Collecting → ⊥
+no_installing e = cc
+
+promises_walk : (Q : Promised → Type 0) (a : AttemptState) (c : Call) → Taken Q a c → Walk c (Keeps Q a) (Keeps Q a) (Leaves Q a)
 unfolding asked_next installing
 promises_walk Q a c takes = record {
   within = λ s i. i;
-  rests = λ s i. i.1;
-  passes = λ s is e i. i.1;
-  again = λ s is e i. i.1;
-  silent = λ s n is late least i. i.1;
-  superseded = λ s from m q is body i. i.1;
+  rests = λ s i. (i.1, i.2);
+  passes = λ s is e i. (i.1, i.2);
+  again = λ s is e i. (i.1, i.2);
+  silent = λ s n is late least i. (i.1, λ e. absurd (no_over e));
+  superseded = λ s from m q is body i. (i.1, λ e. absurd (no_over e));
   promise = λ s from m p is awaited of promised i. (
     i.0,
-    both Q s.promises (p ∷ []) i.1 (takes from m p is (subst (λ (z : Plan). is_of z.epoch m.body ≡ true) i.0 of) promised, tt),
+    both Q s.promises (p ∷ []) i.1 (takes from m p is (i.2 (awaits_collecting s from s.phase awaited)) (subst (λ (z : Plan). is_of z.epoch m.body ≡ true) i.0 of) promised, tt),
+    i.2,
   );
-  collects = λ s is e k. k.1;
-  collecting = λ s is e k. k.1;
-  no_newest = λ s is all none k. k.1;
-  chosen = λ s newest is all some k. k.1;
-  votes = λ s both_votes is i. i;
-  foreign = λ s both_votes n is votes least k. k.1;
-  excluded = λ s n is least k. k.1;
-  impossible = λ s e is short k. k.1;
+  collects = λ s is e k. (k.1, k.2);
+  collecting = λ s is e k. (k.1, k.2);
+  no_newest = λ s is all none k. (k.1, k.2);
+  chosen = λ s newest is all some k. (k.1, λ e. absurd (no_choosing e));
+  votes = λ s both_votes is i. (i.0, i.1, λ e. absurd (no_votes e));
+  foreign = λ s both_votes n is votes least k. (k.1, λ e. absurd (no_over e));
+  excluded = λ s n is least k. (k.1, λ e. absurd (no_over e));
+  impossible = λ s e is short k. (k.1, λ at. absurd (no_over at));
   entries = λ s is enough k. k;
-  requests = λ s is e k. k.1;
+  requests = λ s is e k. (k.1, k.2);
   result = λ s d from r e is says found none i. i;
-  next = λ s d from n r e is says found next i. i.1;
-  seizing = λ s is e k. k.1;
-  short = λ s e is all few k. k.1;
-  others = λ s is all enough some k. k.1;
-  installs_at_once = λ s is all enough none k. k.1;
-  installs = λ s is all k. k.1;
+  next = λ s d from n r e is says found next i. (i.1, i.2);
+  seizing = λ s is e k. (k.1, k.2);
+  short = λ s e is all few k. (k.1, λ at. absurd (no_over at));
+  others = λ s is all enough some k. (k.1, λ e. absurd (no_others e));
+  installs_at_once = λ s is all enough none k. (k.1, λ e. absurd (no_installing e));
+  installs = λ s is all k. (k.1, λ e. absurd (no_installing e));
   ready = λ s from m is at of body i. i;
   own = λ s is at i. i;
-  installing = λ s at e k. k.1;
-  starts = λ s at e k. k.1;
+  installing = λ s at e k. (k.1, k.2);
+  starts = λ s at e k. (k.1, λ z. absurd (no_over z));
 }
 
 pub promises_taken : (Q : Promised → Type 0) (a : AttemptState) (c : Call) → Taken Q a c → AllByRecursion Q a.promises → AllByRecursion Q (turn a c).after.promises
-promises_taken Q a c takes k = walks (Keeps Q a) (Keeps Q a) (Leaves Q) a c (promises_walk Q a c takes) (refl, k)
+promises_taken Q a c takes k = (walks (Keeps Q a) (Keeps Q a) (Leaves Q a) a c (promises_walk Q a c takes) (refl, k, λ e. e)).0
+
+-- an attempt that collects after a call collected before it
+pub collects_before : (a : AttemptState) (c : Call) → (turn a c).after.phase ≡ Collecting → a.phase ≡ Collecting
+collects_before a c = (walks (Keeps Any a) (Keeps Any a) (Leaves Any a) a c (promises_walk Any a c (λ from m p is at of promised. tt)) (refl, all_any a.promises, λ e. e)).1
+  where
+    Any : Promised → Type 0
+    Any p = Unit {0}
+
+    all_any : (ps : List Promised) → AllByRecursion Any ps
+    all_any [] = tt
+    all_any (p ∷ ps) = (tt, all_any ps)
 
 first_promises : (Q : Promised → Type 0) (o : Option Promised) → IfSome o Q → AllByRecursion Q (promises_of o)
 first_promises Q None k = tt
@@ -75,8 +107,8 @@ pub promises_first : (Q : Promised → Type 0) (p members : ℕ) (own : Message)
 unfolding beginning
 promises_first Q p members own attached cluster k =
     let s : AttemptState = first_state p members own attached cluster (promises_of (promised_by own (shown_by own.sender own.body))) in
-    walks_begun Tick (Keeps Q s) (Keeps Q s) (Leaves Q) (promises_walk Q s Tick (λ from m z is of promised. absurd (no_take from m is))) s refl
-    (refl, first_promises Q (promised_by own (shown_by own.sender own.body)) k)
+    (walks_begun Tick (Keeps Q s) (Keeps Q s) (Leaves Q s) (promises_walk Q s Tick (λ from m z is at of promised. absurd (no_take from m is))) s refl
+    (refl, first_promises Q (promised_by own (shown_by own.sender own.body)) k, λ e. e)).0
 
 -- ---- a node that does not show a device as valid
 

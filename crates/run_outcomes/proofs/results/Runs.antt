@@ -5,31 +5,25 @@ use Rattle.record_disk.specs.Disks.{DiskState, armed}
 use Rattle.machine_base.specs.Put.{put}
 use Rattle.machine_base.proofs.Puts.{put_here, put_there, same_or_not}
 use Rattle.run_history.proofs.DevicesRun.{devices_of_each_run}
-use Rattle.run_history.specs.WorldLines.{IsAtDevices}
+use Rattle.run_history.specs.WorldLines.{AreDisks, IsAtDevices}
+use Rattle.run_history.specs.Shapes.{Due, IsDue, ShapedFrom, Want, due_after, nothing}
+use Rattle.run_history.proofs.Reached.{Reached, reached_more}
+use Rattle.run_devices.proofs.validity.Agreeing.{agrees_at}
+use Rattle.run_devices.proofs.validity.Moments as validity
+use Rattle.run_devices.proofs.validity.Moments.{AgreesAt}
+use Rattle.run_devices.proofs.validity.Runs.{first_strict, known_at}
+use Rattle.run_devices.proofs.validity.Wants.{Kept, step_so}
 use Rattle.run_outcomes.specs.results.Paths.{IsPathed}
-use Rattle.run_outcomes.proofs.counts.Runs.{lacking_of_each_run}
+use Rattle.run_attempts.proofs.endings.Runs.{promised_in_each_run}
+use Rattle.run_outcomes.proofs.counts.Runs.{counted_of_each_run, lacking_of_each_run}
 use Rattle.run_outcomes.proofs.results.Named.{all_named}
 use Rattle.run_outcomes.proofs.results.Pathed.{run_pathed, whole_at}
-use Rattle.cl_base.specs.Sets.{has}
-use Rattle.cl_base.specs.declared.header.HeaderDevice.{HeaderDevice}
-use Rattle.cmm_attempt.proofs.Basics.{none_some, same_some}
-use Rattle.cmm_attempt.specs.declared.attached.AttachedDevice.{AttachedDevice}
-use Rattle.history.specs.Letters.{Letter as Posting, letter_of, says}
-use Rattle.history.specs.Names.{named}
-use Rattle.history.specs.Setting.{paths_of}
-use Rattle.history.specs.Trace.{repeated, sent}
-use Rattle.run_devices.proofs.readings.Letters.{arrived_hand, found_carried}
-use Rattle.run_devices.specs.readings.Sites.{Carried, IsReading, Posted}
-use Rattle.run_seizings.proofs.Progress.{or_left, or_right, same_is}
-use Rattle.wire.specs.Reads.{whole_of}
-use Rattle.wire.specs.declared.message.Message.{Message}
-use Rattle.world_model.specs.First.{attached_from, first_cluster}
-use Rattle.run_outcomes.proofs.counts.Named.{at_paths}
-use Rattle.run_outcomes.proofs.counts.Places.{IsAt, at_device, device_of}
-use Rattle.run_outcomes.specs.results.Laws.{is_without, promised_without}
-use Rattle.std.specs.Prelude.{Bool, List, None, Option, Some, [], false, if◌then◌else◌, length, not, option_map, slice_get, true, ℕ, ◌&&◌, ◌+◌, ◌-◌, ◌==◌, ◌≡◌, ◌≤◌, ◌∷◌, ◌≢◌, ◌⊎◌}
+use Rattle.run_devices.proofs.readings.Letters.{arrived_hand}
+use Rattle.run_devices.specs.readings.Sites.{IsReading}
+use Rattle.world_model.specs.First.{first_cluster}
+use Rattle.std.specs.Prelude.{List, None, Option, Some, [], length, slice_get, ℕ, ◌-◌, ◌≡◌, ◌≤◌, ◌∷◌, ◌≢◌, ◌⊎◌}
 use Rattle.std.specs.List.{AllByRecursion}
-use Rattle.std.proofs.Common.{ap, inl, inr, refl, subst, sym, arith, ◌∙◌}
+use Rattle.std.proofs.Common.{inl, inr, refl, subst, sym, arith}
 use Rattle.cl_base.specs.declared.header.Header.{Header}
 use Rattle.cl_base.specs.declared.packet.DropCause.{DropCause}
 use Rattle.cl_base.specs.declared.packet.DropCause.TheVariants as drop
@@ -49,12 +43,12 @@ use Rattle.pgr_device.specs.declared.command.PrCommand.TheVariants as command
 use Rattle.refinement.proofs.Handlers.{delivered_by}
 use Rattle.refinement.specs.Runs.{IsAmong, Letter, Nodes}
 use Rattle.run_history.proofs.Heard.{low_number}
-use Rattle.run_history.specs.Happenings.{Commanded, Happening, IsPlain, MayHappen, all_happened, armed_by, commanded, commanded_at, happened, removed}
+use Rattle.run_history.specs.Happenings.{Commanded, Happening, IsPlain, MayAllHappen, MayHappen, all_happened, armed_by, commanded, commanded_at, happened, removed}
 use Rattle.run_history.specs.Happenings.Happening.{Arrives, Begins, Commands, Loses, Misses, Notes, Refuses, Repeats, Speaks, Strays, Takes, Writes}
 use Rattle.run_history.specs.Scenes.{Scene, adding, dropped_so, first_scene, telling, with_links}
 use Rattle.run_history.specs.Stages.{Sized, Stage}
 use Rattle.run_history.specs.Wholes.{IsWhole}
-use Rattle.run_messages.proofs.Reaching.{IsReached, IsSmall, holds_of_each, stage_of}
+use Rattle.run_messages.proofs.Reaching.{IsReached, IsSmall, stage_of}
 use Rattle.run_devices.proofs.readings.Runs.{run_reads}
 use Rattle.run_devices.specs.readings.Readings.{StandsSo}
 use Rattle.run_messages.proofs.records.Sizes.{header_sized}
@@ -71,26 +65,41 @@ use Rattle.wire.specs.declared.message.Body.{Body}
 use Rattle.wire.specs.declared.message.Body.TheVariants as body
 use Rattle.run_outcomes.proofs.results.Answers.{NodeDue, answer_comes}
 use Rattle.run_outcomes.proofs.results.Dues.{NodeHigh, due_high}
-use Rattle.run_outcomes.proofs.results.Stays.{Spares, both_true, letters_grow, letters_stay, node_stays, promised_stays}
+use Rattle.run_outcomes.proofs.results.Fresh.{trust_gone}
+use Rattle.run_devices.proofs.validity.Courses.{doings_trust}
+use Rattle.run_devices.proofs.validity.Wants.{trusting_or}
+use Rattle.run_history.specs.Stages.{site_of}
+use Rattle.run_seizings.proofs.Progress.{begun_stays}
+use Rattle.run_outcomes.proofs.results.Stays.{Spares, letters_grow, letters_stay, node_grows, node_stays}
 use Rattle.run_outcomes.proofs.results.Steps.{plain_comes, step_shown}
 use Rattle.run_outcomes.specs.results.Laws.{ResultsOfEachRun}
-use Rattle.run_outcomes.specs.results.Shown.{AsksOf, EndsShown, HandShown, IsPlaced, IsShown, LetterShown, OfHeader, PromisedSo, SaysShown, installed_in}
+use Rattle.run_outcomes.specs.results.Shown.{AsksOf, EndsShown, HandShown, IsShown, LetterShown, SaysShown, collected_in, installed_in}
+use Rattle.run_outcomes.specs.results.Tried.{Collected}
+use Rattle.run_outcomes.proofs.results.Readied.{takes_gone}
+use Rattle.run_outcomes.proofs.results.Readied.{of_header}
 
 -- ---- one moment more, and other links
 
+same_most : (a : ℕ) → a ≤ a
+same_most a = omega arith
+
 more_shown : (h : Header) (s : Scene) (l : Links) (x : Moment) → IsNew s.moments x → ((n : ℕ) → Spares n x) → EndsShown h s.moments x → IsShown h s → IsShown h (adding x (with_links s l))
 more_shown h s l x new spares ends k = record {
-  nodes = λ n. node_stays h s.moments x n (s.nodes.node n) new (spares n) (k.nodes n);
-  sent = letters_stay h (installed_in s.nodes) s.moments x s.nodes.sent new k.sent;
+  nodes = λ n. node_grows h (collected_in s) later (x ∷ s.moments) n (s.nodes.node n) grows (node_stays h (collected_in s) s.moments x n (s.nodes.node n) new (spares n) (k.nodes n));
+  sent = letters_grow h (collected_in s) later (installed_in s.nodes) (installed_in s.nodes) (x ∷ s.moments) s.nodes.sent grows (λ j. same_most ((s.nodes.disk j).kept.installed))
+      (letters_stay h (collected_in s) (installed_in s.nodes) s.moments x s.nodes.sent new k.sent);
   lines = (ends, k.lines);
 }
+  where
+    later : Collected
+    later = collected_in (adding x (with_links s l))
+
+    grows : (e : ℕ) → collected_in s e → later e
+    grows e known = (begun_stays s.moments x e known.0, known.1)
 
 dropped_shown : (h : Header) (s : Scene) (o : Option (ℕ × DropCause)) → IsShown h s → IsShown h (dropped_so o s)
 dropped_shown h s None k = k
 dropped_shown h s (Some d) k = more_shown h s s.links (Told (entry.Packet (packet.Dropped d.0 d.1))) tt (λ n. tt) tt k
-
-same_most : (a : ℕ) → a ≤ a
-same_most a = omega arith
 
 -- what is armed in the disk of a node leaves what it has installed
 armed_most : (v : Nodes) (n calls : ℕ) (choice : StopChoice) (k : ℕ) → (v.disk k).kept.installed ≤ (put v.disk n (armed (v.disk n) calls (left_by choice)) k).kept.installed
@@ -105,63 +114,34 @@ armed_most v n calls choice k = by_node (same_or_not k n)
 
 armed_shown : (h : Header) (c : Cluster) (e : Event) (s : Scene) → IsShown h s → IsShown h (armed_by c e s)
 armed_shown h c (event.CrashAt n calls choice) s k =
-    record { nodes = k.nodes; sent = letters_grow h (installed_in s.nodes) _ s.moments s.nodes.sent (armed_most s.nodes n calls choice) k.sent; lines = k.lines }
+    record { nodes = k.nodes; sent = letters_grow h (collected_in s) (collected_in s) (installed_in s.nodes) _ s.moments s.nodes.sent (λ e known. known) (armed_most s.nodes n calls choice) k.sent; lines = k.lines }
 armed_shown h c (event.Fault n d done) s k = record { nodes = k.nodes; sent = k.sent; lines = k.lines }
 armed_shown h c _ s k = k
 
 -- ---- what comes
 
-plain_hand : (h : Header) (f : ℕ → ℕ) (ms : List Moment) (i : Input) → IsPlain i → HandShown h f ms (delivered_by i)
-plain_hand h f ms (input.Packet from m) is = absurd is
-plain_hand h f ms input.Boot is = tt
-plain_hand h f ms input.Crash is = tt
-plain_hand h f ms input.Tick is = tt
-plain_hand h f ms input.CommandDue is = tt
-plain_hand h f ms (input.Answered a) is = tt
-plain_hand h f ms (input.Wrote d value a) is = tt
-plain_hand h f ms (input.Commanded words) is = tt
-plain_hand h f ms (input.Reported r good) is = tt
-plain_hand h f ms (input.Client name client port) is = tt
+plain_hand : (h : Header) (past : Collected) (f : ℕ → ℕ) (ms : List Moment) (i : Input) → IsPlain i → HandShown h past f ms (delivered_by i)
+plain_hand h past f ms (input.Packet from m) is = absurd is
+plain_hand h past f ms input.Boot is = tt
+plain_hand h past f ms input.Crash is = tt
+plain_hand h past f ms input.Tick is = tt
+plain_hand h past f ms input.CommandDue is = tt
+plain_hand h past f ms (input.Answered a) is = tt
+plain_hand h past f ms (input.Wrote d value a) is = tt
+plain_hand h past f ms (input.Commanded words) is = tt
+plain_hand h past f ms (input.Reported r good) is = tt
+plain_hand h past f ms (input.Client name client port) is = tt
 
 -- a message that comes was sent
-among_shown : (h : Header) (f : ℕ → ℕ) (ms : List Moment) (from : ℕ) (b : Body) (ls : List Letter) → IsAmong from b ls → AllByRecursion (LetterShown h f ms) ls → SaysShown h f ms b
-among_shown h f ms from b [] is k = absurd is
-among_shown h f ms from b (l ∷ ls) (inl here) k = subst (λ z. SaysShown h f ms z) here.1 k.0
-among_shown h f ms from b (l ∷ ls) (inr later) k = among_shown h f ms from b ls later k.1
+among_shown : (h : Header) (past : Collected) (f : ℕ → ℕ) (ms : List Moment) (from : ℕ) (b : Body) (ls : List Letter) → IsAmong from b ls → AllByRecursion (LetterShown h past f ms) ls → SaysShown h past f ms from b
+among_shown h past f ms from b [] is k = absurd is
+among_shown h past f ms from b (l ∷ ls) (inl here) k = subst (λ j. SaysShown h past f ms j b) here.0 (subst (λ z. SaysShown h past f ms l.from z) here.1 k.0)
+among_shown h past f ms from b (l ∷ ls) (inr later) k = among_shown h past f ms from b ls later k.1
 
 asks_so : (h : Header) (ms : List Moment) (from : ℕ) (b : Body) → StandsSo h ms from b → AsksOf ms b
 asks_so h ms from (body.SeizeQuorum e members d) k = k
 asks_so h ms from (body.SeizeData e members d) k = k
 asks_so h ms from _ k = tt
-
--- a letter that was sent says what its moment says
-letter_without : (e d number : ℕ) (l : Posting) (ms : List Moment) → letter_of number ms ≡ Some l → is_without e d (says l.bytes) ≡ true → promised_without e d l.from ms ≡ true
-letter_without e d number l [] is so = absurd (none_some l is)
-letter_without e d number l (sent q a b called bytes ∷ ms) is so = by_test (q == number) is (letter_without e d number l ms)
-  where
-    by_test : (t : Bool) → (if t then Some (record { from = a; to = b; name = named called; bytes = bytes; before = ms }) else letter_of number ms) ≡ Some l
-        → (letter_of number ms ≡ Some l → is_without e d (says l.bytes) ≡ true → promised_without e d l.from ms ≡ true)
-        → promised_without e d l.from (sent q a b called bytes ∷ ms) ≡ true
-    by_test true here next =
-        let same : record { from = a; to = b; name = named called; bytes = bytes; before = ms } ≡ l = same_some _ l here in
-        or_left ((a == l.from) && is_without e d (says bytes)) (promised_without e d l.from ms)
-        (both_true (a == l.from) (is_without e d (says bytes)) (subst (λ (z : Posting). (a == z.from) ≡ true) same (same_is a)) (subst (λ (z : Posting). is_without e d (says z.bytes) ≡ true) (sym same) so))
-    by_test false there next = or_right ((a == l.from) && is_without e d (says bytes)) (promised_without e d l.from ms) (next there so)
-letter_without e d number l (repeated q copy ∷ ms) is so = letter_without e d (if copy == number then q else number) l ms is so
-letter_without e d number l (_ ∷ ms) is so = letter_without e d number l ms is so
-
--- a Promise that comes was sent so
-promised_at : (ms : List Moment) (number from : ℕ) (l : Posting) (b : Body) → letter_of number ms ≡ Some l → l.from ≡ from → says l.bytes ≡ Some b → PromisedSo ms from b
-promised_at ms number from l (body.Promise e newest members valid flagged committed pending) is sender told =
-    λ d none. subst (λ j. promised_without e d j ms ≡ true) sender
-    (letter_without e d number l ms is (subst (λ o. is_without e d o ≡ true) (sym told) (both_true (e == e) (not (has valid d)) (same_is e) (ap not none))))
-promised_at ms number from l _ is sender told = tt
-
-arrived_promised : (h : Header) (ms : List Moment) (l : Links) (number : ℕ) (x : Packet) (m : Message) → packet_of l.packets number ≡ Some x → whole_of x.bytes ≡ Some m → Carried h ms l
-    → PromisedSo ms x.from m.body
-arrived_promised h ms l number x m is whole all =
-    let k : Posted h ms l.next x = found_carried h ms l number x all is in
-    promised_at ms x.number x.from k.letter m.body k.sent_so k.sender (ap (λ bs. option_map (λ (z : Message). z.body) (whole_of bs)) k.bytes ∙ ap (λ (o : Option Message). option_map (λ (z : Message). z.body) o) whole)
 
 -- ---- a command at a device
 
@@ -179,18 +159,6 @@ node_due : (h : Header) (a : Answer) (node : Node) → OwnKeysOnly h node a → 
 node_due h a Down own high = tt
 node_due h a (Up x) own high = ((λ k next reads. own (subst (λ z. next_of x.tasks ≡ Some z) reads next)), high)
 
--- ---- the devices of the header
-
-placed_at : (h : Header) (k : ℕ) (hs : List HeaderDevice) → ((d : ℕ) (a : AttachedDevice) → IsAt k hs d a → a.nodes ≡ paths_of h a.device) → AllByRecursion (IsPlaced h) (attached_from k hs)
-placed_at h k [] f = tt
-placed_at h k (x ∷ hs) f = (f k (device_of k x) (inl (refl, refl)), placed_at h (k + 1) hs (λ d a at. f d a (inr at)))
-
-of_header : (h : Header) → OfHeader h (first_cluster h)
-of_header h = record {
-  id = refl;
-  places = placed_at h 1 h.devices (λ d a at. at_paths 1 h.devices d a at ∙ ap (λ j. paths_of h j) (sym (at_device 1 h.devices d a at)));
-}
-
 -- ---- each thing that happens
 
 -- what is known of a scene of a run, and of the one that comes next
@@ -203,6 +171,7 @@ record Known (h : Header) (s : Scene) (x : Happening) : Type 0 where
   places : IsAtDevices h s
   few : length h.devices ≤ 16
   differ : AttemptsDiffer (happened (first_cluster h) s x).moments
+  agrees : AgreesAt h s x
 
 happening_shown : (h : Header) (s : Scene) (x : Happening) → MayHappen (first_cluster h) s x → Known h s x → IsShown h s → IsShown h (happened (first_cluster h) s x)
 happening_shown h s (Speaks e) may b k = armed_shown h (first_cluster h) e (adding (Said (line.Event e)) s) (more_shown h s s.links (Said (line.Event e)) tt (λ n. tt) tt k)
@@ -211,19 +180,20 @@ happening_shown h s (Notes e) may b k = more_shown h s s.links (Told (entry.Sche
 happening_shown h s (Takes n now ends i) may b k =
     let c : Cluster = first_cluster h in
     step_shown h c n now ends i s b.sized (ground_of c s b.stage) may.0 (plain_sent s.nodes i may.1)
-    (plain_comes h c (ground_of c s b.stage).machine n now ends i s.nodes _ b.sized (of_header h) (plain_no i may.1) may.2 (b.stage.fits.nodes n))
-    (plain_hand h (installed_in s.nodes) s.moments i may.1) b.differ k
+    (plain_comes h (collected_in s) c (ground_of c s b.stage).machine n now ends i s.nodes _ b.sized (of_header h b.few) (plain_no i may.1) may.2 (b.stage.fits.nodes n)
+    (takes_gone h s n now ends i b.whole k (trusting_or i may.1)))
+    (plain_hand h (collected_in s) (installed_in s.nodes) s.moments i may.1) b.differ b.agrees k
 happening_shown h s (Arrives number x m now ends) may b k =
     let c : Cluster = first_cluster h in
     let z : Moment = Told (entry.Packet (packet.Delivered number x.from x.to)) in
     let t : Scene = telling (entry.Packet (packet.Delivered number x.from x.to)) (removed s number) in
     let come : IsShown h t = more_shown h s (removing s.links number) z tt (λ n. tt) tt k in
     step_shown h c x.to now ends (input.Packet x.from m) t b.sized (ground_of c s b.stage) may.3 may.4
-    (plain_comes h c (ground_of c s b.stage).machine x.to now ends (input.Packet x.from m) s.nodes _ b.sized (of_header h) tt may.5 (b.stage.fits.nodes x.to)) (
+    (plain_comes h (collected_in t) c (ground_of c s b.stage).machine x.to now ends (input.Packet x.from m) s.nodes _ b.sized (of_header h b.few) tt may.5 (b.stage.fits.nodes x.to)
+    (λ replies. trust_gone (collected_in t) c x.to (site_of s.nodes x.to) _ (doings_trust c x.to now ends replies (input.Packet x.from m) (s.nodes.node x.to) tt))) (
       asks_so h (z ∷ s.moments) x.from m.body (arrived_hand h s.moments s.links number x m may.0 may.1 b.reading.carried).stands,
-      among_shown h (installed_in s.nodes) (z ∷ s.moments) x.from m.body s.nodes.sent may.4 come.sent,
-      promised_stays s.moments z x.from m.body (arrived_promised h s.moments s.links number x m may.0 may.1 b.reading.carried),
-    ) b.differ come
+      among_shown h (collected_in t) (installed_in s.nodes) (z ∷ s.moments) x.from m.body s.nodes.sent may.4 come.sent,
+    ) b.differ b.agrees come
 happening_shown h s (Strays number x) may b k = more_shown h s (removing s.links number) (Told (entry.Packet (packet.Delivered number x.from x.to))) tt (λ n. tt) tt k
 happening_shown h s (Misses number x) may b k = more_shown h s (removing s.links number) (Told (entry.Packet (packet.Dropped number drop.Down))) tt (λ n. tt) tt k
 happening_shown h s (Loses number x) may b k = more_shown h s (removing s.links number) (Told (entry.Packet (packet.Lost number))) tt (λ n. tt) tt k
@@ -239,14 +209,15 @@ happening_shown h s (Commands n d q now ends) may b k =
     subst (λ (v : Nodes). NodeDue h o.answer (v.node n)) (sym l.nodes)
     (node_due h o.answer (s.nodes.node n) (due_own h s n d q (s.nodes.node n) b.whole may.2 low) (due_high h s n d q b.few b.places b.whole (b.paths.nodes n) may.2 low)) in
     step_shown h c n now ends (input.Answered o.answer) o.scene b.sized l.ground may.0 tt
-    (λ replies m e so holds known tied less g. answer_comes h c l.ground.machine (installed_in o.scene.nodes) n now ends o.answer (o.scene.nodes.node n) (o.scene.nodes.disk n).kept replies _
-    b.sized.fits.devices.attached (of_header h) (low_number n may.0.1) due holds tied less m e so g) tt b.differ l.shown
+    (λ replies m e so holds known tied less agrees g. answer_comes h (collected_in o.scene) c l.ground.machine (installed_in o.scene.nodes) n now ends o.answer (o.scene.nodes.node n) (o.scene.nodes.disk n).kept replies _
+    b.sized.fits.devices.attached (of_header h b.few) (low_number n may.0.1) due holds tied less m e so agrees g) tt b.differ b.agrees l.shown
 happening_shown h s (Writes n d value now ends) may b k =
     let c : Cluster = first_cluster h in
     let o : Commanded = commanded s n d (command.Write value) in
     let l : Left h c s o = left_at h c s n d (command.Write value) (slice_get s.devices (d - 1)) (ground_of c s b.stage) k in
     step_shown h c n now ends (input.Wrote d value o.answer) o.scene b.sized l.ground may.0 tt
-    (plain_comes h c l.ground.machine n now ends (input.Wrote d value o.answer) o.scene.nodes _ b.sized (of_header h) tt may.2 (l.ground.fits.nodes n)) tt b.differ l.shown
+    (plain_comes h (collected_in o.scene) c l.ground.machine n now ends (input.Wrote d value o.answer) o.scene.nodes _ b.sized (of_header h b.few) tt may.2 (l.ground.fits.nodes n)
+    (λ replies. trust_gone (collected_in o.scene) c n (site_of o.scene.nodes n) _ (doings_trust c n now ends replies (input.Wrote d value o.answer) (o.scene.nodes.node n) tt))) tt b.differ b.agrees l.shown
 happening_shown h s (Refuses n d value cause) may b k =
     more_shown h s s.links (Told (entry.Device (device_entry.Refused n d value cause))) tt (λ m. tt) tt k
 
@@ -259,19 +230,50 @@ first_shown : (h : Header) (cells : ℕ) → IsShown h (first_scene h cells)
 unfolding first_scene
 first_shown h cells = record { nodes = λ n. tt; sent = tt; lines = tt }
 
+-- what is reached, with what is due
+record Comes_to (h : Header) (cells : ℕ) (s : Scene) (wants : List Want) : Type 0 where
+  reached : Reached (first_cluster h) (first_scene h cells) s
+  kept : Kept h s wants
+  shown : IsShown h s
+
+small_reached : (h : Header) (cells : ℕ) (s : Scene) → Reached (first_cluster h) (first_scene h cells) s → IsReached h cells s
+small_reached h cells s r = record { happenings = r.happenings; may = r.may; is = r.is }
+
+comes_more : (h : Header) (cells : ℕ) → IsSmall h → AreDisks h → (s : Scene) (d : Due) (x : Happening) → MayHappen (first_cluster h) s x → IsDue s d x → Comes_to h cells s d.wants
+    → Comes_to h cells (happened (first_cluster h) s x) (due_after (first_cluster h) (happened (first_cluster h) s x) d x).wants
+comes_more h cells size disks s d x may due k =
+    let c : Cluster = first_cluster h in
+    let at : IsReached h cells s = small_reached h cells s k.reached in
+    let next : Reached c (first_scene h cells) (happened c s x) = reached_more c (first_scene h cells) s x k.reached may in
+    let differ : AttemptsDiffer (happened c s x).moments = (stage_of h cells (happened c s x) size (small_reached h cells (happened c s x) next)).laws.once in
+    let b : validity.Known h s = known_at h cells s size.few size.small k.reached in
+    record {
+      reached = next;
+      kept = step_so h s d x due may b differ k.kept;
+      shown = happening_shown h s x may (record {
+        sized = header_sized h size.few size.small;
+        stage = stage_of h cells s size at;
+        whole = whole_at h cells s size at;
+        reading = reading_at h cells s size at;
+        paths = subst (IsPathed (first_cluster h)) at.is (run_pathed h cells at.happenings size at.may);
+        places = subst (IsAtDevices h) at.is (devices_of_each_run h cells at.happenings size.few disks at.may);
+        few = size.few;
+        differ = differ;
+        agrees = agrees_at h s d x due may b differ k.kept;
+      }) k.shown;
+    }
+
+run_shown : (h : Header) (cells : ℕ) → IsSmall h → AreDisks h → (xs : List Happening) (s : Scene) (d last : Due) → MayAllHappen (first_cluster h) s xs → ShapedFrom (first_cluster h) s d xs last
+    → Comes_to h cells s d.wants → Comes_to h cells (all_happened (first_cluster h) s xs) last.wants
+run_shown h cells size disks [] s d last may shaped k = subst (λ (z : Due). Comes_to h cells s z.wants) shaped k
+run_shown h cells size disks (x ∷ xs) s d last may shaped k =
+    let c : Cluster = first_cluster h in
+    run_shown h cells size disks xs (happened c s x) (due_after c (happened c s x) d x) last may.1 shaped.1 (comes_more h cells size disks s d x may.0 shaped.0 k)
+
 pub results_of_each_run : ResultsOfEachRun
-results_of_each_run h cells hs few small disks may =
+results_of_each_run h cells hs few small disks may shaped =
     let size : IsSmall h = record { few = few; small = small } in
     all_named h (all_happened (first_cluster h) (first_scene h cells) hs).moments
-    (holds_of_each h cells (IsShown h)
-    (λ s x now at more k. happening_shown h s x now (record {
-      sized = header_sized h few small;
-      stage = stage_of h cells s size at;
-      whole = whole_at h cells s size at;
-      reading = reading_at h cells s size at;
-      paths = subst (IsPathed (first_cluster h)) at.is (run_pathed h cells at.happenings size at.may);
-      places = subst (IsAtDevices h) at.is (devices_of_each_run h cells at.happenings few disks at.may);
-      few = few;
-      differ = (stage_of h cells (happened (first_cluster h) s x) size more).laws.once;
-    }) k) (first_shown h cells) hs may).lines
-    (lacking_of_each_run h cells hs few small may)
+    (run_shown h cells size disks hs (first_scene h cells) nothing nothing may shaped
+    (record { reached = record { happenings = []; may = tt; is = refl }; kept = record { wants_so = tt; so = first_strict h cells few disks }; shown = first_shown h cells })).shown.lines
+    (lacking_of_each_run h cells hs few small may) (promised_in_each_run h cells hs few small may) (counted_of_each_run h cells hs few small may)

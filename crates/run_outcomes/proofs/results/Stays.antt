@@ -1,12 +1,12 @@
 -- What is shown stays shown, whatever is told; how far a seizing is stays as it is by what is told of no command of its node at a device.
-use Rattle.std.specs.Prelude.{ℕ, ◌+◌, ◌≡◌, ◌≢◌, ◌==◌, ◌&&◌, ◌||◌, ◌⊎◌, ◌≤◌, cond, fold, nat_lt, Bool, true, false, List, [], ◌∷◌, Option, None, Some}
+use Rattle.std.specs.Prelude.{ℕ, ◌+◌, ◌≡◌, ◌≢◌, ◌==◌, ◌&&◌, ◌⊎◌, ◌≤◌, cond, fold, nat_lt, Bool, true, false, List, [], ◌∷◌, Option, None, Some}
 use Rattle.std.specs.List.{AllByRecursion, count_by, list_any}
 use Rattle.std.proofs.Common.{refl, sym, ap, subst, ◌∙◌, arith, inl, inr}
-use Rattle.cl_base.specs.Seizings.{bare}
+use Rattle.cl_base.specs.Seizings.{SeizeResult}
 use Rattle.cl_base.specs.declared.header.Header.{Header}
 use Rattle.cl_base.specs.declared.seizing.SeizeEnd.{SeizeEnd}
 use Rattle.cl_base.specs.declared.seizing.SeizeEnd.TheVariants.{Contended, Expelled, Fault, Greater, Held, NotRegistered}
-use Rattle.cmm_attempt.proofs.Basics.{and_cases, or_cases}
+use Rattle.cmm_attempt.proofs.Basics.{and_cases}
 use Rattle.cmm_attempt.specs.Attempts.{AttemptState}
 use Rattle.cmm_attempt.specs.declared.seizing.Seizing.{Seizing}
 use Rattle.device_queue.specs.Tasks.{is_queued}
@@ -37,12 +37,11 @@ use Rattle.status_report.specs.declared.device_entry.DeviceEntry.TheVariants as 
 use Rattle.status_report.specs.declared.entry.Entry.TheVariants as entry
 use Rattle.wire.specs.declared.message.Body.{Body}
 use Rattle.wire.specs.declared.message.Body.TheVariants as body
-use Rattle.run_outcomes.specs.results.Shown.{AsksOf, AttemptIn, EndShown, EntryTold, HandShown, LetterShown, NodeShown, PromiseShown, PromisedSo, SaysShown, StepShown, TasksShown, UpShown, Was, WorkShown, readings}
-use Rattle.run_outcomes.specs.results.Laws.{is_without, promised_without}
-use Rattle.history.specs.Letters.{says}
-use Rattle.history.specs.Trace.{sent}
+use Rattle.run_outcomes.specs.results.Shown.{AsksOf, AttemptIn, EndShown, EntryTold, HandShown, LetterShown, NodeShown, PromiseShown, SaysShown, StepShown, TasksShown, UpShown, Was, WasTried, WorkShown, readings}
+use Rattle.run_outcomes.proofs.results.Held.{any_more, barred_stays, held_stay, seat_grow, seat_stays, tried_stays}
 use Rattle.cmm_attempt.specs.declared.plan.Plan.{Plan}
 use Rattle.cmm_attempt.specs.declared.promised.Promised.{Promised}
+use Rattle.run_outcomes.specs.results.Tried.{Collected, Without}
 
 -- ---- results
 
@@ -52,20 +51,7 @@ ended_in h e d (Greater w) members ms = nat_lt e w && list_any (λ m. somewhere 
 ended_in h e d Expelled members ms = list_any (λ m. somewhere (shows_expelled h d m) ms) (nodes_of members)
 ended_in h e d (Contended key) members ms = list_any (λ m. somewhere (shows_contended h members d key m) ms) (nodes_of members)
 ended_in h e d Fault members ms = list_any (λ m. somewhere (shows_fault d m) ms) (nodes_of members)
-ended_in h e d (NotRegistered keys) members ms = list_any (λ m. somewhere (λ earlier x. reads_keys m d x) ms) (nodes_of members)
 ended_in h e d _ members ms = true
-
-any_more : (test : ℕ → List Moment → Moment → Bool) (x : Moment) (ms : List Moment) (ns : List ℕ) → list_any (λ m. somewhere (test m) ms) ns ≡ true
-    → list_any (λ m. somewhere (test m) (x ∷ ms)) ns ≡ true
-any_more test x ms [] k = absurd (no_truth k)
-any_more test x ms (n ∷ ns) k = by_cases (or_cases (somewhere (test n) ms) (list_any (λ m. somewhere (test m) ms) ns) k) (λ rest. any_more test x ms ns rest)
-  where
-    by_cases : (somewhere (test n) ms ≡ true) ⊎ (list_any (λ m. somewhere (test m) ms) ns ≡ true)
-        → (list_any (λ m. somewhere (test m) ms) ns ≡ true → list_any (λ m. somewhere (test m) (x ∷ ms)) ns ≡ true)
-        → list_any (λ m. somewhere (test m) (x ∷ ms)) (n ∷ ns) ≡ true
-    by_cases (inl here) rest =
-        ap (λ b. b || list_any (λ m. somewhere (test m) (x ∷ ms)) ns) (or_right (test n ms x) (somewhere (test n) ms) here)
-    by_cases (inr later) rest = or_right (somewhere (test n) (x ∷ ms)) (list_any (λ m. somewhere (test m) (x ∷ ms)) ns) (rest later)
 
 pub both_true : (a b : Bool) → a ≡ true → b ≡ true → (a && b) ≡ true
 both_true true b h k = k
@@ -81,7 +67,7 @@ ended_more h e d (Greater w) members x ms k =
 ended_more h e d Expelled members x ms k = any_more (λ m. shows_expelled h d m) x ms (nodes_of members) k
 ended_more h e d (Contended key) members x ms k = any_more (λ m. shows_contended h members d key m) x ms (nodes_of members) k
 ended_more h e d (Held keys) members x ms k = refl
-ended_more h e d (NotRegistered keys) members x ms k = any_more (λ m earlier y. reads_keys m d y) x ms (nodes_of members) k
+ended_more h e d (NotRegistered keys) members x ms k = refl
 ended_more h e d Fault members x ms k = any_more (λ m. shows_fault d m) x ms (nodes_of members) k
 
 -- the moments since the attempt are one more
@@ -95,14 +81,14 @@ ended_stays h e d end x ms new begun k =
     subst (λ z. ended_in h e d end z (since (is_attempt e) (x ∷ ms)) ≡ true) (sym l.members)
     (subst (λ z. ended_in h e d end (members_of e ms) z ≡ true) (sym (since_more e x ms l.other)) (ended_more h e d end (members_of e ms) x (since (is_attempt e) ms) k))
 
-pub end_stays : (h : Header) (e d : ℕ) (end : SeizeEnd Unit) (x : Moment) (ms : List Moment) → IsNew ms x → list_any (is_attempt e) ms ≡ true → EndShown h e d ms end
-    → EndShown h e d (x ∷ ms) end
-end_stays h e d (Greater w) x ms new begun k = ended_stays h e d (Greater w) x ms new begun k
-end_stays h e d Expelled x ms new begun k = ended_stays h e d Expelled x ms new begun k
-end_stays h e d (Contended key) x ms new begun k = ended_stays h e d (Contended key) x ms new begun k
-end_stays h e d (Held keys) x ms new begun k = tt
-end_stays h e d (NotRegistered keys) x ms new begun k = ended_stays h e d (NotRegistered keys) x ms new begun k
-end_stays h e d Fault x ms new begun k = ended_stays h e d Fault x ms new begun k
+pub end_stays : (h : Header) (e d n : ℕ) (r : SeizeResult) (x : Moment) (ms : List Moment) → IsNew ms x → list_any (is_attempt e) ms ≡ true → EndShown h e d ms n r
+    → EndShown h e d (x ∷ ms) n r
+end_stays h e d n (Greater w) x ms new begun k = ended_stays h e d (Greater w) x ms new begun k
+end_stays h e d n Expelled x ms new begun k = ended_stays h e d Expelled x ms new begun k
+end_stays h e d n (Contended key) x ms new begun k = ended_stays h e d (Contended key) x ms new begun k
+end_stays h e d n (Held keys) x ms new begun k = tt
+end_stays h e d n (NotRegistered keys) x ms new begun k = tried_stays h e d n keys x ms new begun k
+end_stays h e d n Fault x ms new begun k = ended_stays h e d Fault x ms new begun k
 
 -- ---- a moment that is no command of node n at a device, but for a write
 
@@ -197,7 +183,7 @@ step_stays h ms x n e d (step.Preempt victim reading) new begun spares k =
       ap (λ z. readings n d z) more ∙ (readings_stay n d x (since (is_attempt e) ms) spares ∙ k.1),
       k.2,
     )
-step_stays h ms x n e d (step.Ended r) new begun spares k = end_stays h e d (bare r) x ms new begun k
+step_stays h ms x n e d (step.Ended r) new begun spares k = end_stays h e d n r x ms new begun k
 step_stays h ms x n e d step.Check new begun spares k = tt
 step_stays h ms x n e d step.Register new begun spares k = tt
 step_stays h ms x n e d step.ReadWord new begun spares k = tt
@@ -219,30 +205,32 @@ tasks_stay h ms x n q (t ∷ ts) new spares k = (
 
 -- ---- attempts, nodes and messages
 
+was_asked : (h : Header) (ms : List Moment) (x : Moment) (e m : ℕ) (s : Seizing) → IsNew ms x → list_any (is_attempt e) ms ≡ true → (s.seizer ≡ Some m) ⊎ WasTried (Was h ms e) s.attached.device m
+    → (s.seizer ≡ Some m) ⊎ WasTried (Was h (x ∷ ms) e) s.attached.device m
+was_asked h ms x e m s new begun (inl last) = inl last
+was_asked h ms x e m s new begun (inr tried) = inr (tried.0, tried_stays h e s.attached.device m tried.0 x ms new begun tried.1)
+
 entries_stay : (h : Header) (ms : List Moment) (x : Moment) (e : ℕ) (plan : Plan) (promises : List Promised) (es : List Seizing) → IsNew ms x → list_any (is_attempt e) ms ≡ true
     → AllByRecursion (EntryTold (Was h ms e) plan promises) es → AllByRecursion (EntryTold (Was h (x ∷ ms) e) plan promises) es
 entries_stay h ms x e plan promises [] new begun k = tt
 entries_stay h ms x e plan promises (s ∷ es) new begun k = (
-  record { place = k.0.place; told = λ r some is. end_stays h e s.attached.device (bare r) x ms new begun (k.0.told r some is); nobody = k.0.nobody },
+  record {
+    place = k.0.place;
+    told = λ m r seizer is. end_stays h e s.attached.device m r x ms new begun (k.0.told m r seizer is);
+    asked = λ m is. was_asked h ms x e m s new begun (k.0.asked m is);
+    shows = k.0.shows;
+    left = k.0.left;
+    nobody = k.0.nobody;
+  },
   entries_stay h ms x e plan promises es new begun k.1,
 )
 
--- what was sent stays so
-without_stays : (e d m : ℕ) (x : Moment) (ms : List Moment) → promised_without e d m ms ≡ true → promised_without e d m (x ∷ ms) ≡ true
-without_stays e d m (sent p n to called bytes) ms k = or_right ((n == m) && is_without e d (says bytes)) (promised_without e d m ms) k
-without_stays e d m _ ms k = k
+promise_stays : (h : Header) (ms : List Moment) (x : Moment) (e : ℕ) (p : Promised) → IsNew ms x → PromiseShown h ms e p → PromiseShown h (x ∷ ms) e p
+promise_stays h ms x e p new k = λ d is none. barred_stays h e d p.shown.summary.node x ms new (k d is none)
 
-promise_stays : (ms : List Moment) (x : Moment) (e : ℕ) (p : Promised) → PromiseShown ms e p → PromiseShown (x ∷ ms) e p
-promise_stays ms x e p (inl own) = inl own
-promise_stays ms x e p (inr k) = inr (λ d none. without_stays e d p.shown.summary.node x ms (k d none))
-
-promises_stay : (ms : List Moment) (x : Moment) (e : ℕ) (ps : List Promised) → AllByRecursion (PromiseShown ms e) ps → AllByRecursion (PromiseShown (x ∷ ms) e) ps
-promises_stay ms x e [] k = tt
-promises_stay ms x e (p ∷ ps) k = (promise_stays ms x e p k.0, promises_stay ms x e ps k.1)
-
-pub promised_stays : (ms : List Moment) (x : Moment) (from : ℕ) (b : Body) → PromisedSo ms from b → PromisedSo (x ∷ ms) from b
-promised_stays ms x from (body.Promise e newest members valid flagged committed pending) k = λ d none. without_stays e d from x ms (k d none)
-promised_stays ms x from _ k = tt
+promises_stay : (h : Header) (ms : List Moment) (x : Moment) (e : ℕ) (ps : List Promised) → IsNew ms x → AllByRecursion (PromiseShown h ms e) ps → AllByRecursion (PromiseShown h (x ∷ ms) e) ps
+promises_stay h ms x e [] new k = tt
+promises_stay h ms x e (p ∷ ps) new k = (promise_stays h ms x e p new k.0, promises_stay h ms x e ps new k.1)
 
 pub attempt_stays : (h : Header) (ms : List Moment) (x : Moment) (q : ℕ) (o : Option AttemptState) → IsNew ms x → AttemptIn h ms q o → AttemptIn h (x ∷ ms) q o
 attempt_stays h ms x q None new k = tt
@@ -252,48 +240,69 @@ attempt_stays h ms x q (Some a) new k = record {
   some = k.some;
   epoch = k.epoch;
   plan = k.plan;
-  promises = promises_stay ms x a.plan.epoch a.promises k.promises;
-  rests = record { early = k.rests.early; past = k.rests.past; entries = entries_stay h ms x a.plan.epoch a.plan a.promises a.devices new k.of.0 k.rests.entries };
+  promises = promises_stay h ms x a.plan.epoch a.promises new k.promises;
+  rests = record { early = k.rests.early; past = k.rests.past; entries = entries_stay h ms x a.plan.epoch a.plan a.promises a.devices new k.of.0 k.rests.entries; apart = k.rests.apart };
 }
 
-pub up_stays : (h : Header) (ms : List Moment) (x : Moment) (n : ℕ) (y : UpNode) → IsNew ms x → Spares n x → UpShown h ms n y → UpShown h (x ∷ ms) n y
-up_stays h ms x n y new spares k = record {
+pub up_stays : (h : Header) (past : Collected) (ms : List Moment) (x : Moment) (n : ℕ) (y : UpNode) → IsNew ms x → Spares n x → UpShown h past ms n y → UpShown h past (x ∷ ms) n y
+up_stays h past ms x n y new spares k = record {
   tasks = tasks_stay h ms x n (session_of y) y.tasks new spares k.tasks;
+  held = held_stay h ms x n (session_of y) y.tasks new k.held;
+  seat = seat_stays h past ms x n y new k.seat;
   attempt = attempt_stays h ms x (session_of y) y.attempt new k.attempt;
+  mine = k.mine;
 }
 
-pub node_stays : (h : Header) (ms : List Moment) (x : Moment) (n : ℕ) (node : Node) → IsNew ms x → Spares n x → NodeShown h ms n node → NodeShown h (x ∷ ms) n node
-node_stays h ms x n Down new spares k = tt
-node_stays h ms x n (Up y) new spares k = up_stays h ms x n y new spares k
+pub node_stays : (h : Header) (past : Collected) (ms : List Moment) (x : Moment) (n : ℕ) (node : Node) → IsNew ms x → Spares n x → NodeShown h past ms n node → NodeShown h past (x ∷ ms) n node
+node_stays h past ms x n Down new spares k = tt
+node_stays h past ms x n (Up y) new spares k = up_stays h past ms x n y new spares k
 
-pub says_stay : (h : Header) (f : ℕ → ℕ) (ms : List Moment) (x : Moment) (b : Body) → IsNew ms x → SaysShown h f ms b → SaysShown h f (x ∷ ms) b
-says_stay h f ms x (body.Seized e d r) new (inl fault) = inl fault
-says_stay h f ms x (body.Seized e d r) new (inr k) = inr (begun_stays ms x e k.0, end_stays h e d (bare r) x ms new k.0 k.1)
-says_stay h f ms x _ new k = tt
+pub says_stay : (h : Header) (past : Collected) (f : ℕ → ℕ) (ms : List Moment) (x : Moment) (from : ℕ) (b : Body) → IsNew ms x → SaysShown h past f ms from b → SaysShown h past f (x ∷ ms) from b
+says_stay h past f ms x from (body.Seized e d r) new (inl fault) = inl fault
+says_stay h past f ms x from (body.Seized e d r) new (inr k) = inr (begun_stays ms x e k.0, end_stays h e d from r x ms new k.0 k.1)
+says_stay h past f ms x from (body.Promise e last members valid flagged committed pending) new (inl late) = inl late
+says_stay h past f ms x from (body.Promise e last members valid flagged committed pending) new (inr shows) = inr (λ d is none. by_case d (shows d is none))
+  where
+    by_case : (d : ℕ) → Without h e d ms from ⊎ past e → Without h e d (x ∷ ms) from ⊎ past e
+    by_case d (inl w) = inl (barred_stays h e d from x ms new w)
+    by_case d (inr gone) = inr gone
+says_stay h past f ms x from _ new k = tt
 
 at_most : (a b c : ℕ) → a ≤ b → b ≤ c → a ≤ c
 at_most a b c i j = omega (arith, i, j)
 
--- where nodes install more
-pub says_grow : (h : Header) (f g : ℕ → ℕ) (ms : List Moment) (b : Body) → ((k : ℕ) → f k ≤ g k) → SaysShown h f ms b → SaysShown h g ms b
-says_grow h f g ms (body.Seized e d r) more (inl fault) = inl (fault.0, at_most e (f (coordinator e)) (g (coordinator e)) fault.1 (more (coordinator e)))
-says_grow h f g ms (body.Seized e d r) more (inr k) = inr k
-says_grow h f g ms _ more k = tt
+-- where nodes install more, and fewer collect
+pub says_grow : (h : Header) (past later : Collected) (f g : ℕ → ℕ) (ms : List Moment) (from : ℕ) (b : Body) → ((e : ℕ) → past e → later e) → ((k : ℕ) → f k ≤ g k) → SaysShown h past f ms from b
+    → SaysShown h later g ms from b
+says_grow h past later f g ms from (body.Seized e d r) gone more (inl fault) = inl (fault.0, at_most e (f (coordinator e)) (g (coordinator e)) fault.1 (more (coordinator e)))
+says_grow h past later f g ms from (body.Seized e d r) gone more (inr k) = inr k
+says_grow h past later f g ms from (body.Promise e last members valid flagged committed pending) gone more (inl late) = inl (at_most e (f (coordinator e)) (g (coordinator e)) late (more (coordinator e)))
+says_grow h past later f g ms from (body.Promise e last members valid flagged committed pending) gone more (inr shows) = inr (λ d is none. by_case d (shows d is none))
+  where
+    by_case : (d : ℕ) → Without h e d ms from ⊎ past e → Without h e d ms from ⊎ later e
+    by_case d (inl w) = inl w
+    by_case d (inr k) = inr (gone e k)
+says_grow h past later f g ms from _ gone more k = tt
+
+pub node_grows : (h : Header) (past later : Collected) (ms : List Moment) (n : ℕ) (node : Node) → ((e : ℕ) → past e → later e) → NodeShown h past ms n node → NodeShown h later ms n node
+node_grows h past later ms n Down gone k = tt
+node_grows h past later ms n (Up y) gone k = record { tasks = k.tasks; held = k.held; seat = seat_grow h past later ms n y gone k.seat; attempt = k.attempt; mine = k.mine }
 
 asks_stay : (ms : List Moment) (x : Moment) (b : Body) → IsNew ms x → AsksOf ms b → AsksOf (x ∷ ms) b
 asks_stay ms x (body.SeizeQuorum e members d) new k = of_stays ms x e members new k
 asks_stay ms x (body.SeizeData e members d) new k = of_stays ms x e members new k
 asks_stay ms x _ new k = tt
 
-pub hand_stays : (h : Header) (f : ℕ → ℕ) (ms : List Moment) (x : Moment) (told : Delivered) → IsNew ms x → HandShown h f ms told → HandShown h f (x ∷ ms) told
-hand_stays h f ms x None new k = tt
-hand_stays h f ms x (Some d) new k = (asks_stay ms x d.1.body new k.0, says_stay h f ms x d.1.body new k.1, promised_stays ms x d.0 d.1.body k.2)
+pub hand_stays : (h : Header) (past : Collected) (f : ℕ → ℕ) (ms : List Moment) (x : Moment) (told : Delivered) → IsNew ms x → HandShown h past f ms told → HandShown h past f (x ∷ ms) told
+hand_stays h past f ms x None new k = tt
+hand_stays h past f ms x (Some d) new k = (asks_stay ms x d.1.body new k.0, says_stay h past f ms x d.0 d.1.body new k.1)
 
-pub letters_stay : (h : Header) (f : ℕ → ℕ) (ms : List Moment) (x : Moment) (ls : List Letter) → IsNew ms x → AllByRecursion (LetterShown h f ms) ls
-    → AllByRecursion (LetterShown h f (x ∷ ms)) ls
-letters_stay h f ms x [] new k = tt
-letters_stay h f ms x (l ∷ ls) new k = (says_stay h f ms x l.body new k.0, letters_stay h f ms x ls new k.1)
+pub letters_stay : (h : Header) (past : Collected) (f : ℕ → ℕ) (ms : List Moment) (x : Moment) (ls : List Letter) → IsNew ms x → AllByRecursion (LetterShown h past f ms) ls
+    → AllByRecursion (LetterShown h past f (x ∷ ms)) ls
+letters_stay h past f ms x [] new k = tt
+letters_stay h past f ms x (l ∷ ls) new k = (says_stay h past f ms x l.from l.body new k.0, letters_stay h past f ms x ls new k.1)
 
-pub letters_grow : (h : Header) (f g : ℕ → ℕ) (ms : List Moment) (ls : List Letter) → ((k : ℕ) → f k ≤ g k) → AllByRecursion (LetterShown h f ms) ls → AllByRecursion (LetterShown h g ms) ls
-letters_grow h f g ms [] more k = tt
-letters_grow h f g ms (l ∷ ls) more k = (says_grow h f g ms l.body more k.0, letters_grow h f g ms ls more k.1)
+pub letters_grow : (h : Header) (past later : Collected) (f g : ℕ → ℕ) (ms : List Moment) (ls : List Letter) → ((e : ℕ) → past e → later e) → ((k : ℕ) → f k ≤ g k)
+    → AllByRecursion (LetterShown h past f ms) ls → AllByRecursion (LetterShown h later g ms) ls
+letters_grow h past later f g ms [] gone more k = tt
+letters_grow h past later f g ms (l ∷ ls) gone more k = (says_grow h past later f g ms l.from l.body gone more k.0, letters_grow h past later f g ms ls gone more k.1)

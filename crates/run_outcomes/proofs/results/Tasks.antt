@@ -3,7 +3,7 @@ use Rattle.std.specs.Prelude.{ℕ, ◌≡◌, ◌++◌, not, nat_le, Bool, true,
 use Rattle.std.specs.List.{AllByRecursion, list_any}
 use Rattle.std.specs.Option.{option_and_then, option_map}
 use Rattle.std.proofs.Common.{refl, sym, subst, inl, inr}
-use Rattle.cl_base.specs.Seizings.{SeizeResult, bare}
+use Rattle.cl_base.specs.Seizings.{SeizeResult}
 use Rattle.cl_base.specs.declared.header.Header.{Header}
 use Rattle.cmm_attempt.proofs.Basics.{if_either, none_some, same_some}
 use Rattle.device_queue.specs.Queue.{after_answer, after_join, after_seize, due_device, join_of, next_of, put_unless, seizure_of}
@@ -34,6 +34,7 @@ use Rattle.run_outcomes.specs.results.Shown.{EndShown, StepShown, TasksShown, Wo
 use Rattle.run_outcomes.proofs.results.Answered.{seizing_shown}
 use Rattle.run_outcomes.proofs.results.Words.{Fits, IsHigh, line}
 use Rattle.run_outcomes.proofs.results.Stays.{end_stays}
+use Rattle.run_outcomes.specs.results.Tried.{TasksHeld, WorkHeld}
 
 -- ---- those that have not begun
 
@@ -92,12 +93,12 @@ joins_shown h c ms n q me e joined (r ∷ rs) ts k =
 -- ---- one that has ended
 
 -- how it ended is shown, and its attempt has begun
-pub record Ended (h : Header) (ms : List Moment) (q d : ℕ) (r : SeizeResult) : Type 0 where
+pub record Ended (h : Header) (ms : List Moment) (n q d : ℕ) (r : SeizeResult) : Type 0 where
   pub begun : list_any (is_attempt q) ms ≡ true
-  pub shown : EndShown h q d ms (bare r)
+  pub shown : EndShown h q d ms n r
 
-step_ended : (h : Header) (ms : List Moment) (n q d : ℕ) (r : SeizeResult) (s : SeizeStep) → result_at s ≡ Some r → StepShown h ms n q d s → EndShown h q d ms (bare r)
-step_ended h ms n q d r (step.Ended result) is k = subst (λ z. EndShown h q d ms (bare z)) (same_some result r is) k
+step_ended : (h : Header) (ms : List Moment) (n q d : ℕ) (r : SeizeResult) (s : SeizeStep) → result_at s ≡ Some r → StepShown h ms n q d s → EndShown h q d ms n r
+step_ended h ms n q d r (step.Ended result) is k = subst (λ z. EndShown h q d ms n z) (same_some result r is) k
 step_ended h ms n q d r step.Check is k = absurd (none_some r is)
 step_ended h ms n q d r step.Register is k = absurd (none_some r is)
 step_ended h ms n q d r step.ReadWord is k = absurd (none_some r is)
@@ -107,17 +108,17 @@ step_ended h ms n q d r (step.ReadKeys reading) is k = absurd (none_some r is)
 step_ended h ms n q d r (step.Preempt victim reading) is k = absurd (none_some r is)
 step_ended h ms n q d r (step.Confirm ks) is k = absurd (none_some r is)
 
-work_ended : (h : Header) (ms : List Moment) (n q d : ℕ) (r : SeizeResult) (w : Work) → result_in w ≡ Some r → WorkShown h ms n q d w → Ended h ms q d r
+work_ended : (h : Header) (ms : List Moment) (n q d : ℕ) (r : SeizeResult) (w : Work) → result_in w ≡ Some r → WorkShown h ms n q d w → Ended h ms n q d r
 work_ended h ms n q d r (Seizes s) is k = record { begun = k.0.of.0; shown = step_ended h ms n q d r s.step is k.1 }
 work_ended h ms n q d r (Joins j) is k = absurd (none_some r is)
 
-rest_shown : (h : Header) (ms : List Moment) (n q : ℕ) (b : Bool) (ts : List Task) → Either b (AllByRecursion (Fresh h ms n q) ts) (TasksShown h ms n q ts) → TasksShown h ms n q ts
+pub rest_shown : (h : Header) (ms : List Moment) (n q : ℕ) (b : Bool) (ts : List Task) → Either b (AllByRecursion (Fresh h ms n q) ts) (TasksShown h ms n q ts) → TasksShown h ms n q ts
 rest_shown h ms n q true ts k = fresh_tasks h ms n q ts k
 rest_shown h ms n q false ts k = k
 
-pub ended_shown : (h : Header) (ms : List Moment) (n q d : ℕ) (r : SeizeResult) (ts : List Task) → HasEnded ts d r → TasksShown h ms n q ts → Ended h ms q d r
+pub ended_shown : (h : Header) (ms : List Moment) (n q d : ℕ) (r : SeizeResult) (ts : List Task) → HasEnded ts d r → TasksShown h ms n q ts → Ended h ms n q d r
 ended_shown h ms n q d r [] ended k = absurd ended
-ended_shown h ms n q d r (t ∷ ts) (inl here) k = subst (λ z. Ended h ms q z r) here.0 (work_ended h ms n q t.device r t.work here.1 k.0)
+ended_shown h ms n q d r (t ∷ ts) (inl here) k = subst (λ z. Ended h ms n q z r) here.0 (work_ended h ms n q t.device r t.work here.1 k.0)
 ended_shown h ms n q d r (t ∷ ts) (inr later) k = ended_shown h ms n q d r ts later (rest_shown h ms n q (is_queued t) ts k.1)
 
 -- ---- the answer
@@ -140,7 +141,7 @@ no_false e = cc
 
 step_over : (h : Header) (ms : List Moment) (n m at e d : ℕ) (k : PrCommand) (a : Answer) (s : SeizeStep) → list_any (is_attempt e) ms ≡ true → not (is_some (result_at s)) ≡ false
     → StepShown h ms n e d s → StepShown h (line m at k a ∷ ms) n e d s
-step_over h ms n m at e d k a (step.Ended r) begun over so = end_stays h e d (bare r) (line m at k a) ms tt begun so
+step_over h ms n m at e d k a (step.Ended r) begun over so = end_stays h e d n r (line m at k a) ms tt begun so
 step_over h ms n m at e d k a step.Check begun over so = tt
 step_over h ms n m at e d k a step.Register begun over so = tt
 step_over h ms n m at e d k a step.ReadWord begun over so = tt
@@ -151,19 +152,19 @@ step_over h ms n m at e d k a (step.ReadKeys reading) begun over so = absurd (no
 step_over h ms n m at e d k a (step.Preempt victim reading) begun over so = absurd (no_false over)
 
 work_taken : (h : Header) (ms : List Moment) (n q d at : ℕ) (k : PrCommand) (a : Answer) (w : Work) → nat_le n 32 ≡ true → d ≡ at → command_in w ≡ Some k → ReadsOwn h k a → WorkHigh w a
-    → WorkShown h ms n q d w → WorkShown h (line n at k a ∷ ms) n q d (work_answered a w)
-work_taken h ms n q d at k a (Seizes s) low same is own high w =
+    → WorkHeld h ms n q d w → WorkShown h ms n q d w → WorkShown h (line n at k a ∷ ms) n q d (work_answered a w)
+work_taken h ms n q d at k a (Seizes s) low same is own high held w =
     let b : Base h (line n at k a ∷ ms) n q s = base_stays h ms (line n at k a) n q s tt w.0 in (
       record { me = b.me; cluster = b.cluster; epoch = b.epoch; some = b.some; of = b.of; member = b.member },
-      subst (λ z. StepShown h (line n z k a ∷ ms) n q d (next_step s s.step a)) same (seizing_shown h ms n q d s k a low is w.0 (high.1 k is) own high.0 w.1),
+      subst (λ z. StepShown h (line n z k a ∷ ms) n q d (next_step s s.step a)) same (seizing_shown h ms n q d s k a low is w.0 held (high.1 k is) own high.0 w.1),
     )
-work_taken h ms n q d at k a (Joins j) low same is own high w = tt
+work_taken h ms n q d at k a (Joins j) low same is own high held w = tt
 
 pub tasks_taken : (h : Header) (ms : List Moment) (n q at : ℕ) (k : PrCommand) (a : Answer) (ts : List Task) → nat_le n 32 ≡ true → due_device ts ≡ Some at → next_of ts ≡ Some k
-    → ReadsOwn h k a → FirstHigh (find is_queued ts) a → TasksShown h ms n q ts → TasksShown h (line n at k a ∷ ms) n q (after_answer ts a)
-tasks_taken h ms n q at k a [] low device due own high all = tt
-tasks_taken h ms n q at k a (t ∷ ts) low device due own high all =
-    by_test (is_queued t) refl device due high all.1 (λ e f g rest. tasks_taken h ms n q at k a ts low e f own g rest)
+    → ReadsOwn h k a → FirstHigh (find is_queued ts) a → TasksHeld h ms n q ts → TasksShown h ms n q ts → TasksShown h (line n at k a ∷ ms) n q (after_answer ts a)
+tasks_taken h ms n q at k a [] low device due own high held all = tt
+tasks_taken h ms n q at k a (t ∷ ts) low device due own high held all =
+    by_test (is_queued t) refl device due high all.1 (λ e f g rest. tasks_taken h ms n q at k a ts low e f own g held.1 rest)
   where
     x : Moment
     x = line n at k a
@@ -176,7 +177,7 @@ tasks_taken h ms n q at k a (t ∷ ts) low device due own high all =
         → TasksShown h (x ∷ ms) n q (if b then answered a t ∷ ts else t ∷ after_answer ts a)
     by_test true is device due high rest next =
         let fresh : AllByRecursion (Fresh h (x ∷ ms) n q) ts = all_fresh_stay h ms x n q ts tt rest in (
-          work_taken h ms n q t.device at k a t.work low (same_some t.device at device) due own high all.0,
+          work_taken h ms n q t.device at k a t.work low (same_some t.device at device) due own high held.0 all.0,
           either_of (is_queued (answered a t)) (AllByRecursion (Fresh h (x ∷ ms) n q) ts) (TasksShown h (x ∷ ms) n q ts) fresh (fresh_tasks h (x ∷ ms) n q ts fresh),
         )
     by_test false is device due high rest next = (

@@ -1,5 +1,5 @@
 -- What a node gives in its small steps, one after another, tells what is shown, and so does the node after them.
-use Rattle.std.specs.Prelude.{All, List, None, [], true, ℕ, ◌++◌, ◌==◌, ◌∷◌, ◌≡◌, ◌<◌, ◌≤◌, ◌≢◌}
+use Rattle.std.specs.Prelude.{All, List, None, [], ℕ, ◌++◌, ◌==◌, ◌∷◌, ◌≡◌, ◌<◌, ◌≤◌, ◌≢◌}
 use Rattle.std.specs.List.{AllByRecursion, list_any}
 use Rattle.std.proofs.Common.{ap, refl, subst, sym, arith, ◌∙◌}
 use Rattle.cl_base.specs.declared.header.Header.{Header}
@@ -11,7 +11,7 @@ use Rattle.history.specs.Seizing.{is_attempt}
 use Rattle.history.specs.Setting.{coordinator}
 use Rattle.history.specs.Member.{members_of}
 use Rattle.node_model.specs.Entries.{unknown_lines}
-use Rattle.node_model.specs.Seats.{state_of}
+use Rattle.node_model.specs.Seats.{record_of}
 use Rattle.node_model.specs.declared.cluster.Cluster.{Cluster}
 use Rattle.node_model.specs.declared.node.Node.{Node}
 use Rattle.node_model.specs.declared.node.Node.TheVariants.{Down, Up}
@@ -19,27 +19,22 @@ use Rattle.node_model.specs.declared.node.UpNode.{UpNode}
 use Rattle.node_model.specs.declared.output.Output.{Output}
 use Rattle.node_model.specs.declared.output.Output.TheVariants.{Sends, Tells}
 use Rattle.refinement.specs.Doings.{Change, Doing, Site, after_all, changed, effect, first_lines, given_all, gives, gone_line, saved_lines, site}
-use Rattle.refinement.specs.Doings.Change.{Admits, Leads}
+use Rattle.refinement.specs.Doings.Change.{Admits, Distrusts, Leads, Promises}
 use Rattle.refinement.specs.Doings.Doing.{Comes_up, Does, Forgets, Goes_down, Loses, Saves}
 use Rattle.refinement.specs.Guards.{May, MayAll, MayChange}
-use Rattle.refinement.specs.Ties.{Delivered, GoesOn, Known, NodeTied, SiteTied, setting_of}
+use Rattle.refinement.specs.Ties.{Delivered, GoesOn, Known, SiteTied, setting_of}
 use Rattle.run_outcomes.specs.counts.Ends.{AllFit, DoingFits, Last, last_after, last_by_change}
-use Rattle.machine_base.specs.Epochs as epochs
 use Rattle.membership_machine.specs.Invariant.{Holds}
-use Rattle.membership_machine.specs.Records.{Saved}
 use Rattle.membership_machine.specs.State.{Memberships, Node as MachineNode}
 use Rattle.refinement.proofs.Acts.{does_one}
-use Rattle.refinement.proofs.Changes.{Sees, sees}
-use Rattle.refinement.proofs.Installs.{seeks_before}
 use Rattle.refinement.proofs.Ties.{known_stays}
 use Rattle.refinement.specs.Events.{of_doing}
-use Rattle.run_history.proofs.Changes.{At, at_attempt}
 use Rattle.run_history.proofs.Lists.{both}
 use Rattle.run_history.proofs.Walk.{passing_append}
 use Rattle.run_history.specs.Guards.{AtAll, AtChange, AtDoing, Hand, hand_after}
 use Rattle.run_history.specs.Marks.{AllSo, DoingSo}
 use Rattle.run_history.specs.Scenes.{Scene, passing, telling}
-use Rattle.run_seizings.proofs.Progress.{if_so, of_stays, or_left, same_is}
+use Rattle.run_seizings.proofs.Progress.{if_so, no_truth, of_stays, or_left, same_is}
 use Rattle.run_seizings.specs.Seized.{IsOf}
 use Rattle.status_report.specs.declared.attempt_entry.AttemptEntry.TheVariants as attempt_entry
 use Rattle.status_report.specs.declared.entry.Entry.TheVariants as entry
@@ -47,9 +42,15 @@ use Rattle.status_report.specs.declared.node_entry.NodeEntry.TheVariants as note
 use Rattle.run_outcomes.proofs.results.Calm.{AllCalm, IsPlain, lost_calm, saved_calm, unknown_calm}
 use Rattle.run_outcomes.proofs.results.Passing.{passing_all, passing_lasts}
 use Rattle.run_outcomes.proofs.results.Stays.{says_grow}
-use Rattle.run_outcomes.proofs.results.Ups.{NoneLate, change_up}
+use Rattle.run_outcomes.proofs.results.Entering.{enters}
+use Rattle.run_outcomes.proofs.results.Fresh.{AllGone, DoingGone, GoneIn, IsNewFor, change_fresh, none_fresh}
+use Rattle.run_outcomes.proofs.results.Ups.{NoneLate}
+use Rattle.run_outcomes.proofs.results.Changed.{change_up}
+use Rattle.run_devices.specs.validity.Kept.{AllAgree, DoingAgrees}
 use Rattle.run_outcomes.specs.results.Shown.{NodeShown, OfHeader}
-use Rattle.run_outcomes.proofs.results.Acted.{Done, Goes, NoneNewer, Now, OutShown, OutsShown, act_done, calm_done, calm_says, change_reached, goes_last, outs_last}
+use Rattle.run_outcomes.proofs.results.Acted.{Done, Goes, Now, OutShown, OutsShown, act_done, calm_done, calm_says, change_reached, goes_last, outs_last}
+use Rattle.run_outcomes.specs.results.Tried.{Collected}
+use Rattle.run_outcomes.proofs.results.Freed.{NoneIn, inst, lead_own, none_in, promise_asks}
 
 -- ---- changes that are saved
 
@@ -74,115 +75,90 @@ begun_in c n x ch s differ p members is =
     subst (λ z. IsOf (passing n (first_lines n z ++ saved_lines c n x z) s).moments p members) (sym is)
     (leads_of c n x p members s (subst (λ z. AttemptsDiffer (passing n (first_lines n z ++ saved_lines c n x z) s).moments) is differ))
 
-saves_done : (h : Header) (c : Cluster) (n : ℕ) (told : Delivered) (f top : ℕ → ℕ) (x : UpNode) (ch : Change) (last : Last) (s : Scene) → All IsDevice c.attached → OfHeader h c → MayChange c n told x ch → AtChange x ch → NoneLate f x
-    → Goes h n told f (Up x) last s.moments
-    → Done h n told f top (Up (changed c n x ch)) (last_by_change last ch) (first_lines n ch ++ saved_lines c n x ch) (passing n (first_lines n ch ++ saved_lines c n x ch) s).moments
-saves_done h c n told f top x ch last s fits id may at late k =
+-- an attempt that begins is of a number that none had
+change_new : (h : Header) (past : Collected) (c : Cluster) (n : ℕ) (told : Delivered) (f : ℕ → ℕ) (x : UpNode) (ch : Change) (last : Last) (s : Scene)
+    → AttemptsDiffer (passing n (first_lines n ch ++ saved_lines c n x ch) s).moments → Goes h past n told f (Up x) last s.moments → IsNewFor past ch
+change_new h past c n told f x (Leads p members) last s differ k =
+    passing_lasts (λ ms. AttemptsDiffer ms → past p → ⊥) (λ y ms idle new after gone. new after.1 gone) n (unknown_lines n x.requests.waiting)
+    (telling (entry.Attempt (attempt_entry.Begun p members)) (telling (entry.Node n note.Saved) s)) (unknown_calm n x.requests.waiting)
+    (λ after gone. no_truth (sym after.0 ∙ (k after.1.1).begun p gone)) differ
+change_new h past c n told f x _ last s differ k = tt
+
+gone_at : (past : Collected) (x : UpNode) (ch : Change) (d : ℕ) → ch ≡ Distrusts d → DoingGone past (Up x) (Saves ch) → GoneIn past x
+gone_at past x ch d is gone = subst (λ z. DoingGone past (Up x) (Saves z)) is gone
+
+saves_done : (h : Header) (past : Collected) (c : Cluster) (n : ℕ) (told : Delivered) (f top : ℕ → ℕ) (x : UpNode) (ch : Change) (last : Last) (s : Scene) → All IsDevice c.attached → OfHeader h c → MayChange c n told x ch → AtChange x ch → NoneLate f x
+    → ((p : ℕ) → ch ≡ Promises p → n ≢ coordinator p) → ((p members : ℕ) → ch ≡ Leads p members → n ≡ coordinator p) → (disk : NodeRecord) → disk ≡ record_of x
+    → DoingAgrees h n (site (Up x) disk) s.moments (Saves ch) → DoingGone past (Up x) (Saves ch) → Goes h past n told f (Up x) last s.moments
+    → Done h past n told f top (Up (changed c n x ch)) (last_by_change last ch) (first_lines n ch ++ saved_lines c n x ch) (passing n (first_lines n ch ++ saved_lines c n x ch) s).moments
+saves_done h past c n told f top x ch last s fits id may at late others own disk same agrees gone k =
     let os : List Output = first_lines n ch ++ saved_lines c n x ch in
     let calm : AllCalm os = saved_calm c n x ch (at_plain x ch at) in
     let r : Scene = passing n os s in
     record {
       goes = λ differ.
-          let z : Now h n told f (Up x) last r.moments = passing_lasts (Goes h n told f (Up x) last) (goes_last h n told f (Up x) last) n os s calm k differ in
+          let z : Now h past n told f (Up x) last r.moments = passing_lasts (Goes h past n told f (Up x) last) (goes_last h past n told f (Up x) last) n os s calm k differ in
           record {
-            here = change_up h c f r.moments n told x ch fits id may at z.hand late (begun_in c n x ch s differ) z.here;
+            here = change_up h past c f r.moments n told x ch fits id may at z.hand (late, z.fresh) (begun_in c n x ch s differ) (enters h c n x disk ch s same others own agrees differ)
+                (λ d is. gone_at past x ch d is gone) z.here;
             hand = z.hand;
             lines = z.lines;
-            reached = change_reached h c n told f x ch last last r.moments may z;
+            reached = change_reached h past c n told f x ch last last r.moments may z;
+            fresh = change_fresh past c n told x ch may (change_new h past c n told f x ch last s differ k) z.fresh;
+            begun = z.begun;
           };
-      says = λ differ. calm_says h top r.moments os calm;
+      says = λ differ. calm_says h past n top r.moments os calm;
     }
-
--- ---- what nodes have installed
-
--- .. as the machine has it
-abbrev pub inst : Memberships → ℕ → ℕ
-inst M k = (M.node k).saved.installed
-
-pub tied_installed : (c : Cluster) (M : Memberships) (n : ℕ) (node : Node) (disk : NodeRecord) → NodeTied c M n disk node → inst M n ≡ disk.installed
-tied_installed c M n Down disk tied = ap (λ (r : Saved). r.installed) tied.0.saved
-tied_installed c M n (Up x) disk tied =
-    let sight : Sees M n disk (state_of x.seat) = sees c M n disk x.attempt x.seat tied.0 in
-    ap (λ (r : Saved). r.installed) sight.saved ∙ ap (λ (r : NodeRecord). r.installed) (sym sight.disk_so)
-
--- an attempt that has not installed yet has a number above what its coordinator has installed
-pub none_late : (c : Cluster) (M : Memberships) (n : ℕ) (told : Delivered) (disk : NodeRecord) (x : UpNode) (f : ℕ → ℕ) → At c M n told disk x → ((k : ℕ) → f k ≤ inst M k) → NoneLate f x
-unfolding epochs.coordinator
-none_late c M n told disk x f at low b is before late =
-    at_attempt c M n told disk x b ⊥ at is
-    (λ s shows co.
-    let q : ℕ = b.plan.epoch in
-    let own : coordinator q ≡ n = sym co.has.coordinator ∙ co.coordinator in
-    let seeks : (M.node n).seeking ≡ true = seeks_before (M.node n).seeking b.phase before co.seeks in
-    apart q (f (coordinator q)) (inst M n) (M.node n).promised (co.epoch ∙ (sym shows ∙ (at.holds.node n).seeking_session seeks)) late
-    (subst (λ k. f (coordinator q) ≤ inst M k) own (low (coordinator q))) ((at.holds.node n).seeking_installs seeks))
-  where
-    apart : (p a b d : ℕ) → p ≡ d → p ≤ a → a ≤ b → b < d → ⊥
-    apart p a b d e i j l = omega (arith, e, i, j, l)
-
--- what a node has installed its coordinator has installed, or something newer
-none_newer : (c : Cluster) (M : Memberships) (n : ℕ) (told : Delivered) (disk : NodeRecord) (x : UpNode) → At c M n told disk x → NoneNewer (inst M) x
-unfolding epochs.coordinator
-none_newer c M n told disk x at e some is =
-    let sight : Sees M n disk (state_of x.seat) = sees c M n disk x.attempt x.seat at.tied.0 in
-    let same : e ≡ inst M n = is ∙ sym (ap (λ (r : Saved). r.installed) sight.saved) in
-    subst (λ q. q ≤ inst M (coordinator q)) (sym same)
-    ((at.holds.epoch (inst M n)).counted_installed ((at.holds.node n).fits.counted (subst (λ q. 0 < q) same some)))
-
-abbrev NoneIn : (ℕ → ℕ) → (ℕ → ℕ) → Node → Type 0
-NoneIn f top Down = Unit {0}
-NoneIn f top (Up x) = NoneLate f x × NoneNewer top x
-
-none_in : (c : Cluster) (M : Memberships) (n : ℕ) (told : Delivered) (disk : NodeRecord) (node : Node) (f : ℕ → ℕ) → Holds (setting_of c) M → Known M told → NodeTied c M n disk node
-    → ((k : ℕ) → f k ≤ inst M k) → NoneIn f (inst M) node
-none_in c M n told disk Down f holds known tied low = tt
-none_in c M n told disk (Up x) f holds known tied low =
-    let at : At c M n told disk x = record { holds = holds; known = known; tied = tied } in
-    (none_late c M n told disk x f at low, none_newer c M n told disk x at)
 
 -- ---- each small step
 
-fresh_up : (h : Header) (c : Cluster) (ms : List Moment) (n : ℕ) (disk : NodeRecord) → NodeShown h ms n (effect c n (site Down disk) Comes_up).node
-fresh_up h c ms n disk = record { tasks = tt; attempt = tt }
+fresh_up : (h : Header) (past : Collected) (c : Cluster) (ms : List Moment) (n : ℕ) (disk : NodeRecord) → NodeShown h past ms n (effect c n (site Down disk) Comes_up).node
+fresh_up h past c ms n disk = record { tasks = tt; held = tt; seat = λ some ahead d is none. absurd (none_less some); attempt = tt; mine = tt }
+  where
+    none_less : 0 < 0 → ⊥
+    none_less i = omega (arith, i)
 
-pub doing_done : (h : Header) (c : Cluster) (n : ℕ) (told : Delivered) (f top : ℕ → ℕ) (g : Hand) (node : Node) (disk : NodeRecord) (d : Doing) (last : Last) (s : Scene) → All IsDevice c.attached
-    → OfHeader h c → May c n told (site node disk) d → AtDoing n told g (site node disk) d → DoingFits last (site node disk) d → DoingSo d → NoneIn f top node → Goes h n told f node last s.moments
-    → Done h n told f top (effect c n (site node disk) d).node (last_after last d) (gives c n (site node disk) d) (passing n (gives c n (site node disk) d) s).moments
-doing_done h c n told f top g (Up x) disk (Does a) last s fits id may at ends so free k = act_done h c n told f top g x a last s fits id may at ends so free.0 free.1 k
-doing_done h c n told f top g Down disk (Does a) last s fits id may at ends so free k = absurd may
-doing_done h c n told f top g (Up x) disk (Saves ch) last s fits id may at ends so free k = saves_done h c n told f top x ch last s fits id may at free.0 k
-doing_done h c n told f top g Down disk (Saves ch) last s fits id may at ends so free k = absurd may
-doing_done h c n told f top g (Up x) disk (Loses ch why) last s fits id may at ends so free k =
-    calm_done h n told f top (Up x) Down last None (first_lines n ch ++ gone_line n why) s (lost_calm n ch why (at_plain x ch at)) (λ ms z. tt) (λ ms z. tt) k
-doing_done h c n told f top g Down disk (Loses ch why) last s fits id may at ends so free k = absurd may
-doing_done h c n told f top g (Up x) disk (Forgets ch why) last s fits id may at ends so free k =
-    calm_done h n told f top (Up x) Down last None (first_lines n ch ++ gone_line n why) s (lost_calm n ch why (at_plain x ch at)) (λ ms z. tt) (λ ms z. tt) k
-doing_done h c n told f top g Down disk (Forgets ch why) last s fits id may at ends so free k = absurd may
-doing_done h c n told f top g Down disk Comes_up last s fits id may at ends so free k =
-    calm_done h n told f top Down (effect c n (site Down disk) Comes_up).node last None (gives c n (site Down disk) Comes_up) s (tt, tt) (λ ms z. fresh_up h c ms n disk) (λ ms z. tt) k
-doing_done h c n told f top g (Up x) disk Comes_up last s fits id may at ends so free k = absurd may
-doing_done h c n told f top g node disk (Goes_down why) last s fits id may at ends so free k =
-    calm_done h n told f top node Down last None (gone_line n why) s (tt, tt) (λ ms z. tt) (λ ms z. tt) k
+pub doing_done : (h : Header) (past : Collected) (c : Cluster) (n : ℕ) (told : Delivered) (f top : ℕ → ℕ) (g : Hand) (node : Node) (disk : NodeRecord) (d : Doing) (last : Last) (s : Scene) → All IsDevice c.attached
+    → OfHeader h c → May c n told (site node disk) d → AtDoing n told g (site node disk) d → DoingFits last (site node disk) d → DoingSo d → NoneIn n told f top disk node → DoingAgrees h n (site node disk) s.moments d → DoingGone past node d → Goes h past n told f node last s.moments
+    → Done h past n told f top (effect c n (site node disk) d).node (last_after last d) (gives c n (site node disk) d) (passing n (gives c n (site node disk) d) s).moments
+doing_done h past c n told f top g (Up x) disk (Does a) last s fits id may at ends so free agrees gone k = act_done h past c n told f top g x a last s fits id may at ends so free.late free.newer free.opens k
+doing_done h past c n told f top g Down disk (Does a) last s fits id may at ends so free agrees gone k = absurd may
+doing_done h past c n told f top g (Up x) disk (Saves ch) last s fits id may at ends so free agrees gone k =
+    saves_done h past c n told f top x ch last s fits id may at free.late (λ p is. free.others p (promise_asks c n told x ch p may is).0 (promise_asks c n told x ch p may is).1)
+    (λ p members is. lead_own c n told x ch p members may is) disk free.same agrees gone k
+doing_done h past c n told f top g Down disk (Saves ch) last s fits id may at ends so free agrees gone k = absurd may
+doing_done h past c n told f top g (Up x) disk (Loses ch why) last s fits id may at ends so free agrees gone k =
+    calm_done h past n told f top (Up x) Down last None (first_lines n ch ++ gone_line n why) s (lost_calm n ch why (at_plain x ch at)) (λ ms z. (tt, tt)) (λ ms z. tt) k
+doing_done h past c n told f top g Down disk (Loses ch why) last s fits id may at ends so free agrees gone k = absurd may
+doing_done h past c n told f top g (Up x) disk (Forgets ch why) last s fits id may at ends so free agrees gone k =
+    calm_done h past n told f top (Up x) Down last None (first_lines n ch ++ gone_line n why) s (lost_calm n ch why (at_plain x ch at)) (λ ms z. (tt, tt)) (λ ms z. tt) k
+doing_done h past c n told f top g Down disk (Forgets ch why) last s fits id may at ends so free agrees gone k = absurd may
+doing_done h past c n told f top g Down disk Comes_up last s fits id may at ends so free agrees gone k =
+    calm_done h past n told f top Down (effect c n (site Down disk) Comes_up).node last None (gives c n (site Down disk) Comes_up) s (tt, tt) (λ ms z. (fresh_up h past c ms n disk, none_fresh past)) (λ ms z. tt) k
+doing_done h past c n told f top g (Up x) disk Comes_up last s fits id may at ends so free agrees gone k = absurd may
+doing_done h past c n told f top g node disk (Goes_down why) last s fits id may at ends so free agrees gone k =
+    calm_done h past n told f top node Down last None (gone_line n why) s (tt, tt) (λ ms z. (tt, tt)) (λ ms z. tt) k
 
 -- ---- one after another
 
 -- what was said stays shown, whatever is told
-outs_pass : (h : Header) (top : ℕ → ℕ) (n : ℕ) (before os : List Output) (s : Scene) → OutsShown h top before s.moments → OutsShown h top before (passing n os s).moments
-outs_pass h top n before os s k = passing_all (OutsShown h top before) (λ x ms z. outs_last h top before x ms z) n os s k
+outs_pass : (h : Header) (past : Collected) (top : ℕ → ℕ) (n : ℕ) (before os : List Output) (s : Scene) → OutsShown h past n top before s.moments → OutsShown h past n top before (passing n os s).moments
+outs_pass h past top n before os s k = passing_all (OutsShown h past n top before) (λ x ms z. outs_last h past n top before x ms z) n os s k
 
-outs_grow : (h : Header) (f g : ℕ → ℕ) (ms : List Moment) (os : List Output) → ((k : ℕ) → f k ≤ g k) → AllByRecursion (OutShown h f ms) os → AllByRecursion (OutShown h g ms) os
-outs_grow h f g ms [] more k = tt
-outs_grow h f g ms (Tells e ∷ os) more k = (tt, outs_grow h f g ms os more k.1)
-outs_grow h f g ms (Sends to b ∷ os) more k = (says_grow h f g ms b more k.0, outs_grow h f g ms os more k.1)
+outs_grow : (h : Header) (past : Collected) (n : ℕ) (f g : ℕ → ℕ) (ms : List Moment) (os : List Output) → ((k : ℕ) → f k ≤ g k) → AllByRecursion (OutShown h past n f ms) os
+    → AllByRecursion (OutShown h past n g ms) os
+outs_grow h past n f g ms [] more k = tt
+outs_grow h past n f g ms (Tells e ∷ os) more k = (tt, outs_grow h past n f g ms os more k.1)
+outs_grow h past n f g ms (Sends to b ∷ os) more k = (says_grow h past past f g ms n b (λ e gone. gone) more k.0, outs_grow h past n f g ms os more k.1)
 
 -- these small steps are done, from a state of the machine to another
-pub record Comes (h : Header) (c : Cluster) (M : Memberships) (n : ℕ) (told : Delivered) (f : ℕ → ℕ) (x : Site) (ds : List Doing) (s : Scene) : Type 0 where
+pub record Comes (h : Header) (past : Collected) (c : Cluster) (M : Memberships) (n : ℕ) (told : Delivered) (f : ℕ → ℕ) (x : Site) (ds : List Doing) (s : Scene) : Type 0 where
   pub machine : Memberships
   pub grows : (k : ℕ) → inst M k ≤ inst machine k
   pub tied : SiteTied c machine n (after_all c n x ds)
   pub others : (k : ℕ) → k ≢ n → inst machine k ≡ inst M k
   pub last : Last
-  pub done : Done h n told f (inst machine) (after_all c n x ds).node last (given_all c n x ds) (passing n (given_all c n x ds) s).moments
+  pub done : Done h past n told f (inst machine) (after_all c n x ds).node last (given_all c n x ds) (passing n (given_all c n x ds) s).moments
 
 at_most : (a b d : ℕ) → a ≤ b → b ≤ d → a ≤ d
 at_most a b d i j = omega (arith, i, j)
@@ -190,9 +166,9 @@ at_most a b d i j = omega (arith, i, j)
 same_most : (a : ℕ) → a ≤ a
 same_most a = omega arith
 
-pub none_comes : (h : Header) (c : Cluster) (M : Memberships) (n : ℕ) (told : Delivered) (f : ℕ → ℕ) (x : Site) (last : Last) (s : Scene) → SiteTied c M n x → Goes h n told f x.node last s.moments
-    → Comes h c M n told f x [] s
-none_comes h c M n told f x last s tied k = record {
+pub none_comes : (h : Header) (past : Collected) (c : Cluster) (M : Memberships) (n : ℕ) (told : Delivered) (f : ℕ → ℕ) (x : Site) (last : Last) (s : Scene) → SiteTied c M n x → Goes h past n told f x.node last s.moments
+    → Comes h past c M n told f x [] s
+none_comes h past c M n told f x last s tied k = record {
   machine = M;
   grows = λ j. same_most (inst M j);
   tied = tied;
@@ -202,12 +178,12 @@ none_comes h c M n told f x last s tied k = record {
 }
 
 -- a small step, and what comes of it in the machine
-pub then_comes : (h : Header) (c : Cluster) (M : Memberships) (n : ℕ) (told : Delivered) (f : ℕ → ℕ) (x : Site) (d : Doing) (ds : List Doing) (s t : Scene)
-    → (o : GoesOn c M n (effect c n x d) (gives c n x d) (of_doing n d)) → (z : Comes h c o.machine n told f (effect c n x d) ds t)
-    → Done h n told f (inst z.machine) (after_all c n (effect c n x d) ds).node z.last (gives c n x d ++ given_all c n (effect c n x d) ds)
+pub then_comes : (h : Header) (past : Collected) (c : Cluster) (M : Memberships) (n : ℕ) (told : Delivered) (f : ℕ → ℕ) (x : Site) (d : Doing) (ds : List Doing) (s t : Scene)
+    → (o : GoesOn c M n (effect c n x d) (gives c n x d) (of_doing n d)) → (z : Comes h past c o.machine n told f (effect c n x d) ds t)
+    → Done h past n told f (inst z.machine) (after_all c n (effect c n x d) ds).node z.last (gives c n x d ++ given_all c n (effect c n x d) ds)
     (passing n (gives c n x d ++ given_all c n (effect c n x d) ds) s).moments
-    → Comes h c M n told f x (d ∷ ds) s
-then_comes h c M n told f x d ds s t o z done = record {
+    → Comes h past c M n told f x (d ∷ ds) s
+then_comes h past c M n told f x d ds s t o z done = record {
   machine = z.machine;
   grows = λ k. at_most (inst M k) (inst o.machine k) (inst z.machine k) (o.grows.node k).installed (z.grows k);
   tied = z.tied;
@@ -216,25 +192,25 @@ then_comes h c M n told f x d ds s t o z done = record {
   done = done;
 }
 
-pub all_done : (h : Header) (c : Cluster) (M : Memberships) (n : ℕ) (told : Delivered) (f : ℕ → ℕ) (g : Hand) (x : Site) (ds : List Doing) (last : Last) (s : Scene) → All IsDevice c.attached
+pub all_done : (h : Header) (past : Collected) (c : Cluster) (M : Memberships) (n : ℕ) (told : Delivered) (f : ℕ → ℕ) (g : Hand) (x : Site) (ds : List Doing) (last : Last) (s : Scene) → All IsDevice c.attached
     → OfHeader h c → Holds (setting_of c) M → Known M told → SiteTied c M n x → ((k : ℕ) → f k ≤ inst M k)
-    → MayAll c n told x ds → AtAll c n told g x ds → AllFit c n last x ds → AllSo ds → Goes h n told f x.node last s.moments → Comes h c M n told f x ds s
-all_done h c M n told f g x [] last s fits id holds known tied low may at ends so k = none_comes h c M n told f x last s tied k
-all_done h c M n told f g x (d ∷ ds) last s fits id holds known tied low may at ends so k =
+    → MayAll c n told x ds → AtAll c n told g x ds → AllFit c n last x ds → AllSo ds → AllAgree h c n x ds s → AllGone past c n x ds → Goes h past n told f x.node last s.moments → Comes h past c M n told f x ds s
+all_done h past c M n told f g x [] last s fits id holds known tied low may at ends so agrees gone k = none_comes h past c M n told f x last s tied k
+all_done h past c M n told f g x (d ∷ ds) last s fits id holds known tied low may at ends so agrees gone k =
     let first : List Output = gives c n x d in
     let rest : List Output = given_all c n (effect c n x d) ds in
     let o : GoesOn c M n (effect c n x d) first (of_doing n d) = does_one c M n told x d fits holds known tied may.0 in
-    let one : Done h n told f (inst M) (effect c n x d).node (last_after last d) first (passing n first s).moments =
-    doing_done h c n told f (inst M) g x.node x.disk d last s fits id may.0 at.0 ends.0 so.0 (none_in c M n told x.disk x.node f holds known tied low) k in
-    let all : Comes h c o.machine n told f (effect c n x d) ds (passing n first s) =
-    all_done h c o.machine n told f (hand_after g d) (effect c n x d) ds (last_after last d) (passing n first s) fits id o.holds (known_stays c M o.machine told holds o.grows known) o.tied
-    (λ j. at_most (f j) (inst M j) (inst o.machine j) (low j) (o.grows.node j).installed) may.1 at.1 ends.1 so.1 one.goes in
-    then_comes h c M n told f x d ds s (passing n first s) o all
-    (subst (λ (t : Scene). Done h n told f (inst all.machine) (after_all c n (effect c n x d) ds).node all.last (first ++ rest) t.moments) (sym (passing_append n first rest s))
+    let one : Done h past n told f (inst M) (effect c n x d).node (last_after last d) first (passing n first s).moments =
+    doing_done h past c n told f (inst M) g x.node x.disk d last s fits id may.0 at.0 ends.0 so.0 (none_in c M n told x.disk x.node f holds known tied low) agrees.0 gone.0 k in
+    let all : Comes h past c o.machine n told f (effect c n x d) ds (passing n first s) =
+    all_done h past c o.machine n told f (hand_after g d) (effect c n x d) ds (last_after last d) (passing n first s) fits id o.holds (known_stays c M o.machine told holds o.grows known) o.tied
+    (λ j. at_most (f j) (inst M j) (inst o.machine j) (low j) (o.grows.node j).installed) may.1 at.1 ends.1 so.1 agrees.1 gone.1 one.goes in
+    then_comes h past c M n told f x d ds s (passing n first s) o all
+    (subst (λ (t : Scene). Done h past n told f (inst all.machine) (after_all c n (effect c n x d) ds).node all.last (first ++ rest) t.moments) (sym (passing_append n first rest s))
     (record {
       goes = all.done.goes;
-      says = λ differ. both (OutShown h (inst all.machine) (passing n rest (passing n first s)).moments) first rest
-          (outs_grow h (inst M) (inst all.machine) (passing n rest (passing n first s)).moments first
+      says = λ differ. both (OutShown h past n (inst all.machine) (passing n rest (passing n first s)).moments) first rest
+          (outs_grow h past n (inst M) (inst all.machine) (passing n rest (passing n first s)).moments first
           (λ j. at_most (inst M j) (inst o.machine j) (inst all.machine j) (o.grows.node j).installed (all.grows j))
-          (outs_pass h (inst M) n first rest (passing n first s) one.says differ)) (all.done.says differ);
+          (outs_pass h past (inst M) n first rest (passing n first s) one.says differ)) (all.done.says differ);
     }))

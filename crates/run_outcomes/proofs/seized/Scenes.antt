@@ -37,7 +37,7 @@ use Rattle.run_outcomes.specs.tasks.Said.{AllSaid, installed_in}
 use Rattle.run_outcomes.proofs.phases.Runs.{Knows, knows_at}
 use Rattle.run_outcomes.proofs.phases.Taken.{Ways, way_of}
 use Rattle.run_outcomes.proofs.results.Pathed.{whole_at}
-use Rattle.run_outcomes.proofs.results.Walk.{inst, none_late, tied_installed}
+use Rattle.run_outcomes.proofs.results.Freed.{inst, none_late, tied_installed}
 use Rattle.run_outcomes.proofs.said.Runs.{run_said}
 use Rattle.run_outcomes.proofs.seized.Lines.{Follows, IsSame, heard_by}
 use Rattle.run_outcomes.proofs.seized.Taken.{answered_same}
