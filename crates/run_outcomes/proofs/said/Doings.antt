@@ -21,7 +21,7 @@ use Rattle.run_history.proofs.Changes.{At}
 use Rattle.wire.specs.declared.message.Body.{Body}
 use Rattle.wire.specs.declared.message.Body.TheVariants as body
 use Rattle.run_outcomes.specs.tasks.Said.{NodeSaid, SiteSaid, Tale}
-use Rattle.run_outcomes.proofs.results.Walk.{inst}
+use Rattle.run_outcomes.proofs.results.Freed.{inst}
 use Rattle.run_outcomes.proofs.said.Silent.{ActTells, AreSilent, DoingTells, IsSeized, WriteTells, lost_silent, saved_silent}
 use Rattle.run_outcomes.proofs.said.Ups.{act_said, change_said}
 use Rattle.run_outcomes.proofs.said.Tales.{Or, Stands, said_to, seized_said, silent_said, stands}

@@ -54,7 +54,7 @@ use Rattle.seize.specs.declared.kind.JoinResult.TheVariants as join
 use Rattle.wire.specs.Spelling.{IsNode}
 use Rattle.wire.specs.declared.message.Body.{Body}
 use Rattle.wire.specs.declared.message.Body.TheVariants as body
-use Rattle.run_outcomes.proofs.results.Walk.{inst, tied_installed}
+use Rattle.run_outcomes.proofs.results.Freed.{inst, tied_installed}
 use Rattle.run_outcomes.specs.tasks.Said.{AllSaid, SiteSaid, Tale, installed_in, tale_of}
 use Rattle.run_outcomes.proofs.said.Doings.{doing_said}
 use Rattle.run_outcomes.proofs.said.Tales.{Or, first_gives, gives_so, said_grows}

@@ -24,7 +24,7 @@ use Rattle.run_history.specs.Guards.{HasEnded, TellsEnd}
 use Rattle.wire.specs.declared.message.Body.{Body}
 use Rattle.wire.specs.declared.message.Body.TheVariants as body
 use Rattle.run_outcomes.specs.tasks.Said.{AreSingle, NodeSaid, SiteSaid, Tale, tale_of}
-use Rattle.run_outcomes.proofs.results.Walk.{inst}
+use Rattle.run_outcomes.proofs.results.Freed.{inst}
 use Rattle.run_outcomes.proofs.said.Ended.{ended_once}
 use Rattle.run_outcomes.proofs.said.Silent.{AreSilent, IsSeized}
 
