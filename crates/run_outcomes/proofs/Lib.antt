@@ -11,3 +11,4 @@ pub mod own_tasks
 pub mod said
 pub mod seized
 pub mod accounts
+pub mod shown

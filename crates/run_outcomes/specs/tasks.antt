@@ -7,3 +7,4 @@ pub mod AsksCourses
 pub mod Own
 pub mod Said
 pub mod Answers
+pub mod Shown

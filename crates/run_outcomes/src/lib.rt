@@ -13,7 +13,7 @@
 //! - `saves`, `stops`: where nodes stop, only in a save that the rules let them make there.
 //! - `phases`: how far the attempt of a coordinator is, as the lines tell it.
 //! - `tasks`: the tasks of coordinators at shared devices, and with them the device queue of each node. Whom an attempt asks to seize quorum devices, and what
-//!   these answer, is told by its lines; the tasks that a coordinator has of its own are the seizings that its attempt asked it for.
+//!   these answer, is told by its lines, and which devices are valid to them by their Promises; the tasks that a coordinator has of its own are the seizings that its attempt asked it for.
 //!
 //! Each function here is a law. It has no body, and its contract is proved of every header, every list of lines, everything that happens and
 //! all agents.
@@ -27,7 +27,7 @@ ghost use Rattle.run_outcomes.specs.panics.Laws.{ExclusionsAreToldInEachRun};
 ghost use Rattle.run_outcomes.specs.saves.Laws.{LetterStopsOfEachRun};
 ghost use Rattle.run_outcomes.specs.stops.Laws.{TickStopsOfEachRun};
 ghost use Rattle.run_outcomes.specs.phases.Laws.{CollectorsHaveNothingDue, NoneIsOver, PromisesAreTold, SeizingsAreTold, VotesAreTold};
-ghost use Rattle.run_outcomes.specs.tasks.Laws.{AsksAreTold, OwnTasksAreAsked, SeizedsAreTold};
+ghost use Rattle.run_outcomes.specs.tasks.Laws.{AskedMaySeize, AsksAreTold, OwnTasksAreAsked, SeizedsAreTold, ShownValid, ShowsAreTold};
 
 /// An attempt ends for a foreign member once all have promised, and names the least of its members that is configured neither in the newest
 /// committed updates in hand nor with the pending one.
@@ -141,4 +141,21 @@ pub fn own_tasks_are_asked_in_each_run()
 /// member sent of it and which came to the coordinator since the attempt began; it has none where none came. No packet is foreign to its receiver there.
 pub fn seizeds_are_told_in_each_run()
     ensures { SeizedsAreTold }
+{}
+
+/// Before an attempt installs, it has a device as shown valid by a member whose Promise it took exactly where a Promise of its epoch that shows the device as
+/// valid was delivered to its coordinator since it began.
+pub fn shows_are_told_in_each_run()
+    ensures { ShowsAreTold }
+{}
+
+/// A node that seizes a device at a request of its attempt acts for that attempt, and was asked to seize it in this session.
+pub fn asked_may_seize_in_each_run()
+    ensures { AskedMaySeize }
+{}
+
+/// In a session of another's that a node has not installed, its last Promise shows the devices as valid that are valid by its record, but for those that it
+/// is about to seize as devices without votes. Nodes of the header alone boot, and a packet number is left for the Promise.
+pub fn last_promises_show_what_is_valid_in_each_run()
+    ensures { ShownValid }
 {}

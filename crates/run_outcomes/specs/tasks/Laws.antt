@@ -4,7 +4,7 @@ use Rattle.std.specs.List.{AllByRecursion, find, list_any}
 use Rattle.std.specs.Option.{option_and_then}
 use Rattle.attempt_laws.specs.Asking.{entry_of}
 use Rattle.attempt_laws.specs.Staying.{IsBefore}
-use Rattle.cl_base.specs.Limits.{most_devices}
+use Rattle.cl_base.specs.Limits.{most_devices, most_nodes}
 use Rattle.cl_base.specs.Seizings.{SeizeResult}
 use Rattle.cl_base.specs.Sets.{has}
 use Rattle.cl_base.specs.declared.header.Header.{Header}
@@ -15,6 +15,8 @@ use Rattle.cmm_attempt.specs.declared.phase.Phase.TheVariants.{Collecting}
 use Rattle.cmm_attempt.specs.declared.seizing.Seizing.{Seizing}
 use Rattle.device_queue.specs.Tasks.{is_queued, result_in}
 use Rattle.device_queue.specs.declared.task.Task.{Task}
+use Rattle.device_queue.specs.declared.task.Work.{Work}
+use Rattle.device_queue.specs.declared.task.Work.TheVariants.{Joining as Joins, Seizing as Seizes}
 use Rattle.history.specs.Letters.{Letter, says, sends}
 use Rattle.history.specs.Moment.{Moment}
 use Rattle.history.specs.Names as name
@@ -34,6 +36,7 @@ use Rattle.run_history.specs.Scenes.{Scene, first_scene}
 use Rattle.run_history.specs.Shapes.{Due, ShapedFrom, nothing}
 use Rattle.run_history.specs.WorldLines.{AreDisks, IsDevice}
 use Rattle.run_outcomes.specs.phases.Laws.{HasAttempt, is_other, is_seizing}
+use Rattle.run_packets.specs.native.Laws.{BootsInHeader}
 use Rattle.run_packets.specs.views.Laws.{NoneForeign}
 use Rattle.seize.specs.declared.kind.SeizeKind.{SeizeKind}
 use Rattle.seize.specs.declared.kind.SeizeKind.TheVariants.{Plain, Vote}
@@ -98,17 +101,33 @@ SeizedsAreTold = OfEachInHand SeizedsTold
 abbrev pub shows_valid : ℕ → List Moment → ℕ → ℕ → Bool
 shows_valid e moments d m = list_any (λ (l : Letter). (l.from == m) && has (told.valid_in (says l.bytes)) d) (promises e moments)
 
--- it does exactly where the Promise that the attempt took shows it
+-- before the attempt installs, it does exactly where the Promise that the attempt took shows it
 abbrev pub ShowsTold : AttemptState → List Moment → Type 0
-ShowsTold a moments = (d m : ℕ) → is_other a moments m ≡ true → shows_valid a.plan.epoch moments d m ≡ holds_valid a.promises d m
+ShowsTold a moments = IsBefore a.phase → (d m : ℕ) → 1 ≤ d → d ≤ 32 → is_other a moments m ≡ true → shows_valid a.plan.epoch moments d m ≡ holds_valid a.promises d m
 
 abbrev pub ShowsAreTold : Type 0
 ShowsAreTold = OfEachInHand ShowsTold
 
--- in a session of another's that a node has not installed, its last Promise shows the devices that its record holds valid
+abbrev pub is_plain : SeizeKind → Bool
+is_plain Plain = true
+is_plain Vote = false
+
+abbrev pub is_plain_in : Work → Bool
+is_plain_in (Seizes s) = is_plain s.kind
+is_plain_in (Joins j) = false
+
+-- one of the tasks is to seize the device as one without votes: before it registers there the record says that it is not valid
+abbrev pub seizes_plainly : ℕ → List Task → Bool
+seizes_plainly d tasks = list_any (λ (t : Task). (t.device == d) && is_plain_in t.work) tasks
+
+-- In a session of another's that a node has not installed, its last Promise shows the devices that its record holds valid, but for those that it seizes without
+-- votes. Nodes of the header alone boot, and a packet number is left: else a Promise may not be sent.
 abbrev pub ShownValid : Type 0
-ShownValid = OfEachPoint (λ h s. (n : ℕ) (x : UpNode) → s.nodes.node n ≡ Up x → 0 < session_of x → installed_of x ≢ session_of x → session_of x % 64 ≢ n
-    → (d : ℕ) → IsDevice h d → has (told.shown_valid n s.moments) d ≡ has (record_of x).valid d)
+ShownValid = (h : Header) (cells : ℕ) (hs : List Happening) → h.nodes ≤ most_nodes → length h.devices ≤ most_devices → h.cluster < 2 ^ 32
+    → MayAllHappen (first_cluster h) (first_scene h cells) hs → AllByRecursion (BootsInHeader h) hs
+    → nat_lt (all_happened (first_cluster h) (first_scene h cells) hs).links.next (2 ^ 63) ≡ true
+    → (n : ℕ) (x : UpNode) → (all_happened (first_cluster h) (first_scene h cells) hs).nodes.node n ≡ Up x → 0 < session_of x → installed_of x ≢ session_of x → session_of x % 64 ≢ n
+    → (d : ℕ) → IsDevice h d → seizes_plainly d x.tasks ≡ false → has (told.shown_valid n (all_happened (first_cluster h) (first_scene h cells) hs).moments) d ≡ has (record_of x).valid d
 
 -- a request to seize a quorum device, to a node in the session of the attempt that has not installed it: the device is valid to the node
 abbrev pub MaySeize : Node → Body → Type 0
