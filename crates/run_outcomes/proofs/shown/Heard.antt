@@ -99,7 +99,7 @@ hand_body : (ms : List Moment) (n from : ℕ) (m : Message) → HandHeard ms n (
 hand_body ms n from m h = h
 
 takes_heard : (c : Cluster) (told : Delivered) (ms : List Moment) (n : ℕ) (a : AttemptState) (k : Call) → coordinator a.plan.epoch ≡ n → HandHeard ms n told → MayCall c told a k → Taken (HeardSo ms n a.plan.epoch) a k
-takes_heard c told ms n a k own hand may from m p is of promised =
+takes_heard c told ms n a k own hand may from m p is at of promised =
     body_taken ms n a.plan.epoch from m p m.body own (hand_body ms n from m (subst (HandHeard ms n) (subst (MayCall c told a) is may).0 hand)) of promised
 
 call_heard : (c : Cluster) (told : Delivered) (ms : List Moment) (n : ℕ) (a : AttemptState) (k : Call) → HandHeard ms n told → MayCall c told a k → Heard ms n a → Heard ms n (turn a k).after
