@@ -6,8 +6,8 @@ use Rattle.attempt_laws.proofs.Walk.{IsSeizing, Walk, walks, walks_begun}
 use Rattle.cl_base.specs.Seizings.{SeizeResult}
 use Rattle.cl_base.specs.Sets.{has, set_with}
 use Rattle.cmm_attempt.proofs.Basics.{false_true, if_either, none_some, same_some}
-use Rattle.cmm_attempt.specs.Attempts.{AttemptState, Turn, asked_next, beginning, first_state, installing, later, plain_devices, promises_of}
-use Rattle.cmm_attempt.specs.Calls.{Call, IsReached, May, Run, Take, Tick, With_votes, turn}
+use Rattle.cmm_attempt.specs.Attempts.{AttemptState, Turn, asked_next, beginning, first_state, installing, later, promises_of}
+use Rattle.cmm_attempt.specs.Calls.{Call, IsReached, May, Run, Tick, With_votes, turn}
 use Rattle.cmm_attempt.specs.Plans.{is_reachable}
 use Rattle.cmm_attempt.specs.Promises.{promised_by, shown_by}
 use Rattle.cmm_attempt.specs.Seizings.{all_settled, is_seized, plain_entry, plain_new, with_next, with_result}
