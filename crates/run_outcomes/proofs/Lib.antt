@@ -12,3 +12,4 @@ pub mod said
 pub mod seized
 pub mod accounts
 pub mod shown
+pub mod told_tasks

@@ -8,3 +8,8 @@ pub mod Own
 pub mod Said
 pub mod Answers
 pub mod Shown
+pub mod Entries
+pub mod OwnTasks
+pub mod Quiet
+pub mod Showing
+pub mod Left

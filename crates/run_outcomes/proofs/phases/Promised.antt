@@ -140,15 +140,16 @@ all_with test c (n ∷ ns) own h = by_test (not (n == c)) refl (λ rest. all_wit
 
 -- ---- what is known of an attempt
 
-record Facts (ms : List Moment) (n : ℕ) (a : AttemptState) : Type 0 where
-  own : coordinator a.plan.epoch ≡ n
-  coordinates : a.plan.coordinator ≡ n
-  reached : Calls_reached a
-  has : HasCoordinator a
-  nodes : nodes_of (members_of a.plan.epoch ms) ≡ a.plan.nodes
-  heard : All (λ p. HeardFrom ms n a.plan.epoch p.shown.summary.node) a.promises
-  takes : Takes ms a
-  own_promise : HasOwn a
+pub record Facts (ms : List Moment) (n : ℕ) (a : AttemptState) : Type 0 where
+  pub own : coordinator a.plan.epoch ≡ n
+  pub coordinates : a.plan.coordinator ≡ n
+  pub reached : Calls_reached a
+  pub has : HasCoordinator a
+  pub members : members_of a.plan.epoch ms ≡ a.plan.members
+  pub nodes : nodes_of (members_of a.plan.epoch ms) ≡ a.plan.nodes
+  pub heard : All (λ p. HeardFrom ms n a.plan.epoch p.shown.summary.node) a.promises
+  pub takes : Takes ms a
+  pub own_promise : HasOwn a
 
 heard_promised : (ms : List Moment) (n e k c : ℕ) → coordinator e ≡ n → c ≡ n → not (k == c) ≡ true → HeardFrom ms n e k → told.has_promised e ms k ≡ true
 heard_promised ms n e k c own same other (inl here) = absurd (is_not k c other (here ∙ sym same))
@@ -227,13 +228,15 @@ tied_by : (c : Cluster) (M : Memberships) (n : ℕ) (disk : NodeRecord) (a : Att
 tied_by c M n disk a o (Forming s) tied has = record { state = s; coordinates = subst (AttemptTied c M n s) has tied.2 }
 tied_by c M n disk a o (Member s) tied has = absurd (none_some a (sym tied.2 ∙ has))
 
-facts : (h : Header) (cells : ℕ) (s : Scene) → IsSmall h → IsReached h cells s → (n : ℕ) (a : AttemptState) → HasAttempt s n a → (Takes s.moments a) → HasOwn a → Facts s.moments n a
+-- what is known of the attempt that a node has at a point of a run
+pub facts : (h : Header) (cells : ℕ) (s : Scene) → IsSmall h → IsReached h cells s → (n : ℕ) (a : AttemptState) → HasAttempt s n a → (Takes s.moments a) → HasOwn a → Facts s.moments n a
 facts h cells s size r n a at takes own_promise =
     record {
       own = here.own;
       coordinates = tied.coordinates.coordinator;
       reached = tied.coordinates.reached;
       has = subst (λ ns. list_any (λ k. k == a.plan.coordinator) ns ≡ true) (sym machine.nodes) (is_among a.plan.members 32 a.plan.coordinator ∙ (sym (machine.members a.plan.coordinator) ∙ (ap (M.epoch a.plan.epoch).members machine.coordinator ∙ (k.stage.holds.epoch a.plan.epoch).tried_member machine.tried)));
+      members = note.members;
       nodes = ap nodes_of note.members ∙ sym tied.coordinates.has.nodes;
       heard = here.heard;
       takes = takes;
