@@ -21,7 +21,7 @@ use Rattle.history.specs.Records.{NodeRecord}
 use Rattle.history.specs.Setting.{Setting, all_to, nodes_of, paths_of}
 use Rattle.history.specs.Validated.{is_valid, validity}
 use Rattle.run_outcomes.specs.tasks.Entries.{AreVotes, LedBy, PlainSo, VoteSo, devices_in, has_votes, is_left}
-use Rattle.run_outcomes.specs.tasks.OwnTasks.{Shows}
+use Rattle.run_outcomes.specs.tasks.OwnTasks.{PathsSo, Shows}
 
 -- ---- lists
 
@@ -184,13 +184,13 @@ quorum_picked S plan promises both r ms vs z h =
     G : AttachedDevice → Bool
     G a = may_seize promises a c
 
-    each : (xs : List AttachedDevice) → AllByRecursion (λ (a : AttachedDevice). a.nodes ≡ paths_of S.header a.device) xs
+    each : (xs : List AttachedDevice) → AllByRecursion (PathsSo S) xs
         → AllByRecursion (λ (a : AttachedDevice). is_quorum both a.device ≡ true → has a.nodes c ≡ true → is_valid (validity S.header c a.device ms) ≡ holds_valid promises a.device c) xs
         → AllByRecursion (λ (a : AttachedDevice). P a.device ≡ (has_votes plan (Some both) a && G a)) xs
     each [] paths valid = tt
     each (a ∷ xs) paths valid = (
       own_one (told.is_voting S r a.device) (is_quorum both a.device) (has a.nodes c) (has (paths_of S.header a.device) c) (is_valid (validity S.header c a.device ms))
-          (holds_valid promises a.device c) (is_reachable plan a) (z.voting a.device) (ap (λ set. has set c) paths.0) (reach_own plan z.led a) valid.0,
+          (holds_valid promises a.device c) (is_reachable plan a) (z.voting a.device) (ap (λ set. has set c) paths.0.0) (reach_own plan z.led a) valid.0,
       each xs paths.1 valid.1,
     )
 
@@ -234,13 +234,13 @@ plain_picked S plan promises both r ms vs ps z h devices all =
     G : AttachedDevice → Bool
     G a = has a.nodes c
 
-    each : (xs : List AttachedDevice) → AllByRecursion (λ (a : AttachedDevice). a.nodes ≡ paths_of S.header a.device) xs
+    each : (xs : List AttachedDevice) → AllByRecursion (PathsSo S) xs
         → AllByRecursion (λ (a : AttachedDevice). is_seized vs a.device ≡ has_votes plan (Some both) a) xs
         → AllByRecursion (λ (a : AttachedDevice). P a.device ≡ (is_left plan vs a && G a)) xs
     each [] paths seized = tt
     each (a ∷ xs) paths seized = (
       plain_one (told.is_voting S r a.device) (is_quorum both a.device) (has a.nodes c) (has (paths_of S.header a.device) c) (is_seized vs a.device) (is_reachable plan a)
-          (z.voting a.device) (ap (λ set. has set c) paths.0) seized.0 (reach_own plan z.led a),
+          (z.voting a.device) (ap (λ set. has set c) paths.0.0) seized.0 (reach_own plan z.led a),
       each xs paths.1 seized.1,
     )
 
@@ -267,12 +267,12 @@ quorum_settled S plan promises both r ms tasks vs z h settled =
     P : ℕ → Bool
     P d = not (told.is_voting S r d && told.has_path S (members_of e ms) d) || Q d
 
-    each : (xs : List AttachedDevice) → AllByRecursion (λ (a : AttachedDevice). a.nodes ≡ paths_of S.header a.device) xs
+    each : (xs : List AttachedDevice) → AllByRecursion (PathsSo S) xs
         → AllByRecursion (λ (a : AttachedDevice). P a.device ≡ (not (has_votes plan (Some both) a) || Q a.device)) xs
     each [] paths = tt
     each (a ∷ xs) paths = (
       ap (λ b. not (b && told.has_path S (members_of e ms) a.device) || Q a.device) (z.voting a.device)
           ∙ ap (λ b. not (is_quorum both a.device && b) || Q a.device)
-          (ap (λ set. list_any (has set) (nodes_of (members_of e ms))) (sym paths.0) ∙ ap (λ ns. list_any (has a.nodes) ns) z.members),
+          (ap (λ set. list_any (has set) (nodes_of (members_of e ms))) (sym paths.0.0) ∙ ap (λ ns. list_any (has a.nodes) ns) z.members),
       each xs paths.1,
     )

@@ -2,7 +2,7 @@
 use Rattle.std.specs.Prelude.{ℕ, ◌≡◌, ◌<◌, ◌≤◌, ◌^◌, ◌==◌, ◌&&◌, ◌||◌, not, Bool, true, false, List, [], ◌∷◌, ◌++◌, find, length, Option, None, Some, IfSome, is_some, option_map}
 use Rattle.std.specs.List.{AllByRecursion, list_all, list_any}
 use Rattle.std.specs.Option.{option_and_then}
-use Rattle.std.proofs.Common.{refl, sym, ap, subst, ◌∙◌}
+use Rattle.std.proofs.Common.{arith, refl, sym, ap, subst, ◌∙◌}
 use Rattle.cl_base.specs.Limits.{most_devices}
 use Rattle.cl_base.specs.Sets.{has}
 use Rattle.cl_base.specs.declared.header.Header.{Header}
@@ -15,6 +15,7 @@ use Rattle.cmm_attempt.specs.declared.counting.BothVotes.{BothVotes}
 use Rattle.cmm_attempt.specs.declared.phase.Phase.{Phase}
 use Rattle.cmm_attempt.specs.declared.phase.Phase.TheVariants.{Choosing, Collecting, Installing, Over, SeizingOthers, SeizingVotes}
 use Rattle.attempt_laws.specs.Asking.{numbers_of}
+use Rattle.attempt_laws.specs.Staying.{IsBefore}
 use Rattle.cmm_attempt.specs.Calls.{IsReached}
 use Rattle.history.specs.Contact.{others}
 use Rattle.history.specs.Letters.{Letter, says}
@@ -40,7 +41,7 @@ use Rattle.run_outcomes.specs.phases.Laws.{CountsFor, HasAttempt, NewestCounts, 
 use Rattle.run_outcomes.specs.saves.Kept.{IsAt}
 use Rattle.run_outcomes.specs.tasks.Entries.{LedBy}
 use Rattle.run_outcomes.specs.tasks.Laws.{OwnSo, OwnTasksAreAsked, ShowsAreTold}
-use Rattle.run_outcomes.specs.tasks.OwnTasks.{Shows}
+use Rattle.run_outcomes.specs.tasks.OwnTasks.{PathsSo, Shows}
 use Rattle.run_outcomes.specs.tasks.Quiet.{AreQuiet}
 use Rattle.run_outcomes.specs.tasks.Showing.{OwnIsShown}
 use Rattle.run_outcomes.proofs.told_tasks.Best.{Newest, newest_found}
@@ -156,6 +157,26 @@ not_installing Choosing is = refl
 not_installing Installing is = absurd (false_true is)
 not_installing Over is = refl
 
+-- an attempt that seizes devices has not installed
+seizing_before : (p : Phase) → is_seizing p ≡ true → IsBefore p
+seizing_before Collecting is = tt
+seizing_before Choosing is = tt
+seizing_before SeizingVotes is = tt
+seizing_before SeizingOthers is = tt
+seizing_before Installing is = absurd (false_true is)
+seizing_before Over is = absurd (false_true is)
+
+all_paths : (h : Header) → length h.devices ≤ most_devices → AllByRecursion (PathsSo (setting_of h)) (attached_from 1 h.devices)
+all_paths h few = both_of (attached_from 1 h.devices) (paths_so h) (devices_so h)
+  where
+    within : (a b : ℕ) → a ≤ b → b ≤ 16 → a ≤ 32
+    within a b i j = omega (arith, i, j)
+
+    both_of : (xs : List AttachedDevice) → AllByRecursion (λ (a : AttachedDevice). a.nodes ≡ paths_of h a.device) xs → AllByRecursion (λ (a : AttachedDevice). IsDevice h a.device) xs
+        → AllByRecursion (PathsSo (setting_of h)) xs
+    both_of [] k l = tt
+    both_of (a ∷ xs) k l = ((k.0, l.0.0, within a.device (length h.devices) l.0.1 few), both_of xs k.1 l.1)
+
 pub shown_at : OwnTasksAreAsked → ShowsAreTold → OwnIsShown → (h : Header) (cells : ℕ) (hs : List Happening) (last : Due) → length h.devices ≤ most_devices → h.cluster < 2 ^ 32 → AreDisks h
     → MayAllHappen (first_cluster h) (first_scene h cells) hs → ShapedFrom (first_cluster h) (first_scene h cells) nothing hs last
     → NoneForeign (first_cluster h) (first_scene h cells) hs → (n : ℕ) (b : AttemptState)
@@ -264,14 +285,14 @@ shown_at own shown mine h cells hs last few small disks may shaped native n b at
     shows = record {
       led = led;
       devices = ap numbers_of attached ∙ numbers_so h.devices;
-      paths = subst (AllByRecursion (λ (a : AttachedDevice). a.nodes ≡ paths_of h a.device)) (sym attached) (paths_so h);
+      paths = subst (AllByRecursion (PathsSo (setting_of h))) (sym attached) (all_paths h few);
       own = known.own ∙ sym known.coordinates;
       members = ap nodes_of members ∙ known.nodes;
       cluster = planned.1;
       voting = for_it.devices;
-      shown = λ d m other.
+      shown = λ d m low high other.
           ap (list_any (λ (z : Letter). (z.from == m) && has (told.valid_in (says z.bytes)) d)) (sym (same_promises n e marked newer known.own quiet) ∙ ap (promises e) whole)
-          ∙ shown h cells hs last few small disks may shaped native n b at d m (subst (λ ns. list_any (λ k. k == m) ns ≡ true) (sym others_here) other);
+          ∙ shown h cells hs last few small disks may shaped native n b at (seizing_before b.phase seizing) d m low high (subst (λ ns. list_any (λ k. k == m) ns ≡ true) (sym others_here) other);
       valid =
           subst
           (AllByRecursion (λ (a : AttachedDevice). is_quorum counts.both a.device ≡ true → has a.nodes b.plan.coordinator ≡ true

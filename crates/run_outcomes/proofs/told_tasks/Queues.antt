@@ -155,7 +155,7 @@ same_none xs us one other =
 -- ---- a node that leads
 
 pub queues_from : OwnTasksAreAsked → ShowsAreTold → SeizedsAreTold → OwnIsShown → EachStepLeadsOn → CollectorsHaveNone → RestedHave → OthersHave → QueuesAreTold
-queues_from own shown answers mine led none rested others h cells hs last few small disks may shaped native n closed = by_node (s.nodes.node n) refl
+queues_from own shown answers mine led none rested others h cells hs last few small disks may shaped native left n closed = by_node (s.nodes.node n) refl
   where
     S : Setting
     S = setting_of h

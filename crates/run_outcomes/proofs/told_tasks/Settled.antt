@@ -21,7 +21,7 @@ use Rattle.history.specs.Queue as told
 use Rattle.history.specs.Records.{NodeRecord}
 use Rattle.history.specs.Setting.{Setting, coordinator, nodes_of, paths_of}
 use Rattle.run_outcomes.specs.tasks.Entries.{AreVotes, LedBy, VoteSo, devices_in, has_votes}
-use Rattle.run_outcomes.specs.tasks.OwnTasks.{AskedAs, IsShown, LastIs, Shows, was_asked}
+use Rattle.run_outcomes.specs.tasks.OwnTasks.{AskedAs, IsShown, LastIs, PathsSo, Shows, was_asked}
 use Rattle.run_outcomes.proofs.told_tasks.Lists.{find_any}
 
 -- ---- the other members
@@ -89,14 +89,14 @@ itself_not m c l = grind arith
 
 -- whom `history` has as able to seize it
 may_so : (S : Setting) (plan : Plan) (promises : List Promised) (both : BothVotes) (r : NodeRecord) (ms : List Moment) (z : Shows S plan promises both r ms) (e : Seizing)
-    → e.attached.nodes ≡ paths_of S.header e.attached.device → (m : ℕ) → list_any (λ k. k == m) z.led.others ≡ true
+    → PathsSo S e.attached → (m : ℕ) → list_any (λ k. k == m) z.led.others ≡ true
     → told.may_seize S plan.epoch e.attached.device ms m ≡ may_seize promises e.attached m
 may_so S plan promises both r ms z e paths m other =
-    ap (λ b. has (paths_of S.header e.attached.device) m && b) (z.shown e.attached.device m other)
-    ∙ ap (λ set. has set m && holds_valid promises e.attached.device m) (sym paths)
+    ap (λ b. has (paths_of S.header e.attached.device) m && b) (z.shown e.attached.device m paths.1 paths.2 other)
+    ∙ ap (λ set. has set m && holds_valid promises e.attached.device m) (sym paths.0)
 
 comes_so : (S : Setting) (plan : Plan) (promises : List Promised) (both : BothVotes) (r : NodeRecord) (ms : List Moment) (z : Shows S plan promises both r ms) (e : Seizing) (keys : List ℕ)
-    → e.attached.nodes ≡ paths_of S.header e.attached.device → (m : ℕ) → list_any (λ k. k == m) z.led.others ≡ true
+    → PathsSo S e.attached → (m : ℕ) → list_any (λ k. k == m) z.led.others ≡ true
     → was_asked plan.epoch e.attached.device m ms ≡ has e.asked m → told.comes_next S plan.epoch e.attached.device keys ms m ≡ may_follow plan.cluster promises e keys m
 comes_so S plan promises both r ms z e keys paths m other asked =
     ap (λ b. b && not (was_asked plan.epoch e.attached.device m ms) && list_any (λ key. key == key_of S.header.cluster m) keys) (may_so S plan promises both r ms z e paths m other)
@@ -104,7 +104,7 @@ comes_so S plan promises both r ms z e keys paths m other asked =
     ∙ ap (λ c. may_seize promises e.attached m && not (has e.asked m) && list_any (λ key. key == key_of c m) keys) (sym z.cluster))
 
 ends_so : (S : Setting) (plan : Plan) (promises : List Promised) (both : BothVotes) (r : NodeRecord) (ms : List Moment) (z : Shows S plan promises both r ms) (e : Seizing)
-    → e.attached.nodes ≡ paths_of S.header e.attached.device → VoteSo plan promises e → AskedAs plan z.led e ms
+    → PathsSo S e.attached → VoteSo plan promises e → AskedAs plan z.led e ms
     → told.ends S plan.epoch e.attached.device e.result ms ≡ is_some e.result
 ends_so S plan promises both r ms z e paths so asked = by_result e.result refl
   where
@@ -126,7 +126,7 @@ ends_so S plan promises both r ms z e paths so asked = by_result e.result refl
         ∙ none_any plan z.led (may_follow plan.cluster promises e keys) (so.last keys is)))
 
 goes_on : (S : Setting) (plan : Plan) (promises : List Promised) (both : BothVotes) (r : NodeRecord) (ms : List Moment) (z : Shows S plan promises both r ms) (e : Seizing) (keys : List ℕ) (n : ℕ)
-    → e.attached.nodes ≡ paths_of S.header e.attached.device → list_any (λ k. k == n) z.led.others ≡ true → may_seize promises e.attached n ≡ true
+    → PathsSo S e.attached → list_any (λ k. k == n) z.led.others ≡ true → may_seize promises e.attached n ≡ true
     → list_any (λ key. key == key_of plan.cluster n) keys ≡ true → was_asked plan.epoch e.attached.device n ms ≡ false
     → told.ends S plan.epoch e.attached.device (Some (NotRegistered keys)) ms ≡ false
 goes_on S plan promises both r ms z e keys n paths other may shown unasked =
@@ -138,7 +138,7 @@ goes_on S plan promises both r ms z e keys n paths other may shown unasked =
     ∙ (ap (λ c. list_any (λ key. key == key_of c n) keys) (sym z.cluster) ∙ shown))))
 
 pub settled_so : (S : Setting) (plan : Plan) (promises : List Promised) (both : BothVotes) (r : NodeRecord) (ms : List Moment) (tasks : List told.Task) (z : Shows S plan promises both r ms)
-    (e : Seizing) → e.attached.nodes ≡ paths_of S.header e.attached.device → VoteSo plan promises e → IsShown plan promises z.led tasks ms e
+    (e : Seizing) → PathsSo S e.attached → VoteSo plan promises e → IsShown plan promises z.led tasks ms e
     → told.is_settled S plan.epoch e.attached.device tasks (told.asked_last plan.epoch e.attached.device ms) ms ≡ is_some e.result
 settled_so S plan promises both r ms tasks z e paths so (inl k) =
     ap (λ o. told.is_settled S plan.epoch e.attached.device tasks o ms) k.last
@@ -181,18 +181,18 @@ settled_so S plan promises both r ms tasks z e paths so (inr (inr (inr (inr k)))
 
 -- ---- all of them
 
-paths_picked : (S : Setting) (P : AttachedDevice → Bool) (xs : List AttachedDevice) → AllByRecursion (λ (a : AttachedDevice). a.nodes ≡ paths_of S.header a.device) xs
-    → AllByRecursion (λ (a : AttachedDevice). a.nodes ≡ paths_of S.header a.device) (filter P xs)
+paths_picked : (S : Setting) (P : AttachedDevice → Bool) (xs : List AttachedDevice) → AllByRecursion (PathsSo S) xs
+    → AllByRecursion (PathsSo S) (filter P xs)
 paths_picked S P [] k = tt
 paths_picked S P (a ∷ xs) k = by_test (P a) (paths_picked S P xs k.1)
   where
-    by_test : (b : Bool) → AllByRecursion (λ (x : AttachedDevice). x.nodes ≡ paths_of S.header x.device) (filter P xs)
-        → AllByRecursion (λ (x : AttachedDevice). x.nodes ≡ paths_of S.header x.device) (if b then a ∷ filter P xs else filter P xs)
+    by_test : (b : Bool) → AllByRecursion (PathsSo S) (filter P xs)
+        → AllByRecursion (PathsSo S) (if b then a ∷ filter P xs else filter P xs)
     by_test true rest = (k.0, rest)
     by_test false rest = rest
 
-entries_paths : (S : Setting) (es : List Seizing) → AllByRecursion (λ (a : AttachedDevice). a.nodes ≡ paths_of S.header a.device) (devices_in es)
-    → AllByRecursion (λ (e : Seizing). e.attached.nodes ≡ paths_of S.header e.attached.device) es
+entries_paths : (S : Setting) (es : List Seizing) → AllByRecursion (PathsSo S) (devices_in es)
+    → AllByRecursion (λ (e : Seizing). PathsSo S e.attached) es
 entries_paths S [] k = tt
 entries_paths S (e ∷ es) k = (k.0, entries_paths S es k.1)
 
@@ -200,9 +200,9 @@ pub votes_settled : (S : Setting) (plan : Plan) (promises : List Promised) (both
     → (z : Shows S plan promises both r ms) → AreVotes plan promises (Some both) vs → AllByRecursion (IsShown plan promises z.led tasks ms) vs
     → AllByRecursion (λ (e : Seizing). told.is_settled S plan.epoch e.attached.device tasks (told.asked_last plan.epoch e.attached.device ms) ms ≡ is_some e.result) vs
 votes_settled S plan promises both r ms tasks vs z h shown =
-    each vs (entries_paths S vs (subst (AllByRecursion (λ (a : AttachedDevice). a.nodes ≡ paths_of S.header a.device)) (sym h.devices) (paths_picked S (has_votes plan (Some both)) plan.attached z.paths))) h.each shown
+    each vs (entries_paths S vs (subst (AllByRecursion (PathsSo S)) (sym h.devices) (paths_picked S (has_votes plan (Some both)) plan.attached z.paths))) h.each shown
   where
-    each : (es : List Seizing) → AllByRecursion (λ (e : Seizing). e.attached.nodes ≡ paths_of S.header e.attached.device) es → AllByRecursion (VoteSo plan promises) es
+    each : (es : List Seizing) → AllByRecursion (λ (e : Seizing). PathsSo S e.attached) es → AllByRecursion (VoteSo plan promises) es
         → AllByRecursion (IsShown plan promises z.led tasks ms) es
         → AllByRecursion (λ (e : Seizing). told.is_settled S plan.epoch e.attached.device tasks (told.asked_last plan.epoch e.attached.device ms) ms ≡ is_some e.result) es
     each [] paths so k = tt

@@ -1,5 +1,5 @@
 -- What the lines show of the devices that an attempt seizes, as the attempt has it.
-use Rattle.std.specs.Prelude.{ℕ, ◌≡◌, ◌==◌, ◌⊎◌, Bool, true, false, if◌then◌else◌, List, length, None, Some}
+use Rattle.std.specs.Prelude.{ℕ, ◌≡◌, ◌≤◌, ◌==◌, ◌⊎◌, Bool, true, false, if◌then◌else◌, List, length, None, Some}
 use Rattle.std.specs.List.{AllByRecursion, list_any}
 use Rattle.cl_base.specs.Keys.{key_of}
 use Rattle.cl_base.specs.Sets.{has}
@@ -27,16 +27,20 @@ use Rattle.seize.specs.declared.kind.SeizeKind.TheVariants.{Plain, Vote}
 use Rattle.run_outcomes.specs.tasks.Entries.{LedBy}
 use Rattle.run_outcomes.specs.tasks.Laws.{shows_valid}
 
+-- its paths are those of the header, and its number is one of a device
+abbrev pub PathsSo : Setting → AttachedDevice → Type 0
+PathsSo S a = (a.nodes ≡ paths_of S.header a.device) × (1 ≤ a.device) × (a.device ≤ 32)
+
 -- The members, the paths to devices, the votes by the newest record, and which of those with votes are valid to whom.
 pub record Shows (S : Setting) (plan : Plan) (promises : List Promised) (both : BothVotes) (r : NodeRecord) (moments : List Moment) : Type 0 where
   pub led : LedBy plan
   pub devices : numbers_of plan.attached ≡ all_to (length S.header.devices)
-  pub paths : AllByRecursion (λ (a : AttachedDevice). a.nodes ≡ paths_of S.header a.device) plan.attached
+  pub paths : AllByRecursion (PathsSo S) plan.attached
   pub own : coordinator plan.epoch ≡ plan.coordinator
   pub members : nodes_of (members_of plan.epoch moments) ≡ plan.nodes
   pub cluster : plan.cluster ≡ S.header.cluster
   pub voting : (d : ℕ) → told.is_voting S r d ≡ is_quorum both d
-  pub shown : (d m : ℕ) → list_any (λ k. k == m) led.others ≡ true → shows_valid plan.epoch moments d m ≡ holds_valid promises d m
+  pub shown : (d m : ℕ) → 1 ≤ d → d ≤ 32 → list_any (λ k. k == m) led.others ≡ true → shows_valid plan.epoch moments d m ≡ holds_valid promises d m
   pub valid : AllByRecursion (λ (a : AttachedDevice). is_quorum both a.device ≡ true → has a.nodes plan.coordinator ≡ true
       → is_valid (validity S.header plan.coordinator a.device moments) ≡ holds_valid promises a.device plan.coordinator) plan.attached
 
