@@ -24,6 +24,7 @@ use Rattle.refinement.specs.Worlds.{IsNamed}
 use Rattle.run_history.specs.Telling.{IsInHeader, lines_upon}
 use Rattle.run_lines.specs.rounds.Laws.{AsksSome}
 use Rattle.run_owed.specs.waiting.Laws.{CommandIsShort, CommandsAreShort}
+use Rattle.run_outcomes.specs.lines.Laws.{IsFitting}
 use Rattle.replay.specs.Sessions.{first_so_far}
 use Rattle.replay.specs.Replays.{OfCluster, OfDevice, Schedule, behind, events_of, schedule_of, stepped, with_event}
 use Rattle.replay.specs.Histories.{AreAllowed}
@@ -154,3 +155,14 @@ commands_are_short [] few = tt
 commands_are_short (Said l ∷ before) few = (line_short before l few.0, commands_are_short before few.1)
 commands_are_short (Part e ∷ before) few = (tt, commands_are_short before few)
 commands_are_short (Told entry ∷ before) few = (tt, commands_are_short before few)
+
+-- a line that boots a node boots one of the header, and one that writes names a device by a number from 1 on
+fits : (h : Header) (s : SoFar) (e : Event) → IsAllowedEvent h s e → IsFitting h (line.Event e)
+fits h s (event.Boot n) is = is.2
+fits h s (event.Fault n d done) is = (is.0.0, is.0.2, is.1.0, is.1.2)
+fits h s (event.Write n d value) is = is.1.0
+fits h s _ is = tt
+
+pub all_fit : (h : Header) (s : SoFar) (events : List Event) (before : List Line) → AreAllowed h s events → AllByRecursion (IsFitting h) before → AllByRecursion (IsFitting h) (lines_upon before events)
+all_fit h s [] before are fit = fit
+all_fit h s (e ∷ events) before are fit = all_fit h (so_far_after_event s e) events (line.Event e ∷ before) are.2 (fits h s e are.0, fit)

@@ -25,5 +25,6 @@ pub mod Paths
 pub mod Queues
 pub mod Readied
 pub mod Wanted
+pub mod Opens
 pub mod Disks
 pub mod Added

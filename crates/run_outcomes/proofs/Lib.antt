@@ -13,3 +13,4 @@ pub mod seized
 pub mod accounts
 pub mod shown
 pub mod told_tasks
+pub mod lines

@@ -8,3 +8,4 @@ pub mod phases
 pub mod tasks
 pub mod rounds_told
 pub mod accounts
+pub mod lines

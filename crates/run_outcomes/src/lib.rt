@@ -14,6 +14,7 @@
 //! - `phases`: how far the attempt of a coordinator is, as the lines tell it.
 //! - `tasks`: the tasks of coordinators at shared devices, and with them the device queue of each node. Whom an attempt asks to seize quorum devices, and what
 //!   these answer, is told by its lines, and which devices are valid to them by their Promises; the tasks that a coordinator has of its own are the seizings that its attempt asked it for.
+//! - `lines`: each line, and each part of a round, is answered, where the lines tell the queues of nodes.
 //!
 //! Each function here is a law. It has no body, and its contract is proved of every header, every list of lines, everything that happens and
 //! all agents.
@@ -26,6 +27,7 @@ ghost use Rattle.run_outcomes.specs.exclusions.Laws.{ExclusionsOfEachRun};
 ghost use Rattle.run_outcomes.specs.panics.Laws.{ExclusionsAreToldInEachRun};
 ghost use Rattle.run_outcomes.specs.saves.Laws.{LetterStopsOfEachRun};
 ghost use Rattle.run_outcomes.specs.stops.Laws.{TickStopsOfEachRun};
+ghost use Rattle.run_outcomes.specs.lines.Laws.{LinesByQueues};
 ghost use Rattle.run_outcomes.specs.phases.Laws.{CollectorsHaveNothingDue, NoneIsOver, PromisesAreTold, SeizingsAreTold, VotesAreTold};
 ghost use Rattle.run_outcomes.specs.tasks.Laws.{AskedMaySeize, AsksAreTold, OwnTasksAreAsked, SeizedsAreTold, ShownValid, ShowsAreTold};
 
@@ -158,4 +160,11 @@ pub fn asked_may_seize_in_each_run()
 /// is about to seize as devices without votes. Nodes of the header alone boot, and a packet number is left for the Promise.
 pub fn last_promises_show_what_is_valid_in_each_run()
     ensures { ShownValid }
+{}
+
+/// Where the lines tell the device queue of each node, each line has the entries that `history` says, or is skipped for the cause that is due, and so has
+/// each part of a round. Of the run it is supposed that it is of whole lines, that no packet is foreign to its receiver, and that fewer than 2^63 moments are
+/// told; of the lines that they boot nodes of the header alone, and write to devices that are numbered from 1 on.
+pub fn lines_are_answered_by_queues()
+    ensures { LinesByQueues }
 {}

@@ -35,12 +35,12 @@ node_told S ms n (Up x) up k = work_same x.tasks (told.queued_of S n ms) k
 -- ---- each point at which a part comes
 
 -- what happened before it: each thing when it was due, and no packet that came was foreign
-record Before (c : Cluster) (first : Scene) (d : Due) (s : Scene) : Type 0 where
-  happenings : List Happening
-  may : MayAllHappen c first happenings
-  shaped : ShapedFrom c first nothing happenings d
-  native : NoneForeign c first happenings
-  is : all_happened c first happenings ≡ s
+pub record Before (c : Cluster) (first : Scene) (d : Due) (s : Scene) : Type 0 where
+  pub happenings : List Happening
+  pub may : MayAllHappen c first happenings
+  pub shaped : ShapedFrom c first nothing happenings d
+  pub native : NoneForeign c first happenings
+  pub is : all_happened c first happenings ≡ s
 
 may_more : (c : Cluster) (s : Scene) (xs : List Happening) (g : Happening) → MayAllHappen c s xs → MayHappen c (all_happened c s xs) g → MayAllHappen c s (xs ++ g ∷ [])
 may_more c s [] g all may = (may, tt)
@@ -59,7 +59,7 @@ happened_more : (c : Cluster) (s : Scene) (xs : List Happening) (g : Happening) 
 happened_more c s [] g = refl
 happened_more c s (x ∷ xs) g = happened_more c (happened c s x) xs g
 
-one_more : (c : Cluster) (first : Scene) (d : Due) (s : Scene) (g : Happening) → Before c first d s → MayHappen c s g → IsDue s d g → TellsHere c s (λ before. false) g
+pub one_more : (c : Cluster) (first : Scene) (d : Due) (s : Scene) (g : Happening) → Before c first d s → MayHappen c s g → IsDue s d g → TellsHere c s (λ before. false) g
     → Before c first (due_after c (happened c s g) d g) (happened c s g)
 one_more c first d s g r may comes here = record {
   happenings = r.happenings ++ g ∷ [];
@@ -70,6 +70,9 @@ one_more c first d s g r may comes here = record {
   native = native_more c first r.happenings g r.native (subst (λ z. TellsHere c z (λ before. false) g) (sym r.is) here);
   is = happened_more c first r.happenings g ∙ ap (λ z. happened c z g) r.is;
 }
+
+pub first_before : (c : Cluster) (first : Scene) → Before c first nothing first
+first_before c first = record { happenings = []; may = tt; shaped = refl; native = tt; is = refl }
 
 part_so : (P : Scene → Type 0) (s : Scene) (g : Happening) → P s → AtPart P s g
 part_so P s (Begins e) p = p
@@ -99,7 +102,7 @@ run_told : QueuesAreTold → (h : Header) (cells : ℕ) (hs : List Happening) �
     → MayAllHappen (first_cluster h) (first_scene h cells) hs → IsShaped (first_cluster h) (first_scene h cells) hs → NoneForeign (first_cluster h) (first_scene h cells) hs
     → IsLeft (all_happened (first_cluster h) (first_scene h cells) hs).links.next → AtEachPart (QueuesTold (setting_of h)) (first_cluster h) (first_scene h cells) hs
 run_told queues h cells hs few small disks may shaped native left =
-    each_told queues h cells hs (first_scene h cells) nothing nothing few small disks (record { happenings = []; may = tt; shaped = refl; native = tt; is = refl }) may shaped native left
+    each_told queues h cells hs (first_scene h cells) nothing nothing few small disks (first_before (first_cluster h) (first_scene h cells)) may shaped native left
 
 pub rounds_from : QueuesAreTold → RoundsAreTold
 rounds_from queues h cells hs few small disks same may shaped native asks short =
