@@ -157,7 +157,7 @@ readied_t : (c : Cluster) (me : ℕ) (x : UpNode) (o : Option AttemptState) → 
 readied_t c me x None = tt
 readied_t c me x (Some a) = turned_all_t c me x a Own_ready
 
-own_ready_t : (c : Cluster) (me : ℕ) (x : UpNode) → Tries IsTried (cuts.own_ready_course c me x)
+pub own_ready_t : (c : Cluster) (me : ℕ) (x : UpNode) → Tries IsTried (cuts.own_ready_course c me x)
 own_ready_t c me x = if_either (Tries IsTried) (joins x.tasks) Stops (cuts.readied_course c me x x.attempt) tt (readied_t c me x x.attempt)
 
 called_t : (c : Cluster) (me : ℕ) (x : UpNode) (a : AttemptState) (k : Call) → Tries IsTried (cuts.called c me x a k)
@@ -165,7 +165,7 @@ called_t c me x a k =
     joined_t IsTried c me x (cuts.turned_all c me x a k) (if_installed c me (turn a k).steps) (turned_all_t c me x a k)
     (λ y. if_either (Tries IsTried) (begins_install (turn a k).steps) (cuts.own_ready_course c me y) Stops (own_ready_t c me y) tt)
 
-going_t : (c : Cluster) (me : ℕ) (x : UpNode) (a : AttemptState) (k : Call) → Tries IsTried (cuts.going_course c me x a k)
+pub going_t : (c : Cluster) (me : ℕ) (x : UpNode) (a : AttemptState) (k : Call) → Tries IsTried (cuts.going_course c me x a k)
 going_t c me x a k =
     let t : AttemptState = (turn a k).after in
     if_either (Tries IsTried) (is_choosing t.phase) (Acts (Goes_on a k) (cuts.called c me (going x a k) t (With_votes (votes_in c t)))) (cuts.called c me x a k)

@@ -69,7 +69,7 @@ one_steady : (o : Output) → IsSteady o → IsNoStop o
 one_steady (Tells (entry.Node m (note.Down why))) h = absurd h
 one_steady _ h = tt
 
-steady_no_stop : (os : List Output) → AllSteady os → NoStops os
+pub steady_no_stop : (os : List Output) → AllSteady os → NoStops os
 steady_no_stop [] h = tt
 steady_no_stop (o ∷ os) h = (one_steady o h.0, steady_no_stop os h.1)
 
@@ -77,7 +77,7 @@ one_leaves : (o : Output) → LeavesWayOut o → IsNoStop o
 one_leaves (Tells (entry.Node m (note.Down why))) h = absurd h
 one_leaves _ h = tt
 
-leaves_no_stop : (os : List Output) → AllLeave os → NoStops os
+pub leaves_no_stop : (os : List Output) → AllLeave os → NoStops os
 leaves_no_stop [] h = tt
 leaves_no_stop (o ∷ os) h = (one_leaves o h.0, leaves_no_stop os h.1)
 
@@ -87,7 +87,7 @@ aside_leaves (entry.Start e) h = absurd h
 aside_leaves (entry.Node n e) h = absurd h
 aside_leaves _ h = tt
 
-given_leaves : (os : List Output) → AllByRecursion GivesAside os → AllLeave os
+pub given_leaves : (os : List Output) → AllByRecursion GivesAside os → AllLeave os
 given_leaves [] h = tt
 given_leaves (Tells e ∷ os) h = (aside_leaves e h.0, given_leaves os h.1)
 given_leaves (Sends to b ∷ os) h = (tt, given_leaves os h.1)
@@ -105,7 +105,7 @@ plain_one S c n told x a s mere leaves may on so = (
   subst (OnWay n (passing n (said c n x a) s).moments) (sym (act_stands c n told x a mere may).attempt) (still_on n n (said c n x a) s (epoch_of x.attempt) leaves on),
 )
 
-made_lines : (c : Cluster) (n : ℕ) (x : UpNode) (change : Change) → NoStops (first_lines n change ++ last_lines c n x change)
+pub made_lines : (c : Cluster) (n : ℕ) (x : UpNode) (change : Change) → NoStops (first_lines n change ++ last_lines c n x change)
 made_lines c n x change =
     both IsNoStop (first_lines n change) (last_lines c n x change) (steady_no_stop (first_lines n change) (first_steady n change)) (steady_no_stop (last_lines c n x change) (last_steady c n x change))
 
@@ -149,7 +149,7 @@ saved_one S c n told x _ s tried may on so = absurd tried
 -- ---- a save that is lost
 
 -- the attempt of the node is under way
-tried_attempts : (c : Cluster) (n : ℕ) (told : Delivered) (x : UpNode) (change : Change) (ms : List Moment) → IsTried change → MayChange c n told x change → IsOnWay n ms (Up x) → attempts n (attempt_of n ms) ms ≡ true
+pub tried_attempts : (c : Cluster) (n : ℕ) (told : Delivered) (x : UpNode) (change : Change) (ms : List Moment) → IsTried change → MayChange c n told x change → IsOnWay n ms (Up x) → attempts n (attempt_of n ms) ms ≡ true
 tried_attempts c n told x (Counts a k st i) ms tried may on = on_attempts n a.plan.epoch ms (subst (OnWay n ms) (ap epoch_of may.0) on)
 tried_attempts c n told x (Starts a k st) ms tried may on = on_attempts n a.plan.epoch ms (subst (OnWay n ms) (ap epoch_of may.0) on)
 tried_attempts c n told x _ ms tried may on = absurd tried
@@ -190,11 +190,11 @@ doing_one S c n told (Up x) disk (Forgets change why) ds s may small tried on ru
 doing_one S c n told node disk (Goes_down why) ds s may small tried on rule so = (other_gone S n why s.moments tried.0 so, tt)
 doing_one S c n told node disk Comes_up ds s may small tried on rule so = absurd tried
 
-last_tried : (ds : List Doing) → IsLast ds → AllTried ds
+pub last_tried : (ds : List Doing) → IsLast ds → AllTried ds
 last_tried [] h = tt
 last_tried (d ∷ ds) h = absurd h
 
-then_tried : (d : Doing) (ds : List Doing) → AllTried (d ∷ ds) → AllTried ds
+pub then_tried : (d : Doing) (ds : List Doing) → AllTried (d ∷ ds) → AllTried ds
 then_tried (Does a) ds h = h.1
 then_tried (Saves change) ds h = h.1
 then_tried (Loses change why) ds h = last_tried ds h.1

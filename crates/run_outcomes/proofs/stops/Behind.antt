@@ -101,7 +101,7 @@ posted_stop S from to m s h =
     if_either (λ (z : Scene). AllStop S z.moments) (is_sent s.links m) (sent_as from to m o s) s
     (dropped_stop S o.sent.dropped (telling (entry.Packet (packet.Sent s.links.next from to (name_of m.body) (spelling m))) (with_links s o.after)) (tt, h)) h
 
-posted_way : (from to : ℕ) (m : Message) (s : Scene) → under_way (posting from to m s).moments ≡ under_way s.moments
+pub posted_way : (from to : ℕ) (m : Message) (s : Scene) → under_way (posting from to m s).moments ≡ under_way s.moments
 posted_way from to m s =
     let o : net.Outcome = sending s.links from to (spelling m) in
     if_either (λ (z : Scene). under_way z.moments ≡ under_way s.moments) (is_sent s.links m) (sent_as from to m o s) s

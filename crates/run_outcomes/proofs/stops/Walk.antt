@@ -59,11 +59,11 @@ calm_one : (o : Output) → IsCalm o → IsNoStop o
 calm_one (Tells (entry.Node m (note.Down why))) h = absurd h
 calm_one _ h = tt
 
-calm_no_stops : (os : List Output) → AllCalm os → NoStops os
+pub calm_no_stops : (os : List Output) → AllCalm os → NoStops os
 calm_no_stops [] h = tt
 calm_no_stops (o ∷ os) h = (calm_one o h.0, calm_no_stops os h.1)
 
-gone_no_stop : (n : ℕ) (why : DownCause) → IsNoStopCause why → IsNoStop (Tells (entry.Node n (note.Down why)))
+pub gone_no_stop : (n : ℕ) (why : DownCause) → IsNoStopCause why → IsNoStop (Tells (entry.Node n (note.Down why)))
 gone_no_stop n cause.Stopped h = absurd h
 gone_no_stop n _ h = tt
 
