@@ -14,3 +14,4 @@ pub mod accounts
 pub mod shown
 pub mod told_tasks
 pub mod lines
+pub mod reports

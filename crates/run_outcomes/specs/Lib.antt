@@ -9,3 +9,4 @@ pub mod tasks
 pub mod rounds_told
 pub mod accounts
 pub mod lines
+pub mod reports

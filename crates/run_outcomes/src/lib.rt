@@ -15,6 +15,10 @@
 //! - `tasks`: the tasks of coordinators at shared devices, and with them the device queue of each node. Whom an attempt asks to seize quorum devices, and what
 //!   these answer, is told by its lines, and which devices are valid to them by their Promises; the tasks that a coordinator has of its own are the seizings that its attempt asked it for.
 //! - `lines`: each line, and each part of a round, is answered, where the lines tell the queues of nodes.
+//! - `tasks`: the tasks of coordinators at shared devices, and with them the device queue of each node. Whom an attempt asks to seize quorum devices is told by
+//!   its lines; the tasks that a coordinator has of its own are the seizings that its attempt asked it for.
+//! - `reports`: a request to seize and an Install are answered in the event in which they come, or are work then; and a Seized, or a Ready, is sent after the last
+//!   device command of a task.
 //!
 //! Each function here is a law. It has no body, and its contract is proved of every header, every list of lines, everything that happens and
 //! all agents.
@@ -30,6 +34,7 @@ ghost use Rattle.run_outcomes.specs.stops.Laws.{TickStopsOfEachRun};
 ghost use Rattle.run_outcomes.specs.lines.Laws.{LinesByQueues};
 ghost use Rattle.run_outcomes.specs.phases.Laws.{CollectorsHaveNothingDue, NoneIsOver, PromisesAreTold, SeizingsAreTold, VotesAreTold};
 ghost use Rattle.run_outcomes.specs.tasks.Laws.{AskedMaySeize, AsksAreTold, OwnTasksAreAsked, SeizedsAreTold, ShownValid, ShowsAreTold};
+ghost use Rattle.run_outcomes.specs.reports.Laws.{ReportsWhereTold, TasksAreAnsweredWhereTold};
 
 /// An attempt ends for a foreign member once all have promised, and names the least of its members that is configured neither in the newest
 /// committed updates in hand nor with the pending one.
@@ -167,4 +172,18 @@ pub fn last_promises_show_what_is_valid_in_each_run()
 /// told; of the lines that they boot nodes of the header alone, and write to devices that are numbered from 1 on.
 pub fn lines_are_answered_by_queues()
     ensures { LinesByQueues }
+{}
+
+/// A request to seize a device is answered in the event in which it comes in the session, or the device is queued then, or the node goes down; an Install is
+/// answered by Ready, or the node has work then, or goes down. Nothing is said of an event behind which no packet number is left. This follows from the
+/// queues: while they are told, requests are of attempts, and Readies fit a packet.
+pub fn tasks_are_answered_where_queues_are_told()
+    ensures { TasksAreAnsweredWhereTold }
+{}
+
+/// In the event of the last device command of a task its Seized is sent, where it was asked for and no Install has come; and where one has, a Ready, unless a task
+/// is left; or the node goes down. Nothing is said of an event behind which no packet number is left. This follows from the queues too, where a node
+/// has installed its session exactly where an Install of it came.
+pub fn reports_are_sent_where_queues_are_told()
+    ensures { ReportsWhereTold }
 {}

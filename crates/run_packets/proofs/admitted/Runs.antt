@@ -22,7 +22,7 @@ use Rattle.refinement.specs.Widths.{LetterFits}
 use Rattle.run_history.proofs.DeedRuns.{runs_are_cut}
 use Rattle.run_history.proofs.Reached.{reached_more}
 use Rattle.run_history.proofs.WholeEachRun.{runs_are_whole}
-use Rattle.run_history.specs.Happenings.{Arrives, Begins, Commanded, Commands, Happening, IsPlain, Loses, MayAllHappen, MayHappen, Misses, Notes, Refuses, Repeats, Speaks, Strays, Takes, Writes, armed_by, commanded, commanded_at, happened, removed}
+use Rattle.run_history.specs.Happenings.{Arrives, Begins, Commanded, Commands, Happening, IsPlain, Loses, MayAllHappen, MayHappen, all_happened, Misses, Notes, Refuses, Repeats, Speaks, Strays, Takes, Writes, armed_by, commanded, commanded_at, happened, removed}
 use Rattle.run_history.specs.Scenes.{Scene, adding, dropped_so, first_scene, telling, with_links}
 use Rattle.run_history.specs.Stages.{Stage}
 use Rattle.run_history.specs.Wholes.{IsWhole}
@@ -191,6 +191,19 @@ first_known h cells size = record {
   nodes = record { sites = λ n. record { disk_so = first_valid_in (first_cluster h) n (devices_known h size); node_so = tt }; sent = tt };
   flying = tt;
 }
+
+-- what is known of each scene of a run
+known_on : (h : Header) (cells : ℕ) (s : Scene) (hs : List Happening) → IsSmall h → IsReached h cells s → MayAllHappen (first_cluster h) s hs → SceneKnown (first_cluster h) s
+    → SceneKnown (first_cluster h) (all_happened (first_cluster h) s hs)
+known_on h cells s [] size at may k = k
+known_on h cells s (x ∷ hs) size at may k =
+    let c : Cluster = first_cluster h in
+    let then : IsReached h cells (happened c s x) = reached_more c (first_scene h cells) s x at may.0 in
+    let b : Known h s x = record { stage = stage_of h cells s size at; whole = whole_at h cells s size at; known = known_at h cells s size at; next = stage_of h cells (happened c s x) size then } in
+    known_on h cells (happened c s x) hs size then may.1 (happening_known h s x size may.0 b k)
+
+pub scene_known : (h : Header) (cells : ℕ) (hs : List Happening) → IsSmall h → MayAllHappen (first_cluster h) (first_scene h cells) hs → SceneKnown (first_cluster h) (all_happened (first_cluster h) (first_scene h cells) hs)
+scene_known h cells hs size may = known_on h cells (first_scene h cells) hs size (record { happenings = []; may = tt; is = refl }) may (first_known h cells size)
 
 sound_come : OfEachPacket Comes
 sound_come h cells hs nodes few small may boots =

@@ -1,0 +1,17 @@
+pub mod Own
+pub mod Few
+pub mod Letters
+pub mod Events
+pub mod Ending
+pub mod Tasks
+pub mod Asked
+pub mod Elses
+pub mod Points
+pub mod Replies
+pub mod Arriving
+pub mod Answered
+pub mod Commanding
+pub mod Asking
+pub mod Disks
+pub mod Walking
+pub mod Reporting
