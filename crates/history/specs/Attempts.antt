@@ -27,7 +27,7 @@ use Rattle.history.specs.Trace.{up, down, ticked, saved, delivered, device, inst
 use Rattle.history.specs.Order.{Always, EachEvent, since, before_last, under_way, somewhere}
 use Rattle.history.specs.Setting.{Setting, coordinator, nodes_of, all_to, key_of, paths_of}
 use Rattle.history.specs.Setting as setting
-use Rattle.history.specs.Letters.{Letter, letter_of, passes, reached_since, sends, is_letter, is_exchanged, says}
+use Rattle.history.specs.Letters.{Letter, letter_of, passes, reached_since, sends, is_letter, says}
 use Rattle.history.specs.Member.{member_of, members_of, attempt_of, number_of, in_collect, promised_to, last_installed}
 use Rattle.history.specs.Starts.{Start, EachStart}
 use Rattle.history.specs.Seizing.{is_attempt, is_start, is_boot, is_number, is_members_key}
@@ -35,7 +35,7 @@ use Rattle.history.specs.Validated.{validity, is_valid}
 use Rattle.history.specs.Contact.{others}
 use Rattle.history.specs.Records.{NodeRecord, committed_of, is_newest, promises, record_of, records_in_hand}
 use Rattle.history.specs.UnderWay.{is_under_way}
-use Rattle.history.specs.Queue.{is_enabled, all_promised, queue_of, has_work, is_queued, queue_is_open}
+use Rattle.history.specs.Queue.{is_enabled, all_promised, has_promised, queue_of, has_work, is_queued, queue_is_open, seized_by}
 
 -- ---- an attempt begins only in a tick of its coordinator, which is the least of what it sees
 
@@ -273,29 +273,44 @@ stands_against e q before =
 
 -- ---- `ended e silent m`
 
--- a message and what answers it, for each device
-pub record Question : Type 0 where
-  pub ask : Name
-  pub reply : Name
-
-abbrev pub seize_questions : List ℕ → List Question
+-- what the coordinator of an attempt asks of its members, for each device
+abbrev pub seize_questions : List ℕ → List Name
 seize_questions [] = []
-seize_questions (d ∷ others) =
-    record { ask = name.SeizeQuorum d; reply = name.Seized d } ∷ record { ask = name.SeizeData d; reply = name.Seized d } ∷ seize_questions others
+seize_questions (d ∷ others) = name.SeizeQuorum d ∷ name.SeizeData d ∷ seize_questions others
 
-abbrev pub questions : ℕ → List Question
-questions devices = record { ask = name.Collect; reply = name.Promise } ∷ record { ask = name.Install; reply = name.Ready } ∷ seize_questions (all_to devices)
+abbrev pub questions : ℕ → List Name
+questions devices = name.Collect ∷ name.Install ∷ seize_questions (all_to devices)
 
--- c asked m, and no answer that was sent after it came has reached c
-abbrev pub is_unanswered : ℕ → List Moment → ℕ → Question → Bool
-is_unanswered c moments m q = list_any (sends c m q.ask) moments && not (is_exchanged q.ask q.reply c m moments)
+abbrev pub readies : ℕ → Option Body → Bool
+readies e (Some (body.Ready epoch joined report)) = epoch == e
+readies e _ = false
+
+abbrev pub is_ready_of : ℕ → ℕ → Letter → Bool
+is_ready_of e m l = is_letter name.Ready m (coordinator e) l && readies e (says l.bytes)
+
+-- a Ready of m for e was delivered since e began
+abbrev pub has_readied : ℕ → List Moment → ℕ → Bool
+has_readied e moments m = reached_since (is_attempt e) (is_ready_of e m) moments
+
+-- The answer of m for the attempt e has come since e began. Answers for another number count not: one that was asked for in an earlier attempt may come late, and
+-- even be sent late, by a node that stopped before it promised e.
+abbrev pub is_answered : ℕ → List Moment → ℕ → Name → Bool
+is_answered e moments m name.Collect = has_promised e moments m
+is_answered e moments m name.Install = has_readied e moments m
+is_answered e moments m (name.SeizeQuorum d) = is_some (seized_by e d m moments)
+is_answered e moments m (name.SeizeData d) = is_some (seized_by e d m moments)
+is_answered e moments m _ = true
+
+-- it was asked of m in the attempt e, and has not been answered
+abbrev pub is_unanswered : ℕ → List Moment → ℕ → Name → Bool
+is_unanswered e moments m q = list_any (sends (coordinator e) m q) (since (is_attempt e) moments) && not (is_answered e moments m q)
 
 -- the answer of m is missing; the coordinator's own part is its device commands
 abbrev pub is_missing : Setting → ℕ → List Moment → ℕ → Bool
 is_missing S e before m =
     if m == coordinator e
     then has_work S m before
-    else list_any (is_unanswered (coordinator e) (since (is_attempt e) before) m) (questions (length S.header.devices))
+    else list_any (is_unanswered e before m) (questions (length S.header.devices))
 
 -- the least member whose answer is missing
 abbrev pub first_missing : Setting → ℕ → List Moment → Option ℕ
@@ -313,8 +328,9 @@ abbrev pub asks_first : ℕ → List Moment → Moment → Bool
 asks_first c before (sent p a b called bytes) = (a == c) && is_question (named called) && not (list_any (sends c b (named called)) before)
 asks_first c before _ = false
 
+-- where its tasks are told
 abbrev pub gets_task : Setting → ℕ → List Moment → Moment → Bool
-gets_task S c before x = list_any (λ d. not (is_queued S c d before)) (queue_of S c (x ∷ before))
+gets_task S c before x = not (queue_is_open S c (x ∷ before)) && list_any (λ d. not (is_queued S c d before)) (queue_of S c (x ∷ before))
 
 -- The phase tick: how many ticks of the coordinator came since a phase of the attempt e began, or a message of it was sent first. A phase
 -- begins with messages, or with tasks of the coordinator's own.

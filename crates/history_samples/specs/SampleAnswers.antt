@@ -1,5 +1,5 @@
 -- Answers that stand without their cause, lines without their entries, and events without what they owe.
-use Rattle.std.specs.Prelude.{ℕ, zero, suc, true, false, List, [], ◌∷◌}
+use Rattle.std.specs.Prelude.{ℕ, zero, suc, true, false, List, [], ◌∷◌, ◌++◌}
 use Rattle.cl_base.specs.declared.panic.Panic.TheVariants as panic
 use Rattle.pgr_device.specs.declared.command.PrCommand.TheVariants as command
 use Rattle.pgr_device.specs.declared.command.PrAnswer.TheVariants as answer
@@ -16,6 +16,7 @@ use Rattle.status_report.specs.declared.command_entry.Answer.TheVariants as repl
 use Rattle.status_report.specs.declared.schedule_entry.SkipCause.TheVariants as skip
 use Rattle.history.specs.Moment.{Moment}
 use Rattle.history.specs.Trace.{up, down, stopped, ticked, saved, installed, sent, delivered, dropped, device, accepted, refused, attempt, ended_votes, ended_superseded, ended_silent, ended_excluded, start, propose, asked, answered, armed, skipped, fault, crashat, gives}
+use Rattle.history_samples.specs.SampleContents.{long}
 use Rattle.history_samples.specs.SampleOneNode.{line_of}
 use Rattle.history_samples.specs.SampleSplit as split
 use Rattle.history_samples.specs.SampleAmnesia.{create_group, alone_after_a_crash}
@@ -351,7 +352,7 @@ asked_once_more = ticks 4 (sent 4 1 2 (name.SeizeQuorum 1) [] ∷ ticks 4 seizin
 
 -- the Seized came: what is awaited then is no other node's
 abbrev pub seized_in_time : List Moment
-seized_in_time = ticks 8 (delivered 5 2 1 ∷ sent 5 2 1 (name.Seized 1) [] ∷ delivered 3 1 2 ∷ seizing_asked)
+seized_in_time = ticks 8 (delivered 5 2 1 ∷ sent 5 2 1 (name.Seized 1) (7 ∷ 2 ∷ long 65 ++ 1 ∷ 0 ∷ long 0 ++ 0 ∷ 1 ∷ 0 ∷ 0 ∷ 0 ∷ 42 ∷ 0 ∷ 0 ∷ 0 ∷ 2 ∷ []) ∷ delivered 3 1 2 ∷ seizing_asked)
 
 -- the Request has its Answer
 abbrev pub request_answered : List Moment

@@ -387,7 +387,7 @@ pub fn own_tasks_end_in_time()
 {}
 
 /// Answers: an attempt ends at the eighth tick after its coordinator last asked something new, where an answer is missing.
-#[tactic(auto, unfolding(cl_base::specs::Sets::has))]
+#[tactic(auto, unfolding(cl_base::specs::Sets::has, wire::specs::Reads::number_at, wire::specs::Reads::byte_at, wire::specs::Reads::node_at, wire::specs::Reads::device_at, wire::specs::Reads::items_at, wire::specs::Reads::list_at, wire::specs::Reads::kind_at, wire::specs::Reads::seized_result_at, wire::specs::Reads::seized_at, wire::specs::Reads::body_at, wire::specs::Reads::message_at, wire::specs::Reads::whole_of))]
 pub fn attempts_end_in_time()
     ensures still_waiting { OfNewestEvent (EndsInTime distant) answers.still_waiting }
     ensures silent_after_eight { OfNewestEvent (EndsInTime distant) answers.silent_after_eight }

@@ -15,3 +15,4 @@ pub mod shown
 pub mod told_tasks
 pub mod lines
 pub mod reports
+pub mod silence

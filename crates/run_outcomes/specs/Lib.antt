@@ -10,3 +10,4 @@ pub mod rounds_told
 pub mod accounts
 pub mod lines
 pub mod reports
+pub mod silence

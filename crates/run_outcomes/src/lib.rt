@@ -19,6 +19,8 @@
 //!   its lines; the tasks that a coordinator has of its own are the seizings that its attempt asked it for.
 //! - `reports`: a request to seize and an Install are answered in the event in which they come, or are work then; and a Seized, or a Ready, is sent after the last
 //!   device command of a task.
+//! - `tasks`: the tasks of coordinators at shared devices: whom an attempt asks to seize quorum devices.
+//! - `silence`: for whose answers an attempt waits, as the lines tell what it has sent and what has come.
 //!
 //! Each function here is a law. It has no body, and its contract is proved of every header, every list of lines, everything that happens and
 //! all agents.
@@ -32,6 +34,8 @@ ghost use Rattle.run_outcomes.specs.panics.Laws.{ExclusionsAreToldInEachRun};
 ghost use Rattle.run_outcomes.specs.saves.Laws.{LetterStopsOfEachRun};
 ghost use Rattle.run_outcomes.specs.stops.Laws.{TickStopsOfEachRun};
 ghost use Rattle.run_outcomes.specs.lines.Laws.{LinesByQueues};
+ghost use Rattle.run_outcomes.specs.silence.Laws.{CollectsAreMissing, LacksAreMissing};
+ghost use Rattle.run_outcomes.specs.tasks.Laws.{AsksAreTold};
 ghost use Rattle.run_outcomes.specs.phases.Laws.{CollectorsHaveNothingDue, NoneIsOver, PromisesAreTold, SeizingsAreTold, VotesAreTold};
 ghost use Rattle.run_outcomes.specs.tasks.Laws.{AskedMaySeize, AsksAreTold, OwnTasksAreAsked, SeizedsAreTold, ShownValid, ShowsAreTold};
 ghost use Rattle.run_outcomes.specs.reports.Laws.{ReportsWhereTold, TasksAreAnsweredWhereTold};
@@ -186,4 +190,16 @@ pub fn tasks_are_answered_where_queues_are_told()
 /// has installed its session exactly where an Install of it came.
 pub fn reports_are_sent_where_queues_are_told()
     ensures { ReportsWhereTold }
+{}
+
+/// Where an answer of another member is missing by the lines, to a Collect, to a request to seize a device or to an Install of an attempt, the attempt waits
+/// for it. So it is while a packet number is left.
+pub fn lacks_are_missing_in_each_run()
+    ensures { LacksAreMissing }
+{}
+
+/// While an attempt collects, it waits for the Promises of those other members alone whose answer is missing by the lines. So it is while a packet number is
+/// left.
+pub fn collects_are_missing_in_each_run()
+    ensures { CollectsAreMissing }
 {}

@@ -53,7 +53,7 @@ any_first test (x ∷ xs) ys h = by_cases (λ there. any_first test xs ys there)
     by_cases rest (inl here) = or_first (test x) (list_any test (xs ++ ys)) here
     by_cases rest (inr there) = or_second (test x) (list_any test (xs ++ ys)) (rest there)
 
-any_last : {X : Type 0} (test : X → Bool) (xs : List X) (y : X) → test y ≡ true → list_any test (xs ++ y ∷ []) ≡ true
+pub any_last : {X : Type 0} (test : X → Bool) (xs : List X) (y : X) → test y ≡ true → list_any test (xs ++ y ∷ []) ≡ true
 any_last test [] y h = or_first (test y) false h
 any_last test (x ∷ xs) y h = or_second (test x) (list_any test (xs ++ y ∷ [])) (any_last test xs y h)
 

@@ -81,7 +81,7 @@ member_heard ms n e k (p ∷ ps) h is = by_cases (λ there. member_heard ms n e 
 is_not : (a b : ℕ) → not (a == b) ≡ true → a ≡ b → ⊥
 is_not a b h e = grind arith
 
-in_filter : (c m : ℕ) (ns : List ℕ) → list_any (λ k. k == m) (filter (λ j. not (j == c)) ns) ≡ true → (list_any (λ k. k == m) ns ≡ true) × (not (m == c) ≡ true)
+pub in_filter : (c m : ℕ) (ns : List ℕ) → list_any (λ k. k == m) (filter (λ j. not (j == c)) ns) ≡ true → (list_any (λ k. k == m) ns ≡ true) × (not (m == c) ≡ true)
 in_filter c m [] h = absurd (false_true h)
 in_filter c m (n ∷ ns) h = by_test (not (n == c)) refl (λ there. in_filter c m ns there) h
   where
@@ -174,7 +174,7 @@ told_so ms n a f live m other member =
     (λ due. by_phase (has_promised a.promises m ≡ true) a.phase live (λ at. f.takes at m member due) (λ left. of_all (has_promised a.promises) m a.plan.nodes (past_all a f.reached left live) member))
     (λ is. heard_promised ms n a.plan.epoch m a.plan.coordinator f.own f.coordinates other (member_heard ms n a.plan.epoch m a.promises f.heard is))
 
-others_so : (ms : List Moment) (n : ℕ) (a : AttemptState) → Facts ms n a → others a.plan.epoch (members_of a.plan.epoch ms) ≡ filter (λ j. not (j == a.plan.coordinator)) a.plan.nodes
+pub others_so : (ms : List Moment) (n : ℕ) (a : AttemptState) → Facts ms n a → others a.plan.epoch (members_of a.plan.epoch ms) ≡ filter (λ j. not (j == a.plan.coordinator)) a.plan.nodes
 others_so ms n a f = ap (λ ns. filter (λ j. not (j == coordinator a.plan.epoch)) ns) f.nodes ∙ ap (λ k. filter (λ j. not (j == k)) a.plan.nodes) (f.own ∙ sym f.coordinates)
 
 taken_so : (ms : List Moment) (n : ℕ) (a : AttemptState) → Facts ms n a → is_over a.phase ≡ false → (m : ℕ) → is_other a ms m ≡ true → told.has_promised a.plan.epoch ms m ≡ has_promised a.promises m

@@ -1,0 +1,17 @@
+pub mod Quiet
+pub mod Plain
+pub mod Data
+pub mod Answers
+pub mod Readies
+pub mod Turns
+pub mod Choices
+pub mod Leading
+pub mod Inputs
+pub mod Steps
+pub mod Lines
+pub mod Runs
+pub mod Installs
+pub mod Lacks
+pub mod Seizing
+pub mod Listed
+pub mod Told

@@ -1,0 +1,5 @@
+-- what a reader must believe
+pub mod Laws
+-- what only the proofs need
+pub mod Asked
+pub mod AskedCourses
