@@ -3,3 +3,4 @@ pub mod repeats
 pub mod replies
 pub mod waiting
 pub mod installs
+pub mod again

@@ -1,7 +1,13 @@
+pub mod Alone
+pub mod Young
 pub mod Turns
 pub mod Few
 pub mod Else
+pub mod Starting
 pub mod Courses
+pub mod Mine
+pub mod Attempts
+pub mod Behind
 pub mod Doings
 pub mod Short
 pub mod Sent
@@ -9,3 +15,4 @@ pub mod Known
 pub mod Taking
 pub mod Steps
 pub mod Runs
+pub mod Sound

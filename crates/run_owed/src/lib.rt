@@ -4,13 +4,13 @@
 //! - `repeats`: the Prepares that lack their Prepared go again.
 //! - `replies`: Orders, Collects and Prepares are answered.
 //! - `waiting`: the Requests of commands.
-//! - `installs`: the Installs of a coordinator that installs.
+//! - `installs`: the Installs of a coordinator that installs, and the start of one that has no other member.
 //!
 //! Each function here is a law. It has no body, and its contract is proved of every header, every list of lines, everything that happens and
 //! all agents.
 #![tactic(auto)]
 
-ghost use Rattle.run_owed.specs.installs.Laws.{InstallsOfEachRun};
+ghost use Rattle.run_owed.specs.installs.Laws.{EachInstallOfEachRun, InstallsOfEachRun};
 ghost use Rattle.run_owed.specs.prepares.Laws.{OneNodeOfEachRun, PreparesOfEachRun};
 ghost use Rattle.run_owed.specs.repeats.Laws.{PreparesAgainOfEachRun};
 ghost use Rattle.run_owed.specs.replies.Laws.{CollectsAreAnsweredInEachRun, OrdersAreAnsweredInEachRun, PreparesAreAnsweredInEachRun};
@@ -67,4 +67,11 @@ pub fn canonical_words_are_short()
 /// number is left.
 pub fn installs_of_each_run()
     ensures { InstallsOfEachRun }
+{}
+
+/// A coordinator that installs goes on in that event: its Install goes to each other member of its attempt, and where there is none its membership starts,
+/// or it stops in the save of that start. Nothing is said of an event behind which no packet number is left. This holds while fewer than 2^63 moments are
+/// told, so that no local disk fails but by a stop.
+pub fn each_install_of_each_run()
+    ensures { EachInstallOfEachRun }
 {}

@@ -1,7 +1,7 @@
 -- Where an attempt installs, its Install goes to each other member: none is ready before.
-use Rattle.std.specs.Prelude.{ℕ, ◌≡◌, ◌≢◌, ◌⊎◌, ◌==◌, ◌&&◌, ◌||◌, not, Bool, true, false, if◌then◌else◌, List, [], ◌∷◌, Option, None, Some, filter, map}
-use Rattle.std.proofs.Common.{refl, sym, subst, ◌∙◌, inl, inr}
-use Rattle.std.specs.List.{cons_option, filter_map, list_any}
+use Rattle.std.specs.Prelude.{ℕ, ◌≡◌, ◌≢◌, ◌⊎◌, ◌==◌, ◌&&◌, ◌||◌, ◌++◌, not, Bool, true, false, if◌then◌else◌, List, [], ◌∷◌, Option, None, Some, filter, map}
+use Rattle.std.proofs.Common.{refl, ap, sym, subst, ◌∙◌, inl, inr, arith}
+use Rattle.std.specs.List.{AllByRecursion, cons_option, filter_map, list_any}
 use Rattle.attempt_laws.proofs.Walk.{Walk, walks}
 use Rattle.cl_base.specs.Seizings.{SeizeResult}
 use Rattle.cmm_attempt.proofs.Basics.{false_true, if_either, or_cases, same_number}
@@ -20,6 +20,7 @@ use Rattle.cmm_attempt.specs.declared.phase.Readied.{Readied}
 use Rattle.cmm_attempt.specs.declared.seizing.Seizing.{Seizing}
 use Rattle.cmm_attempt.specs.declared.step.Step.{Step}
 use Rattle.cmm_attempt.specs.declared.step.Step.TheVariants.{Send, SeizeHere}
+use Rattle.refinement.proofs.Attempts.{install_epoch}
 use Rattle.seize.specs.declared.kind.SeizeKind.{SeizeKind}
 use Rattle.wire.specs.declared.message.Body.{Body}
 use Rattle.wire.specs.declared.message.Body.TheVariants as body
@@ -91,7 +92,7 @@ or_later : (a b : Bool) → b ≡ true → (a || b) ≡ true
 or_later true b h = refl
 or_later false b h = h
 
-any_passing : (test : ℕ → Bool) (ns : List ℕ) (m : ℕ) → test m ≡ true → list_any (λ k. k == m) ns ≡ true → list_any (λ k. k == m) (filter test ns) ≡ true
+pub any_passing : (test : ℕ → Bool) (ns : List ℕ) (m : ℕ) → test m ≡ true → list_any (λ k. k == m) ns ≡ true → list_any (λ k. k == m) (filter test ns) ≡ true
 any_passing test [] m passes is = is
 any_passing test (k ∷ ns) m passes is = by_test (λ later. any_passing test ns m passes later) (test k) refl (or_cases (k == m) (list_any (λ j. j == m) ns) is)
   where
@@ -119,6 +120,22 @@ goes_to_all s none m other =
     let t : AttemptState = in_phase s Installing in
     sends_to t (install_in t) (silent_others t) m (any_passing (λ n. not (n == t.plan.coordinator) && is_missing t n) t.plan.nodes m (unready_test s m none other.1) other.0)
 
+-- .. and there is none where the coordinator is alone
+none_silent : (t : AttemptState) (n : ℕ) → t.plan.coordinator ≡ n → AllByRecursion (λ k. k ≡ n) t.plan.nodes → installs t ≡ []
+none_silent t n own alone = ap (λ ns. map (send_install t.plan (install_in t)) ns) (none_of t.plan.nodes alone)
+  where
+    by_test : (b missing : Bool) (ns : List ℕ) (k : ℕ) → b ≡ true → ns ≡ [] → (if not b && missing then k ∷ ns else ns) ≡ []
+    by_test true missing ns k is none = none
+    by_test false missing ns k is none = absurd (false_true is)
+
+    itself : (a b : ℕ) → a ≡ b → (a == b) ≡ true
+    itself a b h = grind arith
+
+    none_of : (ns : List ℕ) → AllByRecursion (λ k. k ≡ n) ns → filter (λ k. not (k == t.plan.coordinator) && is_missing t k) ns ≡ []
+    none_of [] h = refl
+    none_of (k ∷ ns) h =
+        by_test (k == t.plan.coordinator) (is_missing t k) (filter (λ j. not (j == t.plan.coordinator) && is_missing t j) ns) k (itself k t.plan.coordinator (h.0 ∙ sym own)) (none_of ns h.1)
+
 -- ---- each call
 
 abbrev pub Brings : Turn → Type 0
@@ -133,7 +150,9 @@ none_before s p is early h = h (subst IsEarly (sym is) early)
 
 installing_brings : (s : AttemptState) → s.readies ≡ [] → Brings (installing s)
 unfolding installing
-installing_brings s none = (λ early. absurd early, λ m other. goes_to_all s none m other)
+installing_brings s none =
+    let t : AttemptState = in_phase s Installing in
+    (λ early. absurd early, (λ m other. goes_to_all s none m other, refl, install_epoch t, λ n alone. none_silent t n alone.0 alone.1))
 
 walk : (c : Call) → Walk c (Ready c) Unready Brings
 unfolding asked_next
@@ -159,7 +178,7 @@ walk c = record {
   next = λ s d from n r e is tells found next i. (i.0, request_none s s.plan e.kind d n []);
   seizing = λ s is e k. (k, tt);
   short = λ s e is all few k. (λ early. absurd early, tt);
-  others = λ s is all enough some k. (λ early. none_before s SeizingVotes is tt k, requests_none s s.plan (plain_devices s));
+  others = λ s is all enough some k. (λ early. none_before s SeizingVotes is tt k, requests_none (record (in_phase s SeizingOthers) { counted = held_set s.devices; devices = s.devices ++ plain_devices s }) s.plan (plain_devices s));
   installs_at_once = λ s is all enough none k. installing_brings (record s { counted = held_set s.devices }) (none_before s SeizingVotes is tt k);
   installs = λ s is all k. installing_brings s (none_before s SeizingOthers is tt k);
   ready = λ s from m is here of ready_body i. λ early. absurd (subst IsEarly here early);

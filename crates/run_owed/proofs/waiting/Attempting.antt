@@ -58,7 +58,7 @@ module _ (c : Cluster) (me : ℕ) (came : Input) where
   then_so x (Falls why) next h i = tt
 
   decided_so : (x : UpNode) (p : Presidency) (t : decisions.Turn) → GoesAsking c me came x (cuts.decided_course me x p t)
-  decided_so x p t = (tt, ((stays_goes c came x.requests, inl (inr (inl refl))), tt))
+  decided_so x p t = (tt, ((stays_goes c came x.requests, inl (inr (inl (refl, refl)))), tt))
 
   deciding_by_so : (x : UpNode) (o : Option Presidency) → GoesAsking c me came x (cuts.deciding_by_course c me x o)
   deciding_by_so x None = tt

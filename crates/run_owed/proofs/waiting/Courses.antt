@@ -119,7 +119,7 @@ module _ (c : Cluster) (me : ℕ) (came : Input) where
 
   done_at_so : (x : UpNode) (from number : ℕ) (outcome : Outcome) (o : Option Presidency) → GoesAsking c me came x (cuts.done_at_course c me x from number outcome o)
   done_at_so x from number outcome None = tt
-  done_at_so x from number outcome (Some p) = either_so c me came _ (order.is_due p.groups.view from number) _ _ ((stays_goes c came x.requests, inl (inr (inl refl))), then_so c me came (record x { presidency = Some (with_ended c x p from number outcome) }) _ _ (deciding_so c me came (record x { presidency = Some (with_ended c x p from number outcome) })) (λ z. handling_so c me came z)) tt
+  done_at_so x from number outcome (Some p) = either_so c me came _ (order.is_due p.groups.view from number) _ _ ((stays_goes c came x.requests, inl (inr (inl (refl, refl)))), then_so c me came (record x { presidency = Some (with_ended c x p from number outcome) }) _ _ (deciding_so c me came (record x { presidency = Some (with_ended c x p from number outcome) })) (λ z. handling_so c me came z)) tt
 
   done_so : (x : UpNode) (from e number : ℕ) (outcome : Outcome) → GoesAsking c me came x (cuts.done_course c me x from e number outcome)
   done_so x from e number outcome = either_so c me came _ (is_of_member x from e) _ _ (done_at_so x from number outcome x.presidency) tt
@@ -166,7 +166,7 @@ module _ (c : Cluster) (me : ℕ) (came : Input) where
 
   asking_this_so : (x : UpNode) (o : Option Ask) → GoesAsking c me came x (cuts.asking_this_course c me x o)
   asking_this_so x None = tt
-  asking_this_so x (Some ask) = either_so c me came _ (is_member x.seat && not (is_full x.requests)) _ _ ((monitor_goes c came x ask, joining_needs c me x (monitor_asked x ask).requests _ refl), asking_if_so c me came (is_idle x.requests.waiting) (monitor_asked x ask)) tt
+  asking_this_so x (Some ask) = either_so c me came _ (is_member x.seat && not (is_full x.requests)) _ _ ((monitor_goes c came x ask, joining_needs c me x (monitor_asked x ask).requests _ refl refl), asking_if_so c me came (is_idle x.requests.waiting) (monitor_asked x ask)) tt
 
   reporting_so : (x : UpNode) (r : List ℕ) (how : Probed) → GoesAsking c me came x (cuts.reporting_course c me x r how)
   reporting_so x r probe.NoMonitor = tt
@@ -177,7 +177,7 @@ module _ (c : Cluster) (me : ℕ) (came : Input) where
   report_so x r good = reporting_so x r (probed x.worker (own_config c x) r good x.second)
 
   serving_so : (x : UpNode) (p : Presidency) (name : List ℕ) (client port : ℕ) (o : serving.Outcome) → GoesAsking c me came x (cuts.serving_course x p name client port o)
-  serving_so x p name client port o = (tt, ((stays_goes c came x.requests, inl (inr (inl refl))), tt))
+  serving_so x p name client port o = (tt, ((stays_goes c came x.requests, inl (inr (inl (refl, refl)))), tt))
 
   serving_at_so : (s : ConfigState) (x : UpNode) (p : Presidency) (name : List ℕ) (client port : ℕ) (o : Option Address) → GoesAsking c me came x (cuts.serving_at_course s x p name client port o)
   serving_at_so s x p name client port None = tt

@@ -1,8 +1,8 @@
 -- How the queue of a node's requests changes, and when the oldest of them is sent.
-use Rattle.std.specs.Prelude.{ℕ, ◌≡◌, ◌⊎◌, ◌++◌, ◌==◌, true, List, [], ◌∷◌, Option, None, Some, is_some}
+use Rattle.std.specs.Prelude.{ℕ, ◌≡◌, ◌⊎◌, ◌++◌, ◌==◌, Bool, true, false, if◌then◌else◌, List, [], ◌∷◌, Option, None, Some, is_some}
 use Rattle.std.proofs.Common.{refl, ap, sym, ◌∙◌, inl, inr}
 use Rattle.cl_base.specs.declared.command.Ask.{Ask}
-use Rattle.cmm_attempt.proofs.Basics.{false_true, if_either}
+use Rattle.cmm_attempt.proofs.Basics.{false_true, if_either, none_some}
 use Rattle.node_model.specs.Groups.{monitor_asked}
 use Rattle.node_model.specs.Requests.{is_idle}
 use Rattle.node_model.specs.Seats.{coordinator_of}
@@ -14,7 +14,7 @@ use Rattle.proposals.specs.declared.arrived.Arrived.{Arrived}
 use Rattle.refinement.specs.Cuts as cuts
 use Rattle.refinement.specs.Cuts.{queue_by}
 use Rattle.refinement.specs.Doings.{minded}
-use Rattle.request_queue.specs.Queue.{Queue, answered, left_of, oldest, oldest_in, with_number, with_request}
+use Rattle.request_queue.specs.Queue.{Queue, age_with, answered, found, left_of, oldest, oldest_in, with_number, with_request}
 use Rattle.request_queue.specs.declared.request.Request.{Request}
 use Rattle.run_owed.specs.waiting.Asking.{HasWords, Joins, NeedsNone, Pops, QueueGoes, SendsOldest, Stays}
 
@@ -28,6 +28,15 @@ module _ (c : Cluster) (came : Input) where
   answered_asked : (q : Queue) (rs : List Request) (number : ℕ) → (left_of q rs number).asked ≡ q.asked
   answered_asked q [] number = refl
   answered_asked q (r ∷ rs) number = if_either (λ (z : Queue). z.asked ≡ q.asked) (r.number == number) (record q { waiting = rs; age = 0 }) q refl refl
+
+  -- the next one is sent in the same event
+  pub answered_age : (q : Queue) (rs : List Request) (number : ℕ) (r : Request) → found rs number ≡ Some r → (left_of q rs number).age ≡ 0
+  answered_age q [] number r is = absurd (none_some r is)
+  answered_age q (first ∷ rs) number r is = by_test (first.number == number) is
+    where
+      by_test : (b : Bool) → (if b then Some first else None) ≡ Some r → (if b then record q { waiting = rs; age = 0 } else q).age ≡ 0
+      by_test true h = refl
+      by_test false h = absurd (none_some r h)
 
   pub answered_goes : (q : Queue) (number : ℕ) → QueueGoes c came q (answered q number)
   answered_goes q number = record { move = Pops number; waiting = refl; asked = inl (answered_asked q q.waiting number); may = tt }
@@ -48,12 +57,12 @@ module _ (c : Cluster) (me : ℕ) where
   abbrev Idle : UpNode → Type 0
   Idle y = (is_some y.presidency ≡ true) ⊎ (oldest y.requests ≡ None) ⊎ (coordinator_of y ≡ None)
 
-  asks_need : (y : UpNode) → Idle y ⊎ SendsOldest y (cuts.asking_course c me y)
-  asks_need y = by_oldest (oldest y.requests) refl
+  asks_need : (y : UpNode) → y.requests.age ≡ 0 → Idle y ⊎ SendsOldest y (cuts.asking_course c me y)
+  asks_need y fresh = by_oldest (oldest y.requests) refl
     where
       by_leader : (r : Request) → oldest y.requests ≡ Some r → (l : Option ℕ) → coordinator_of y ≡ l → Idle y ⊎ SendsOldest y (cuts.request_to_course y r l)
       by_leader r first None leads = inl (inr (inr leads))
-      by_leader r first (Some to) leads = inr (r, first, leads, refl)
+      by_leader r first (Some to) leads = inr (r, first, leads, refl, fresh)
 
       by_office : (r : Request) → oldest y.requests ≡ Some r → (p : Option Presidency) → y.presidency ≡ p → Idle y ⊎ SendsOldest y (cuts.asking_of_course c me y r p)
       by_office r first (Some p) office = inl (inl (ap is_some office))
@@ -68,8 +77,8 @@ module _ (c : Cluster) (me : ℕ) where
   idle_needs x q (inr (inl none)) = inr (inr (inl none))
   idle_needs x q (inr (inr none)) = inr (inr (inr none))
 
-  pub asking_needs : (x : UpNode) (q : Queue) → NeedsNone x q x.presidency ⊎ SendsOldest (minded x q x.presidency) (cuts.asking_course c me (minded x q x.presidency))
-  asking_needs x q = by_need (asks_need (minded x q x.presidency))
+  pub asking_needs : (x : UpNode) (q : Queue) → q.age ≡ 0 → NeedsNone x q x.presidency ⊎ SendsOldest (minded x q x.presidency) (cuts.asking_course c me (minded x q x.presidency))
+  asking_needs x q fresh = by_need (asks_need (minded x q x.presidency) fresh)
     where
       by_need : Idle (minded x q x.presidency) ⊎ SendsOldest (minded x q x.presidency) (cuts.asking_course c me (minded x q x.presidency))
           → NeedsNone x q x.presidency ⊎ SendsOldest (minded x q x.presidency) (cuts.asking_course c me (minded x q x.presidency))
@@ -77,12 +86,12 @@ module _ (c : Cluster) (me : ℕ) where
       by_need (inr sends) = inr sends
 
   -- one that joins others leaves the oldest
-  pub joining_needs : (x : UpNode) (q : Queue) (r : Request) → q.waiting ≡ x.requests.waiting ++ r ∷ []
+  pub joining_needs : (x : UpNode) (q : Queue) (r : Request) → q.waiting ≡ x.requests.waiting ++ r ∷ [] → q.age ≡ age_with x.requests.waiting x.requests.age
       → NeedsNone x q x.presidency ⊎ SendsOldest (minded x q x.presidency) (cuts.asking_if_course (is_idle x.requests.waiting) c me (minded x q x.presidency))
-  joining_needs x q r joins = by_waiting x.requests.waiting refl
+  joining_needs x q r joins ages = by_waiting x.requests.waiting refl
     where
       by_waiting : (rs : List Request) → x.requests.waiting ≡ rs
           → NeedsNone x q x.presidency ⊎ SendsOldest (minded x q x.presidency) (cuts.asking_if_course (is_idle rs) c me (minded x q x.presidency))
-      by_waiting [] is = asking_needs x q
+      by_waiting [] is = asking_needs x q (ages ∙ ap (λ ws. age_with ws x.requests.age) is)
       by_waiting (first ∷ rs) is =
-          inl (inr (inl (ap oldest_in (joins ∙ ap (λ ws. ws ++ r ∷ []) is) ∙ sym (ap oldest_in is))))
+          inl (inr (inl (ap oldest_in (joins ∙ ap (λ ws. ws ++ r ∷ []) is) ∙ sym (ap oldest_in is), ages ∙ ap (λ ws. age_with ws x.requests.age) is)))

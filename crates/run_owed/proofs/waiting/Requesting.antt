@@ -50,7 +50,7 @@ use Rattle.node_model.specs.declared.input.Input.{Input}
 use Rattle.node_model.specs.declared.input.Input.TheVariants as input
 use Rattle.run_owed.specs.waiting.Asking.{GoesAsking, HasWords}
 use Rattle.history_setting.specs.Settings.{canonical_in, canonical_words}
-use Rattle.run_owed.proofs.waiting.Queues.{answered_goes, asking_needs, by_answer, joined_goes, joining_needs, numbered_goes, stays_goes}
+use Rattle.run_owed.proofs.waiting.Queues.{answered_age, answered_goes, asking_needs, by_answer, joined_goes, joining_needs, numbered_goes, stays_goes}
 use Rattle.run_owed.proofs.waiting.Attempting.{deciding_so, either_so, then_so}
 
 module _ (c : Cluster) (me : ℕ) (came : Input) where
@@ -114,7 +114,7 @@ module _ (c : Cluster) (me : ℕ) (came : Input) where
   kept_again_so x from (Some k) = (tt, tt)
 
   arrived_so : (x : UpNode) (p : Presidency) (a : Arrived) (how : Arrival) → GoesAsking c me came x (cuts.arrived_course c me x p a how)
-  arrived_so x p a New = let s : State = with_arrival p.proposals a New in ((stays_goes c came x.requests, inl (inr (inl refl))), handling_so (with_proposals x p s))
+  arrived_so x p a New = let s : State = with_arrival p.proposals a New in ((stays_goes c came x.requests, inl (inr (inl (refl, refl)))), handling_so (with_proposals x p s))
   arrived_so x p a Waits_already = tt
   arrived_so x p a Answered_last = kept_again_so x a.from (kept_at p.proposals.answers a.from)
   arrived_so x p a Past = tt
@@ -154,7 +154,7 @@ module _ (c : Cluster) (me : ℕ) (came : Input) where
   waiting_so x number text numbered words =
       let r : Request = record { number = number; text = text; told = true; second = x.second } in
       either_so c me came _ (is_full x.requests) _ _ (replying_so x number answer.QueueFull)
-      ((joined_goes c came x.requests r numbered (λ told. words r refl), joining_needs c me x (with_request x.requests r) r refl), asking_if_so (is_idle x.requests.waiting) (waiting_with x number text))
+      ((joined_goes c came x.requests r numbered (λ told. words r refl), joining_needs c me x (with_request x.requests r) r refl refl), asking_if_so (is_idle x.requests.waiting) (waiting_with x number text))
 
   elsewhere_so : (x : UpNode) (number : ℕ) (o : Option ℕ) → GoesAsking c me came x (cuts.elsewhere_course me number o)
   elsewhere_so x number None = tt
@@ -189,18 +189,18 @@ module _ (c : Cluster) (me : ℕ) (came : Input) where
   command_so x words is = (
     tt,
     (
-      (numbered_goes c came x.requests, inl (inr (inl refl))),
+      (numbered_goes c came x.requests, inl (inr (inl (refl, refl)))),
       worded_so (numbered x) (next_number x.requests) (command_of (version_of c) words) refl (λ r text. subst (λ z. HasWords c z r) (sym is) text),
     ),
   )
 
-  replied_to_so : (x : UpNode) (number : ℕ) (told : Answer) (o : Option Request) → GoesAsking c me came x (cuts.replied_to_course c me x number told o)
-  replied_to_so x number told None = tt
-  replied_to_so x number told (Some r) = (tt, ((answered_goes c came x.requests number, asking_needs c me x (queue.answered x.requests number)), asking_so (record x { requests = queue.answered x.requests number })))
+  replied_to_so : (x : UpNode) (number : ℕ) (told : Answer) (o : Option Request) → found x.requests.waiting number ≡ o → GoesAsking c me came x (cuts.replied_to_course c me x number told o)
+  replied_to_so x number told None is = tt
+  replied_to_so x number told (Some r) is = (tt, ((answered_goes c came x.requests number, asking_needs c me x (queue.answered x.requests number) (answered_age c came x.requests x.requests.waiting number r is)), asking_so (record x { requests = queue.answered x.requests number })))
 
   replied_so : (x : UpNode) (number : ℕ) (o : Option Answer) → GoesAsking c me came x (cuts.replied_course c me x number o)
   replied_so x number None = tt
-  replied_so x number (Some told) = replied_to_so x number told (found x.requests.waiting number)
+  replied_so x number (Some told) = replied_to_so x number told (found x.requests.waiting number) refl
 
   pub reply_so : (x : UpNode) (e number : ℕ) (told : Option Answer) → GoesAsking c me came x (cuts.reply_course c me x e number told)
   reply_so x e number told = either_so c me came _ (is_member x.seat && is_in x e) _ _ (replied_so x number told) tt

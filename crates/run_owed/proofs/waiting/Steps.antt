@@ -67,7 +67,7 @@ module _ (n : ℕ) (c : Cluster) (came : Input) (told : Delivered) (words : Word
   minded_paid : (x : UpNode) (q : Queue) (p : Option Presidency) (disk : NodeRecord) (ds : List Doing) → SameProposed x.presidency p → NeedsNone x q p ⊎ SendsOldestIn (minded x q p) ds
       → Within (site (Up (minded x q p)) disk) ds → IsPaid first G x → IsPaid first G (minded x q p)
   minded_paid x q p disk ds may (inl (inl office)) within h = inl office
-  minded_paid x q p disk ds may (inl (inr (inl same))) within h = stays_paid x q p same may h
+  minded_paid x q p disk ds may (inl (inr (inl same))) within h = stays_paid x q p same.0 may h
   minded_paid x q p disk ds may (inl (inr (inr (inl none)))) within h = inr (inr (inl none))
   minded_paid x q p disk ds may (inl (inr (inr (inr none)))) within h = inr (inr (inr (inl none)))
   minded_paid x q p disk ds may (inr sends) within h = next_sent (minded x q p) disk ds sends within

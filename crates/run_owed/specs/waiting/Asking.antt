@@ -50,9 +50,9 @@ pub record QueueGoes (c : Cluster) (came : Input) (before after : Queue) : Type 
 
 -- ---- the oldest request is sent
 
--- the message is the oldest request, to the president
+-- the message is the oldest request, to the president, and no tick came since
 abbrev pub IsOldest : UpNode → ℕ → Body → Type 0
-IsOldest y to b = (r : Request) × (oldest y.requests ≡ Some r) × (coordinator_of y ≡ Some to) × (b ≡ body.Request (session_of y) r.number r.text)
+IsOldest y to b = (r : Request) × (oldest y.requests ≡ Some r) × (coordinator_of y ≡ Some to) × (b ≡ body.Request (session_of y) r.number r.text) × (y.requests.age ≡ 0)
 
 abbrev pub SendsOldest : UpNode → Course → Type 0
 SendsOldest y (Acts (Writes to b) rest) = IsOldest y to b
@@ -62,9 +62,9 @@ abbrev pub SendsOldestIn : UpNode → List Doing → Type 0
 SendsOldestIn y (Does (Writes to b) ∷ ds) = IsOldest y to b
 SendsOldestIn y _ = ⊥
 
--- the node presides, or has the same oldest request as before, or none, or no president to send it to
+-- the node presides, or has the same oldest request as before, sent as many ticks ago, or none, or no president to send it to
 abbrev pub NeedsNone : UpNode → Queue → Option Presidency → Type 0
-NeedsNone x q p = (is_some p ≡ true) ⊎ (oldest q ≡ oldest x.requests) ⊎ (oldest q ≡ None) ⊎ (coordinator_of x ≡ None)
+NeedsNone x q p = (is_some p ≡ true) ⊎ ((oldest q ≡ oldest x.requests) × (q.age ≡ x.requests.age)) ⊎ (oldest q ≡ None) ⊎ (coordinator_of x ≡ None)
 
 -- ---- courses
 

@@ -1,0 +1,2 @@
+-- what only the proofs need
+pub mod Exchanges
