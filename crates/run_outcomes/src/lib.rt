@@ -13,13 +13,10 @@
 //! - `saves`, `stops`: where nodes stop, only in a save that the rules let them make there.
 //! - `phases`: how far the attempt of a coordinator is, as the lines tell it.
 //! - `tasks`: the tasks of coordinators at shared devices, and with them the device queue of each node. Whom an attempt asks to seize quorum devices, and what
-//!   these answer, is told by its lines, and which devices are valid to them by their Promises; the tasks that a coordinator has of its own are the seizings that its attempt asked it for.
-//! - `lines`: each line, and each part of a round, is answered, where the lines tell the queues of nodes.
-//! - `tasks`: the tasks of coordinators at shared devices, and with them the device queue of each node. Whom an attempt asks to seize quorum devices is told by
-//!   its lines; the tasks that a coordinator has of its own are the seizings that its attempt asked it for.
-//! - `reports`: a request to seize and an Install are answered in the event in which they come, or are work then; and a Seized, or a Ready, is sent after the last
-//!   device command of a task.
-//! - `tasks`: the tasks of coordinators at shared devices: whom an attempt asks to seize quorum devices.
+//!   these answer, is told by its lines, and which devices are valid to them by their Promises; the tasks that a coordinator has of its own are the seizings that
+//!   its attempt asked it for.
+//! - `lines`, `reports`: each line is answered, where the lines tell the queues of nodes; so are requests to seize and Installs, in the event in which they come
+//!   or once their tasks are over.
 //! - `silence`: for whose answers an attempt waits, as the lines tell what it has sent and what has come.
 //!
 //! Each function here is a law. It has no body, and its contract is proved of every header, every list of lines, everything that happens and
@@ -35,7 +32,6 @@ ghost use Rattle.run_outcomes.specs.saves.Laws.{LetterStopsOfEachRun};
 ghost use Rattle.run_outcomes.specs.stops.Laws.{TickStopsOfEachRun};
 ghost use Rattle.run_outcomes.specs.lines.Laws.{LinesByQueues};
 ghost use Rattle.run_outcomes.specs.silence.Laws.{CollectsAreMissing, LacksAreMissing};
-ghost use Rattle.run_outcomes.specs.tasks.Laws.{AsksAreTold};
 ghost use Rattle.run_outcomes.specs.phases.Laws.{CollectorsHaveNothingDue, NoneIsOver, PromisesAreTold, SeizingsAreTold, VotesAreTold};
 ghost use Rattle.run_outcomes.specs.tasks.Laws.{AskedMaySeize, AsksAreTold, OwnTasksAreAsked, SeizedsAreTold, ShownValid, ShowsAreTold};
 ghost use Rattle.run_outcomes.specs.reports.Laws.{ReportsWhereTold, TasksAreAnsweredWhereTold};

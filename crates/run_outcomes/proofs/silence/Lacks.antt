@@ -31,7 +31,7 @@ use Rattle.run_outcomes.specs.tasks.Asks.{IsEarly}
 use Rattle.run_outcomes.specs.phases.Laws.{PromisesTold, has_gathered, is_other}
 use Rattle.run_outcomes.specs.silence.Asked.{Answers, HasAnswered, IsSettledAt, Query, answers, asked_in, comes, has_plain, is_other_node}
 use Rattle.run_outcomes.specs.silence.AskedCourses.{AttemptTold, Late, to_install}
-use Rattle.run_outcomes.specs.silence.Laws.{has_readied, is_answered, is_ready_of, is_unanswered, questions, readies, seize_questions}
+use Rattle.history.specs.Attempts.{has_readied, is_answered, is_ready_of, is_unanswered, questions, readies, seize_questions}
 use Rattle.run_outcomes.specs.tasks.Laws.{AsksTold, has_asked, is_vote}
 use Rattle.run_outcomes.proofs.silence.Lines.{any_asked, seized_come}
 

@@ -21,7 +21,7 @@ use Rattle.history.specs.Setting.{all_to, coordinator}
 use Rattle.seize.specs.declared.kind.SeizeKind.{SeizeKind}
 use Rattle.seize.specs.declared.kind.SeizeKind.TheVariants.{Plain, Vote}
 use Rattle.run_outcomes.specs.silence.Asked.{Data, Query, asked_in, wants_plain}
-use Rattle.run_outcomes.specs.silence.Laws.{is_unanswered, questions, seize_questions}
+use Rattle.history.specs.Attempts.{is_unanswered, questions, seize_questions}
 use Rattle.run_outcomes.specs.tasks.Asks.{first_in}
 use Rattle.run_outcomes.specs.tasks.AsksGiven as given
 use Rattle.run_outcomes.specs.tasks.Laws.{SeizedsTold, but, is_vote, other_seizer}
