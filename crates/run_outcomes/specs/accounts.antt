@@ -1,2 +1,4 @@
 -- what a reader must believe
 pub mod Laws
+-- what only the proofs need
+pub mod Kept

@@ -6,6 +6,8 @@
 //!   (`specs/results/Paths`); how a seizing ended is told by the task, by its Seized and by the attempt, as the device lines show it since the attempt
 //!   began (`specs/results/Shown`); and what a record does not hold valid it did not hold so where its node promised, or began, the attempt of its session
 //!   (`specs/results/Tried`): but for a device that is seized without its votes, which is lost before the seizing, when all Promises are collected.
+//! - `accounts`: for which devices a start accounts. An attempt that installs has seized each device to which a member has a path, and each seizing has ended;
+//!   so each device is held, or its seizing ended as the device lines show it.
 //! - `exclusions`: whom attempts exclude. What a node has installed is no older than its last `installed` line says, and its Promise tells it with its
 //!   members.
 //! - `panics`: which nodes panic since an attempt excluded them. An attempt that excludes its own coordinator makes it panic; another node is told by an
@@ -26,6 +28,7 @@
 ghost use Rattle.run_outcomes.specs.counts.Laws.{CountedOfEachRun, ForeignOfEachRun, LackingOfEachRun, NeededOfEachRun};
 ghost use Rattle.run_outcomes.specs.results.Laws.{ResultsOfEachRun};
 ghost use Rattle.run_outcomes.specs.results.Paths.{PathsOfEachRun};
+ghost use Rattle.run_outcomes.specs.accounts.Laws.{AccountsOfEachRun};
 ghost use Rattle.run_outcomes.specs.exclusions.Laws.{ExclusionsOfEachRun};
 ghost use Rattle.run_outcomes.specs.panics.Laws.{ExclusionsAreToldInEachRun};
 ghost use Rattle.run_outcomes.specs.saves.Laws.{LetterStopsOfEachRun};
@@ -72,6 +75,13 @@ pub fn paths_of_each_run()
 /// keys that a member read there since then lack its own; or its own record did not hold the device valid where it promised the attempt, or began it.
 pub fn results_of_each_run()
     ensures { ResultsOfEachRun }
+{}
+
+/// Where a membership starts, it accounts for each device of the header that has votes by its base: the device is held, or no member has a path to it, or device lines
+/// of a member since the attempt began show the greater word, the expelled member, the contended device or the failed command, or no attached member may seize it. For
+/// another device it accounts so too, but in place of the last some attached member may not seize it.
+pub fn accounts_of_each_run()
+    ensures { AccountsOfEachRun }
 {}
 
 /// Where an attempt ends and excludes a node, an earlier attempt left that node out and had another member of this one. Its number is above the newest

@@ -19,7 +19,6 @@ use Rattle.pgr_device.specs.declared.command.PrCommand.TheVariants as command
 use Rattle.status_report.specs.declared.device_entry.DeviceAnswer.TheVariants.{Given}
 use Rattle.run_seizings.proofs.Progress.{no_truth, or_both}
 use Rattle.run_outcomes.proofs.results.Stays.{both_true}
-use Rattle.run_outcomes.specs.accounts.Laws.{is_shown_lost}
 use Rattle.run_outcomes.specs.results.Shown.{EndShown}
 
 -- ---- by how a seizing ended
@@ -62,6 +61,14 @@ fourth_of_five false false true d f k = refl
 fourth_of_five false false false true f k = refl
 fourth_of_five false false false false f k = absurd (no_truth k)
 
+pub fifth_of_five : (a b c d f : Bool) → f ≡ true → (a || b || c || d || f) ≡ true
+fifth_of_five true b c d f k = refl
+fifth_of_five false true c d f k = refl
+fifth_of_five false false true d f k = refl
+fifth_of_five false false false true f k = refl
+fifth_of_five false false false false true k = refl
+fifth_of_five false false false false false k = absurd (no_truth k)
+
 -- a word that was read or found is the greater one
 same_word : (e w v : ℕ) → (v == w) ≡ true → nat_lt e w ≡ true → nat_lt e v ≡ true
 same_word e w v i j = grind arith
@@ -96,8 +103,21 @@ contended_so h members d key m before (device n x command.Keys (Given (answer.Ke
     (both_true ((n == m) && (x == d)) (not (list_all (is_members_key h members) keys)) parts.0 (not_all (is_members_key h members) key keys parts.1)) two.1
 contended_so h members d key m before _ k = absurd (no_truth k)
 
+-- device lines show that d is lost
+abbrev pub is_shown_lost : Header → ℕ → ℕ → List Moment → Bool
+is_shown_lost h e d before =
+    some_member e before (shows_greater e d) || is_ended_so h e d before Expelled || some_member e before (shows_contention h (members_of e before) d)
+    || is_ended_so h e d before Fault || false
+
+pub first_four : (a b c d f : Bool) → (a || b || c || d || false) ≡ true → (a || b || c || d || f) ≡ true
+first_four true b c d f k = refl
+first_four false true c d f k = refl
+first_four false false true d f k = refl
+first_four false false false true f k = refl
+first_four false false false false f k = absurd (no_truth k)
+
 -- a seizing that ended otherwise than held, or not registered
-abbrev IsOther : SeizeResult → Type 0
+abbrev pub IsOther : SeizeResult → Type 0
 IsOther (end.Held keys) = ⊥
 IsOther (end.NotRegistered keys) = ⊥
 IsOther _ = Unit {0}

@@ -1,15 +1,14 @@
 -- The votes that an attempt was given are those of the newest record in hand, by the lines.
-use Rattle.std.specs.Prelude.{ℕ, ◌==◌, ◌&&◌, ◌||◌, ◌≡◌, ◌++◌, not, nat_lt, Bool, true, false, List, [], ◌∷◌, length, take, Option, None, Some, IfSome, unwrap_or, option_map, if◌then◌else◌}
+use Rattle.std.specs.Prelude.{ℕ, ◌==◌, ◌&&◌, ◌||◌, ◌≡◌, not, nat_lt, Bool, true, false, List, [], ◌∷◌, length, take, Option, None, Some, IfSome, unwrap_or, option_map, if◌then◌else◌}
 use Rattle.std.specs.List.{AllByRecursion, find, list_any}
 use Rattle.std.specs.Option.{option_and_then}
 use Rattle.std.proofs.Common.{arith, refl, sym, ap, subst, ◌∙◌, inl, inr}
 use Rattle.attempt_laws.proofs.Goes.{ChosenIn, IsChosen, chosen_reached}
 use Rattle.attempt_laws.specs.Machine.{IsAnswer, record_in}
-use Rattle.ccr_commit.specs.Entries.{listed}
 use Rattle.cmm_attempt.proofs.Basics.{false_true, none_some, same_number, same_some}
 use Rattle.cmm_attempt.specs.Attempts.{AttemptState}
-use Rattle.cmm_attempt.specs.Counts.{is_enabled, is_enabled_pending, is_enabled_state}
-use Rattle.cmm_attempt.specs.Promises.{is_from, promised_by, shown_by}
+use Rattle.cmm_attempt.specs.Counts.{is_enabled, is_enabled_pending}
+use Rattle.cmm_attempt.specs.Promises.{is_from}
 use Rattle.cmm_attempt.specs.declared.counting.BothVotes.{BothVotes}
 use Rattle.cmm_attempt.specs.declared.phase.Phase.{Phase}
 use Rattle.cmm_attempt.specs.declared.phase.Phase.TheVariants.{Choosing, Collecting, Installing, Over, SeizingOthers, SeizingVotes}
@@ -30,16 +29,11 @@ use Rattle.node_model.specs.Seats.{record_of}
 use Rattle.node_model.specs.declared.cluster.Cluster.{Cluster}
 use Rattle.quorum_votes.specs.Tables.{VoteTable}
 use Rattle.quorum_votes.specs.Votes.{device_at, state_of}
-use Rattle.quorum_votes.specs.declared.state.DevState.{DevState}
-use Rattle.quorum_votes.specs.declared.state.DevState.TheVariants.{Absent, Disabled, Enabled}
 use Rattle.refinement.proofs.Attempts.{seeking_not_counted}
 use Rattle.refinement.proofs.Given.{found_all}
-use Rattle.refinement.proofs.Logs.{committed_votes, pending_votes}
 use Rattle.refinement.specs.Ties.{GivenIn, NodeTied, Seeks, ShowsLog, setting_of, votes_under}
-use Rattle.wire.specs.declared.message.Body.{Body}
-use Rattle.wire.specs.declared.message.Body.TheVariants as body
-use Rattle.wire.specs.declared.message.Message.{Message}
 use Rattle.run_outcomes.specs.counts.Facts.{AreOf}
+use Rattle.run_outcomes.proofs.accounts.Votes.{enabled_so, shown_of}
 use Rattle.run_outcomes.proofs.counts.Ended.{Tied, tied_of}
 use Rattle.run_outcomes.proofs.counts.InHand.{HasNewestOf, committed_is, in_hand}
 use Rattle.run_outcomes.proofs.counts.Newest.{Found, has_newest, newest_found}
@@ -55,26 +49,6 @@ use Rattle.run_outcomes.proofs.phases.Runs.{knows_at}
 use Rattle.run_outcomes.specs.phases.Laws.{CountsFor, NewestCounts, VotesAreTold, is_seizing}
 
 -- ---- the votes of a record
-
-take_front : (xs ys : List (List ℕ)) → take (length xs) (xs ++ ys) ≡ xs
-take_front [] ys = refl
-take_front (x ∷ xs) ys = ap (λ (zs : List (List ℕ)). x ∷ zs) (take_front xs ys)
-
--- what a Promise shows
-shown_of : (c : Cluster) (n : ℕ) (m : Message) (p : Promised) (b : Body) → promised_by m (shown_by n b) ≡ Some p → ShowsLog c b → AreOf c (record_in b) (votes_shown c b)
-shown_of c n m p (body.Promise e installed members valid flagged committed pending) shown log = record {
-  committed = sym (ap (votes_under c) (take_front committed (listed pending)) ∙ committed_votes c committed pending log);
-  all = sym (pending_votes c committed pending log);
-}
-shown_of c n m p _ shown log = absurd (none_some p shown)
-
-same_enabled : (s : DevState) → told.is_enabled s ≡ is_enabled_state s
-same_enabled Enabled = refl
-same_enabled Disabled = refl
-same_enabled Absent = refl
-
-enabled_so : (v w : VoteTable) (d : ℕ) → v ≡ w → told.is_enabled (state_of (device_at v d)) ≡ is_enabled w d
-enabled_so v w d is = same_enabled (state_of (device_at v d)) ∙ ap (λ z. is_enabled z d) is
 
 pending_so : (v : VoteTable) (o : Option VoteTable) (d : ℕ) → (is_enabled v d || is_enabled (unwrap_or o v) d) ≡ (is_enabled v d || is_enabled_pending o d)
 pending_so v (Some w) d = refl

@@ -1,5 +1,5 @@
 -- What a node gives in its acts, by which no answer of a device comes, tells what is shown, and so does the node after them.
-use Rattle.std.specs.Prelude.{All, Bool, List, None, Some, [], false, true, ℕ, ◌∷◌, ◌≡◌, ◌≢◌, ◌<◌, ◌≤◌, ◌==◌, ◌⊎◌}
+use Rattle.std.specs.Prelude.{All, Bool, List, None, Some, [], false, length, true, ℕ, ◌+◌, ◌++◌, ◌∷◌, ◌≡◌, ◌≢◌, ◌<◌, ◌≤◌, ◌==◌, ◌⊎◌}
 use Rattle.std.specs.List.{AllByRecursion, list_any}
 use Rattle.std.proofs.Common.{ap, arith, inl, inr, refl, subst, sym, ◌∙◌}
 use Rattle.cl_base.specs.Sets.{has}
@@ -11,7 +11,11 @@ use Rattle.cl_base.specs.Seizings.{SeizeResult}
 use Rattle.cl_base.specs.declared.header.Header.{Header}
 use Rattle.cl_base.specs.declared.seizing.Lack.{Lack}
 use Rattle.cmm_attempt.specs.Attempts.{AttemptState}
-use Rattle.cmm_attempt.specs.Calls.{IsDevice, IsReached, turn}
+use Rattle.cmm_attempt.specs.Calls.{Call, IsDevice, IsReached, starts_in, turn}
+use Rattle.ccr_commit.specs.Entries.{all_committed, texts_of}
+use Rattle.cmm_member.specs.Nodes.{NodeState}
+use Rattle.cmm_attempt.specs.Seizings.{held_set}
+use Rattle.cmm_attempt.specs.declared.phase.Phase.TheVariants.{Installing}
 use Rattle.cmm_attempt.specs.declared.step.AttemptEnd.{AttemptEnd}
 use Rattle.cmm_attempt.specs.declared.step.AttemptEnd.TheVariants as end
 use Rattle.history.specs.Contact.{AttemptsDiffer, IsNew}
@@ -19,7 +23,10 @@ use Rattle.history.specs.Moment.{Moment, Told}
 use Rattle.history.specs.Order.{Always}
 use Rattle.history.specs.Seizing.{is_attempt}
 use Rattle.history.specs.Setting.{coordinator}
-use Rattle.node_model.specs.Attempts.{ended_entry}
+use Rattle.history.specs.Starts.{Start}
+use Rattle.history_setting.specs.Settings.{setting_of}
+use Rattle.node_model.specs.Attempts.{base_lines, ended_entry, started_entry}
+use Rattle.node_model.specs.declared.seat.Seat.TheVariants.{Forming}
 use Rattle.node_model.specs.Seats.{installed_of, session_of}
 use Rattle.node_model.specs.Ticks.{later}
 use Rattle.node_model.specs.declared.cluster.Cluster.{Cluster}
@@ -28,24 +35,32 @@ use Rattle.node_model.specs.declared.node.Node.TheVariants.{Up}
 use Rattle.node_model.specs.declared.node.UpNode.{UpNode}
 use Rattle.node_model.specs.declared.output.Output.{Output}
 use Rattle.node_model.specs.declared.output.Output.TheVariants.{Sends, Tells}
-use Rattle.refinement.specs.Doings.{Act, Change, acted, said}
+use Rattle.refinement.specs.Doings.{Act, Change, acted, last_lines, said}
 use Rattle.refinement.specs.Doings.Act.{Accepts, Dates, Ends, Gives, Goes_on, Hears, Makes, Minds, Notes, Queues, Spreads, Stores, Takes, Ticks, Waits, Works, Writes}
 use Rattle.refinement.specs.Doings.Change.{Admits, Counts, Starts}
-use Rattle.refinement.specs.Guards.{MayAct, MayChange, MayWrite}
+use Rattle.refinement.proofs.Attempts.{may_be_called}
+use Rattle.refinement.specs.Guards.{MayAct, MayCall, MayChange, MayWrite}
 use Rattle.refinement.specs.Ties.{Delivered}
 use Rattle.run_outcomes.proofs.counts.Short.{call_short}
 use Rattle.run_outcomes.specs.counts.Ends.{ActFits, IsGivenBy, Last, last_by, last_by_change}
 use Rattle.run_outcomes.specs.counts.Shorts.{ShortBy}
+use Rattle.run_history.proofs.Walk.{passing_append}
 use Rattle.run_history.specs.Guards.{AtAct, AtWrite, Hand, IsPlainBody, MadeAt, TellsEnd}
 use Rattle.run_history.specs.Marks.{ActSo}
 use Rattle.run_history.specs.Scenes.{Scene, passing, telling}
 use Rattle.status_report.specs.declared.attempt_entry.AttemptEntry.TheVariants as attempt_entry
 use Rattle.status_report.specs.declared.entry.Entry.TheVariants as entry
+use Rattle.status_report.specs.declared.start_entry.StartEntry.{StartEntry}
+use Rattle.status_report.specs.declared.start_entry.StartEntry.TheVariants as start_entry
 use Rattle.wire.specs.declared.message.Body.{Body}
 use Rattle.wire.specs.declared.message.Body.TheVariants as body
-use Rattle.run_outcomes.proofs.results.Calm.{AllCalm, IsMute, IsPlain, made_calm, minor_calm, spread_calm, ticked_calm, write_calm}
+use Rattle.run_outcomes.proofs.results.Calm.{AllCalm, AllMute, IsMute, IsPlain, all_mute, made_calm, made_mute, minor_calm, opened_calm, opened_lines, spread_calm, ticked_calm, write_calm}
+use Rattle.run_outcomes.proofs.accounts.Opening.{Opening, opened, opened_more, opening_shown}
+use Rattle.run_outcomes.proofs.accounts.Starting.{start_explained}
+use Rattle.run_outcomes.proofs.accounts.Votes.{Installed}
+use Rattle.run_outcomes.specs.accounts.Kept.{AreExplained}
 use Rattle.run_outcomes.proofs.results.Lacking.{lacks_shown, one_of}
-use Rattle.run_outcomes.proofs.results.Passing.{Lasts, idle_ends, idle_spares, passing_lasts, posting_lasts}
+use Rattle.run_outcomes.proofs.results.Passing.{Lasts, idle_ends, idle_spares, passing_all, passing_lasts, posting_lasts}
 use Rattle.run_outcomes.proofs.results.Stays.{hand_stays, node_stays, says_stay}
 use Rattle.run_outcomes.proofs.results.Tasks.{Ended, ended_shown}
 use Rattle.run_outcomes.proofs.results.Ups.{IsOpen, NoneLate, attempt_of}
@@ -112,10 +127,13 @@ mute_says h past top ms n (body.Seized e d r) k = absurd k
 mute_says h past top ms n (body.Promise e last members valid flagged committed pending) k = absurd k
 mute_says h past top ms n _ k = tt
 
+pub muted_says : (h : Header) (past : Collected) (n : ℕ) (top : ℕ → ℕ) (ms : List Moment) (os : List Output) → AllMute os → AllByRecursion (OutShown h past n top ms) os
+muted_says h past n top ms [] k = tt
+muted_says h past n top ms (Tells e ∷ os) k = (tt, muted_says h past n top ms os k.1)
+muted_says h past n top ms (Sends to b ∷ os) k = (mute_says h past top ms n b k.0, muted_says h past n top ms os k.1)
+
 pub calm_says : (h : Header) (past : Collected) (n : ℕ) (top : ℕ → ℕ) (ms : List Moment) (os : List Output) → AllCalm os → AllByRecursion (OutShown h past n top ms) os
-calm_says h past n top ms [] k = tt
-calm_says h past n top ms (Tells e ∷ os) k = (tt, calm_says h past n top ms os k.1)
-calm_says h past n top ms (Sends to b ∷ os) k = (mute_says h past top ms n b k.0, calm_says h past n top ms os k.1)
+calm_says h past n top ms os k = muted_says h past n top ms os (all_mute os k)
 
 outs_stay : (h : Header) (past : Collected) (n : ℕ) (top : ℕ → ℕ) (ms : List Moment) (x : Moment) (os : List Output) → IsNew ms x → AllByRecursion (OutShown h past n top ms) os → AllByRecursion (OutShown h past n top (x ∷ ms)) os
 outs_stay h past n top ms x [] new k = tt
@@ -138,6 +156,77 @@ calm_done h past n told f top node other last more os s calm up so k = record {
       (passing_lasts (Goes h past n told f node last) (goes_last h past n told f node last) n os s calm k);
   says = λ differ. calm_says h past n top (passing n os s).moments os calm;
 }
+
+-- ---- a start
+
+-- where the attempt of a node has installed, it was given the votes of the base that the node has
+abbrev pub StartsBy : Header → Cluster → UpNode → Type 0
+StartsBy h c x = (a : AttemptState) (y : NodeState) → x.attempt ≡ Some a → x.seat ≡ Forming y → a.phase ≡ Installing → Installed (setting_of h) c a (texts_of y.saved.entries)
+
+line_goes : (h : Header) (past : Collected) (n : ℕ) (told : Delivered) (f : ℕ → ℕ) (x : UpNode) (last : Last) (e : StartEntry) (ms : List Moment) → EndsShown h ms (Told (entry.Start e)) → Goes h past n told f (Up x) last ms
+    → Goes h past n told f (Up x) last (Told (entry.Start e) ∷ ms)
+line_goes h past n told f x last e ms ends g differ =
+    let z : Now h past n told f (Up x) last ms = g differ.1 in
+    record {
+      here = node_stays h past ms (Told (entry.Start e)) n (Up x) tt tt z.here;
+      hand = hand_stays h past f ms (Told (entry.Start e)) told tt z.hand;
+      lines = (ends, z.lines);
+      reached = z.reached;
+      fresh = z.fresh;
+      begun = λ q gone. begun_stays ms (Told (entry.Start e)) q (z.begun q gone);
+    }
+
+-- the lines of its base
+bases_go : (h : Header) (past : Collected) (n : ℕ) (told : Delivered) (f : ℕ → ℕ) (x : UpNode) (last : Last) (st : Start) (before : List Moment) (updates done left : List (List ℕ)) (e v : ℕ) (s : Scene)
+    → updates ≡ done ++ left → st.count ≡ length updates → AreExplained (setting_of h) st updates before → Opening st before done s.moments → Goes h past n told f (Up x) last s.moments
+    → Goes h past n told f (Up x) last (passing n (base_lines e v left) s).moments
+bases_go h past n told f x last st before updates done [] e v s cut count explained k g = g
+bases_go h past n told f x last st before updates done (words ∷ left) e v s cut count explained k g =
+    let next : Opening st before (done ++ words ∷ []) (Told (entry.Start (start_entry.Base e (v + 1) words)) ∷ s.moments) = opened_more st before done s.moments e (v + 1) words k in
+    let rest : updates ≡ (done ++ words ∷ []) ++ left = cut ∙ one_further done words left in
+    bases_go h past n told f x last st before updates (done ++ words ∷ []) left e (v + 1) (telling (entry.Start (start_entry.Base e (v + 1) words)) s) rest count explained next
+    (line_goes h past n told f x last (start_entry.Base e (v + 1) words) s.moments (opening_shown (setting_of h) st before updates (done ++ words ∷ []) left _ rest count explained next) g)
+  where
+    one_further : (xs : List (List ℕ)) (y : List ℕ) (ys : List (List ℕ)) → xs ++ y ∷ ys ≡ (xs ++ y ∷ []) ++ ys
+    one_further [] y ys = refl
+    one_further (z ∷ xs) y ys = ap (λ (us : List (List ℕ)). z ∷ us) (one_further xs y ys)
+
+-- where an attempt starts, it accounts for each device
+pub starts_goes : (h : Header) (past : Collected) (c : Cluster) (n : ℕ) (told : Delivered) (f : ℕ → ℕ) (x : UpNode) (a : AttemptState) (k : Call) (y : NodeState) (last : Last) (s : Scene) → OfHeader h c → StartsBy h c x
+    → x.attempt ≡ Some a → x.seat ≡ Forming y → MayCall c told a k → starts_in (turn a k).steps ≡ true → Goes h past n told f (Up x) last s.moments
+    → AttemptsDiffer (passing n (last_lines c n x (Starts a k y)) s).moments → Now h past n told f (Up x) last (passing n (last_lines c n x (Starts a k y)) s).moments
+starts_goes h past c n told f x a k y last s id votes is seat may starts g differ =
+    subst (λ (r : Scene). AttemptsDiffer r.moments → Now h past n told f (Up x) last r.moments) (sym (passing_append n (base_lines t.plan.epoch 0 updates) (opened_lines c n x t y) opening))
+    (passing_lasts (Goes h past n told f (Up x) last) (goes_last h past n told f (Up x) last) n (opened_lines c n x t y) (passing n (base_lines t.plan.epoch 0 updates) opening) (opened_calm c n x t y) told_all) differ
+  where
+    t : AttemptState
+    t = (turn a k).after
+
+    updates : List (List ℕ)
+    updates = (all_committed y.saved.entries).committed
+
+    st : Start
+    st = record { epoch = t.plan.epoch; members = t.plan.members; held = held_set t.devices; count = length updates }
+
+    opening : Scene
+    opening = telling (entry.Start (started_entry t (length updates))) s
+
+    explained : Now h past n told f (Up x) last s.moments → AreExplained (setting_of h) st updates s.moments
+    explained z =
+        start_explained h c s.moments (session_of x) updates a k (length updates) id.few (attempt_of h s.moments (session_of x) x.attempt a is z.here.attempt) (may_be_called c told a k may) starts
+        (λ at. votes a y is seat at)
+
+    first : Now h past n told f (Up x) last s.moments → Opening st s.moments [] opening.moments
+    first z = opened t.plan.epoch t.plan.members (held_set t.devices) (length updates) s.moments
+
+    told_all : Goes h past n told f (Up x) last (passing n (base_lines t.plan.epoch 0 updates) opening).moments
+    told_all later =
+        let z : Now h past n told f (Up x) last s.moments = g (earlier later) in
+        bases_go h past n told f x last st s.moments updates [] updates t.plan.epoch 0 opening refl refl (explained z) (first z)
+        (line_goes h past n told f x last (started_entry t (length updates)) s.moments (opening_shown (setting_of h) st s.moments updates [] updates _ refl refl (explained z) (first z)) g) later
+      where
+        earlier : AttemptsDiffer (passing n (base_lines t.plan.epoch 0 updates) opening).moments → AttemptsDiffer s.moments
+        earlier = passing_all (λ ms. AttemptsDiffer ms → AttemptsDiffer s.moments) (λ z ms l more. l more.1) n (base_lines t.plan.epoch 0 updates) opening (λ l. l.1)
 
 -- ---- acts
 
@@ -266,9 +355,9 @@ act_reached h past c n told f x (Makes ch) last ms may z = change_reached h past
 act_reached h past c n told f x _ last ms may z = tt
 
 pub act_done : (h : Header) (past : Collected) (c : Cluster) (n : ℕ) (told : Delivered) (f top : ℕ → ℕ) (g : Hand) (x : UpNode) (a : Act) (last : Last) (s : Scene) → All IsDevice c.attached → OfHeader h c
-    → MayAct c n told x a → AtAct n told g x a → ActFits last x a → ActSo a → NoneLate f x → NoneNewer top x → IsOpen x → Goes h past n told f (Up x) last s.moments
+    → MayAct c n told x a → AtAct n told g x a → ActFits last x a → ActSo a → NoneLate f x → NoneNewer top x → IsOpen x → StartsBy h c x → Goes h past n told f (Up x) last s.moments
     → Done h past n told f top (Up (acted c n x a)) (last_by last a) (said c n x a) (passing n (said c n x a) s).moments
-act_done h past c n told f top g x a last s fits id may at ends so late newer opens k = by_act a may at ends so
+act_done h past c n told f top g x a last s fits id may at ends so late newer opens votes k = by_act a may at ends so
   where
     made_so : (b : Act) → AtAct n told g x b → (ch : Change) → b ≡ Makes ch → MadeAt ch
     made_so b l ch is = subst (AtAct n told g x) is l
@@ -294,7 +383,12 @@ act_done h past c n told f top g x a last s fits id may at ends so late newer op
     by_act (Accepts kind f members d) m l e o = calm (Accepts kind f members d) m l tt
     by_act (Takes on command a) m l e o = absurd l
     by_act (Stores d value a) m l e o = calm (Stores d value a) m l (tt, write_calm n x d value a)
-    by_act (Makes ch) m l e o = calm (Makes ch) m l (made_calm c n x ch (made_plain told x n g ch l))
+    by_act (Makes (Starts b q y)) m l e o = record {
+      goes = goes_to h past n told f (Up x) (Up (acted c n x (Makes (Starts b q y)))) last (last_by last (Makes (Starts b q y))) _ (up (Makes (Starts b q y)) m l _)
+          (λ z. act_reached h past c n told f x (Makes (Starts b q y)) last _ m z) (starts_goes h past c n told f x b q y last s id votes m.0.0 m.0.1 m.0.2 m.0.3 k);
+      says = λ differ. muted_says h past n top _ (said c n x (Makes (Starts b q y))) (made_mute c n x (Starts b q y) tt);
+    }
+    by_act (Makes ch) m l e o = calm (Makes ch) m l (made_calm c n x ch (made_plain told x n g ch l) tt)
     by_act (Gives os) m l e o = calm (Gives os) m l (minor_calm os o m)
     by_act (Spreads receivers b) m l e o = calm (Spreads receivers b) m l (spread_calm receivers b (plain_mute b l))
     by_act (Minds q p) m l e o = calm (Minds q p) m l tt

@@ -1,4 +1,4 @@
--- Most of what a node gives tells of no end for want of votes, of no command at a device but a write, and neither asks for a seizing nor says how one ended.
+-- Most of what a node gives tells of no end for want of votes, of no start, of no command at a device but a write, and neither asks for a seizing nor says how one ended.
 use Rattle.std.specs.Prelude.{ℕ, ◌+◌, ◌++◌, List, [], ◌∷◌, Option, None, Some, Ok}
 use Rattle.std.specs.List.{AllByRecursion}
 use Rattle.ccr_commit.specs.Entries.{all_committed}
@@ -24,7 +24,7 @@ use Rattle.node_model.specs.declared.presidency.Presidency.{Presidency}
 use Rattle.pgr_device.specs.declared.command.PrAnswer.TheVariants as given
 use Rattle.pgr_device.specs.declared.command.PrCommand.{PrCommand}
 use Rattle.pgr_device.specs.declared.command.PrCommand.TheVariants as command
-use Rattle.refinement.specs.Doings.{Change, adopted_by, first_lines, gone_line, last_lines, saved_lines, start_lines, superseded_lines, write_lines}
+use Rattle.refinement.specs.Doings.{Change, adopted_by, first_lines, gone_line, last_lines, saved_lines, superseded_lines, write_lines}
 use Rattle.refinement.specs.Doings.Change.{Acks, Admits, Commits, Counts, Distrusts, Installs, Leads, Prepares, Promises, Proposes, Sits, Starts}
 use Rattle.refinement.specs.Guards.{TellNothing, TellsNothing}
 use Rattle.request_queue.specs.Queue as queue
@@ -40,7 +40,9 @@ use Rattle.status_report.specs.declared.attempt_entry.AttemptEntry.TheVariants a
 use Rattle.status_report.specs.declared.device_entry.DeviceEntry.TheVariants as device_entry
 use Rattle.status_report.specs.declared.entry.Entry.{Entry}
 use Rattle.status_report.specs.declared.entry.Entry.TheVariants as entry
+use Rattle.status_report.specs.declared.node_entry.NodeEntry.TheVariants as note
 use Rattle.status_report.specs.declared.node_entry.DownCause.{DownCause}
+use Rattle.status_report.specs.declared.start_entry.StartEntry.TheVariants as start_entry
 use Rattle.wire.specs.declared.message.Body.{Body}
 use Rattle.wire.specs.declared.message.Body.TheVariants as body
 
@@ -51,6 +53,8 @@ IsWrite _ = ⊥
 abbrev pub IsCalm : Entry → Type 0
 IsCalm (entry.Device (device_entry.Command m d c a)) = IsWrite c
 IsCalm (entry.Attempt (attempt_entry.Votes e have need lacking)) = ⊥
+IsCalm (entry.Start (start_entry.Started e members held count)) = ⊥
+IsCalm (entry.Start (start_entry.Base e v words)) = ⊥
 IsCalm (entry.Packet e) = ⊥
 IsCalm _ = Unit {0}
 
@@ -68,6 +72,19 @@ GivesCalm (Sends to b) = IsMute b
 abbrev pub AllCalm : List Output → Type 0
 AllCalm os = AllByRecursion GivesCalm os
 
+-- what is said alone
+abbrev pub GivesMute : Output → Type 0
+GivesMute (Tells e) = Unit {0}
+GivesMute (Sends to b) = IsMute b
+
+abbrev pub AllMute : List Output → Type 0
+AllMute os = AllByRecursion GivesMute os
+
+pub all_mute : (os : List Output) → AllCalm os → AllMute os
+all_mute [] k = tt
+all_mute (Tells e ∷ os) k = (tt, all_mute os k.1)
+all_mute (Sends to b ∷ os) k = (k.0, all_mute os k.1)
+
 -- ---- the lines of changes
 
 superseded_calm : (p : ℕ) (o : Option AttemptState) → AllCalm (superseded_lines p o)
@@ -78,9 +95,9 @@ pub unknown_calm : (me : ℕ) (rs : List Request) → AllCalm (unknown_lines me 
 unknown_calm me [] = tt
 unknown_calm me (r ∷ rs) = both GivesCalm (unknown_line me r) (unknown_lines me rs) (if_either AllCalm r.told _ [] (tt, tt) tt) (unknown_calm me rs)
 
-base_calm : (e before : ℕ) (texts : List (List ℕ)) → AllCalm (base_lines e before texts)
-base_calm e before [] = tt
-base_calm e before (text ∷ texts) = (tt, base_calm e (before + 1) texts)
+base_mute : (e before : ℕ) (texts : List (List ℕ)) → AllMute (base_lines e before texts)
+base_mute e before [] = tt
+base_mute e before (text ∷ texts) = (tt, base_mute e (before + 1) texts)
 
 line_calm : (e n : ℕ) (r : List ℕ) (s : ResourceAt) → AllCalm (adopted_line e n r s)
 line_calm e n r s = if_either AllCalm (is_adopted s) _ [] (tt, tt) tt
@@ -95,25 +112,41 @@ adopted_of_calm : (e : ℕ) (s : ConfigState) (o : Option Presidency) → AllCal
 adopted_of_calm e s None = tt
 adopted_of_calm e s (Some p) = adopted_calm e p.groups.view s.groups.resources
 
-starts_calm : (a : AttemptState) (s : NodeState) → AllCalm (start_lines a s)
-starts_calm a s = (tt, base_calm a.plan.epoch 0 (all_committed s.saved.entries).committed)
+-- what follows the lines of a start
+abbrev pub opened_lines : Cluster → ℕ → UpNode → AttemptState → NodeState → List Output
+opened_lines c me x t s = adopted_by c t (starting_as c me x t s) ++ Tells (entry.Node me (note.Member t.plan.epoch)) ∷ []
 
-pub last_calm : (c : Cluster) (me : ℕ) (x : UpNode) (change : Change) → AllCalm (last_lines c me x change)
-last_calm c me x (Promises p) = both GivesCalm (superseded_lines p x.attempt) (unknown_lines me x.requests.waiting) (superseded_calm p x.attempt) (unknown_calm me x.requests.waiting)
-last_calm c me x (Leads p members) = (tt, unknown_calm me x.requests.waiting)
-last_calm c me x (Counts a k s i) = (tt, tt)
-last_calm c me x (Installs s i) = (tt, tt)
-last_calm c me x (Starts a k s) =
-    let t : AttemptState = (turn a k).after in
+pub opened_calm : (c : Cluster) (me : ℕ) (x : UpNode) (t : AttemptState) (s : NodeState) → AllCalm (opened_lines c me x t s)
+opened_calm c me x t s =
     let y : UpNode = starting_as c me x t s in
-    both GivesCalm (start_lines t s) _ (starts_calm t s) (both GivesCalm (adopted_by c t y) _ (adopted_of_calm t.plan.epoch (in_force c y) y.presidency) (tt, tt))
-last_calm c me x (Sits s e) = (tt, tt)
-last_calm c me x (Distrusts d) = tt
-last_calm c me x (Admits at command a d) = tt
-last_calm c me x (Proposes s p text) = tt
-last_calm c me x (Acks s p q left text) = (tt, tt)
-last_calm c me x (Prepares s text) = tt
-last_calm c me x (Commits s) = tt
+    both GivesCalm (adopted_by c t y) _ (adopted_of_calm t.plan.epoch (in_force c y) y.presidency) (tt, tt)
+
+-- a change that starts no membership
+abbrev pub IsStill : Change → Type 0
+IsStill (Starts a k s) = ⊥
+IsStill _ = Unit {0}
+
+pub last_calm : (c : Cluster) (me : ℕ) (x : UpNode) (change : Change) → IsStill change → AllCalm (last_lines c me x change)
+last_calm c me x (Promises p) still = both GivesCalm (superseded_lines p x.attempt) (unknown_lines me x.requests.waiting) (superseded_calm p x.attempt) (unknown_calm me x.requests.waiting)
+last_calm c me x (Leads p members) still = (tt, unknown_calm me x.requests.waiting)
+last_calm c me x (Counts a k s i) still = (tt, tt)
+last_calm c me x (Installs s i) still = (tt, tt)
+last_calm c me x (Starts a k s) still = absurd still
+last_calm c me x (Sits s e) still = (tt, tt)
+last_calm c me x (Distrusts d) still = tt
+last_calm c me x (Admits at command a d) still = tt
+last_calm c me x (Proposes s p text) still = tt
+last_calm c me x (Acks s p q left text) still = (tt, tt)
+last_calm c me x (Prepares s text) still = tt
+last_calm c me x (Commits s) still = tt
+
+pub last_mute : (c : Cluster) (me : ℕ) (x : UpNode) (change : Change) → AllMute (last_lines c me x change)
+last_mute c me x (Starts a k s) = (
+  tt,
+  both GivesMute (base_lines (turn a k).after.plan.epoch 0 (all_committed s.saved.entries).committed) _ (base_mute (turn a k).after.plan.epoch 0 (all_committed s.saved.entries).committed)
+      (all_mute (opened_lines c me x (turn a k).after s) (opened_calm c me x (turn a k).after s)),
+)
+last_mute c me x change = all_mute (last_lines c me x change) (last_calm c me x change tt)
 
 -- a change of which no answer of a device is told
 abbrev pub IsPlain : Change → Type 0
@@ -134,11 +167,17 @@ first_calm me (Acks s p q left text) h = tt
 first_calm me (Prepares s text) h = tt
 first_calm me (Commits s) h = tt
 
-pub saved_calm : (c : Cluster) (me : ℕ) (x : UpNode) (change : Change) → IsPlain change → AllCalm (first_lines me change ++ saved_lines c me x change)
-saved_calm c me x change plain = both GivesCalm (first_lines me change) (saved_lines c me x change) (first_calm me change plain) (tt, last_calm c me x change)
+pub saved_calm : (c : Cluster) (me : ℕ) (x : UpNode) (change : Change) → IsPlain change → IsStill change → AllCalm (first_lines me change ++ saved_lines c me x change)
+saved_calm c me x change plain still = both GivesCalm (first_lines me change) (saved_lines c me x change) (first_calm me change plain) (tt, last_calm c me x change still)
 
-pub made_calm : (c : Cluster) (me : ℕ) (x : UpNode) (change : Change) → IsPlain change → AllCalm (first_lines me change ++ last_lines c me x change)
-made_calm c me x change plain = both GivesCalm (first_lines me change) (last_lines c me x change) (first_calm me change plain) (last_calm c me x change)
+pub made_calm : (c : Cluster) (me : ℕ) (x : UpNode) (change : Change) → IsPlain change → IsStill change → AllCalm (first_lines me change ++ last_lines c me x change)
+made_calm c me x change plain still = both GivesCalm (first_lines me change) (last_lines c me x change) (first_calm me change plain) (last_calm c me x change still)
+
+pub saved_mute : (c : Cluster) (me : ℕ) (x : UpNode) (change : Change) → IsPlain change → AllMute (first_lines me change ++ saved_lines c me x change)
+saved_mute c me x change plain = both GivesMute (first_lines me change) (saved_lines c me x change) (all_mute (first_lines me change) (first_calm me change plain)) (tt, last_mute c me x change)
+
+pub made_mute : (c : Cluster) (me : ℕ) (x : UpNode) (change : Change) → IsPlain change → AllMute (first_lines me change ++ last_lines c me x change)
+made_mute c me x change plain = both GivesMute (first_lines me change) (last_lines c me x change) (all_mute (first_lines me change) (first_calm me change plain)) (last_mute c me x change)
 
 pub lost_calm : (me : ℕ) (change : Change) (why : DownCause) → IsPlain change → AllCalm (first_lines me change ++ gone_line me why)
 lost_calm me change why plain = both GivesCalm (first_lines me change) (gone_line me why) (first_calm me change plain) (tt, tt)

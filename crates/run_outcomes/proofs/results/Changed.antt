@@ -87,6 +87,7 @@ leads_up h past c ms n p members told x fits id may of seat =
           cluster = begins.of_cluster ∙ id.id;
           places = subst (λ zs. AllByRecursion (IsPlaced h) zs) (sym begins.of_attached) id.places;
           apart = subst (λ zs. AreApart (numbers_of zs)) (sym begins.of_attached) id.apart;
+          all = begins.of_attached ∙ id.all;
         };
         promises = promises_first (PromiseShown h ms a.plan.epoch) p members (own_promise n z p) c.attached c.id
             (λ d. subst (λ q. Unheld h q d ms n (has (record_of x).valid d)) (sym epoch) (seat d));

@@ -70,7 +70,7 @@ promises_enter : (h : Header) (c : Cluster) (n : ℕ) (x : UpNode) (p : ℕ) (s 
     → Entered h (passing n (first_lines n (Promises p) ++ saved_lines c n x (Promises p)) s).moments n p x
 promises_enter h c n x p s other came asked agrees differ d is none =
     passing_lasts (λ ms. AttemptsDiffer ms → Without h p d ms n) (λ y ms idle k after. barred_stays h p d n y ms after.0 (k after.1)) n (last_lines c n x (Promises p))
-    (telling (entry.Node n note.Saved) s) (last_calm c n x (Promises p))
+    (telling (entry.Node n note.Saved) s) (last_calm c n x (Promises p) tt)
     (λ after. promised_so h n p d s.moments other came asked (not_valid (validity h n d s.moments) (has (record_of x).valid d) (agrees d is) none)) differ
 
 -- ---- an attempt

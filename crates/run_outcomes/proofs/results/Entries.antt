@@ -21,7 +21,7 @@ use Rattle.wire.specs.declared.message.Body.TheVariants as body
 use Rattle.wire.specs.declared.message.Message.{Message}
 use Rattle.run_outcomes.proofs.results.Apart.{found_awaits, mapped_apart, only_one, others_apart, votes_apart}
 use Rattle.run_outcomes.specs.results.Shown.{EntryTold, Fact, Rests}
-use Rattle.run_outcomes.proofs.results.Listed.{AllTold, AreLow, entries_told, next_among, next_keys, next_same, nexts_told, plains_told, result_same, results_told}
+use Rattle.run_outcomes.proofs.results.Listed.{AllTold, AreLow, entries_told, next_among, next_keys, next_path, next_same, nexts_told, plains_told, result_same, results_told}
 
 -- ---- phases
 
@@ -171,7 +171,8 @@ walk P a c planned tells = record {
         entries = nexts_told P s.plan s.promises d from n keys.0 e s.devices (record {
           awaited = found_awaits d from s.devices e found;
           told = subst (λ y. P.told d from y) keys.1 (tells d from r (i.before (seizing_before s.phase is)) (tells_at c s a d from r i.plan says));
-        }) ((plan_so s i.plan).low n (next_among s.plan.cluster s.promises s.plan.nodes e e.kind r n next)) (only_one d from s.devices e i.rests.apart found) i.rests.entries;
+        }) ((plan_so s i.plan).low n (next_among s.plan.cluster s.promises s.plan.nodes e e.kind r n next))
+            (next_among s.plan.cluster s.promises s.plan.nodes e e.kind r n next, next_path s.plan.cluster s.promises s.plan.nodes e e.kind r n next) (only_one d from s.devices e i.rests.apart found) i.rests.entries;
         apart = mapped_apart (with_next d n) (next_same d n) s.devices i.rests.apart;
       };
   seizing = λ s is e k. k.rests;

@@ -92,7 +92,7 @@ not_true true e = absurd (false_true e)
 not_true false e = refl
 
 -- who has promised so
-sent_without : (h : Header) (ms : List Moment) (e d n : ℕ) (ps : List Promised) → IsDevice h d → ShowsNot ps d n → AllByRecursion (PromiseShown h ms e) ps → is_unregistered h e d ms n ≡ true
+pub sent_without : (h : Header) (ms : List Moment) (e d n : ℕ) (ps : List Promised) → IsDevice h d → ShowsNot ps d n → AllByRecursion (PromiseShown h ms e) ps → is_unregistered h e d ms n ≡ true
 sent_without h ms e d n [] is some k = absurd (false_true some)
 sent_without h ms e d n (p ∷ ps) is some k =
     by_cases (or_cases (is_from n p && not (has p.shown.valid d)) (list_any (λ q. is_from n q && not (has q.shown.valid d)) ps) some) k.0 (λ more. sent_without h ms e d n ps is more k.1)
@@ -135,7 +135,7 @@ is_vote h ms v s z k listed counts = by_kind z.kind refl
     by_kind Plain is =
         absurd (false_true (sym (plain_has_no_votes s k.both z k.reached k.given listed is) ∙ has_quorum v k.both z.attached.device k.one counts))
 
-barred_all : (h : Header) (ms : List Moment) (v : VoteTable) (s : AttemptState) (z : Seizing) (keys : List ℕ) → Known h ms v s → EntryTold (Was h ms s.plan.epoch) s.plan s.promises z → z.kind ≡ Vote
+pub barred_all : (h : Header) (ms : List Moment) (v : VoteTable) (s : AttemptState) (z : Seizing) (keys : List ℕ) → Known h ms v s → EntryTold (Was h ms s.plan.epoch) s.plan s.promises z → z.kind ≡ Vote
     → z.result ≡ Some (end.NotRegistered keys) → Barred h ms s.plan.epoch z.attached.device
 barred_all h ms v s z keys k told kind result =
     subst (λ j. list_all (is_unregistered h e d ms) (attached_members h d j) ≡ true) (sym k.members)

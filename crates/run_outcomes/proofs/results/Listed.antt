@@ -1,10 +1,11 @@
 -- What an attempt has of its entries is what it was told: of those that are new, and of those that take an answer.
-use Rattle.std.specs.Prelude.{ℕ, ◌≡◌, ◌≤◌, ◌==◌, ◌&&◌, ◌||◌, ◌⊎◌, Bool, true, false, List, [], ◌∷◌, Option, None, Some, IfSome, find, is_none, map, if◌then◌else◌}
+use Rattle.std.specs.Prelude.{ℕ, ◌≡◌, ◌≤◌, ◌==◌, ◌&&◌, ◌||◌, ◌⊎◌, Bool, true, false, List, [], ◌∷◌, Option, None, Some, IfSome, find, is_none, map, not, if◌then◌else◌}
 use Rattle.std.specs.List.{AllByRecursion, filter_map, list_all, list_any}
 use Rattle.std.proofs.Common.{refl, sym, ap, subst, ◌∙◌, inl, inr}
 use Rattle.attempt_laws.proofs.MachineLemmas.{of_all}
 use Rattle.attempt_laws.proofs.Walk.{if_with}
 use Rattle.cl_base.proofs.SetLemmas.{has_with, none_of_zero, or_bit_value}
+use Rattle.cl_base.specs.Keys.{key_of}
 use Rattle.cl_base.specs.Sets.{has, set_with}
 use Rattle.cl_base.specs.Seizings.{SeizeResult}
 use Rattle.cl_base.specs.declared.seizing.SeizeEnd.TheVariants as end
@@ -36,7 +37,7 @@ AllTold P plan promises es = AllByRecursion (EntryTold P plan promises) es
 abbrev pub AreLow : List ℕ → Type 0
 AreLow nodes = (n : ℕ) → IsAmong n nodes → (1 ≤ n) × (n ≤ 32)
 
-set_more : (s k n : ℕ) → (1 ≤ k) × (k ≤ 32) → has (set_with s k) n ≡ ((n == k) || has s n)
+pub set_more : (s k n : ℕ) → (1 ≤ k) × (k ≤ 32) → has (set_with s k) n ≡ ((n == k) || has s n)
 set_more s k n low = ap (λ z. has z n) (sym (or_bit_value s k low.1)) ∙ has_with s k low.0 low.1 n
 
 found_among : (f : ℕ → Bool) (ns : List ℕ) (n : ℕ) → find f ns ≡ Some n → IsAmong n ns
@@ -46,6 +47,14 @@ found_among f (m ∷ ns) n is = by_test (f m) is (found_among f ns n)
     by_test : (b : Bool) → (if b then Some m else find f ns) ≡ Some n → (find f ns ≡ Some n → IsAmong n ns) → IsAmong n (m ∷ ns)
     by_test true here next = or_left (m == n) (list_any (λ j. j == n) ns) (subst (λ z. (z == n) ≡ true) (sym (same_some m n here)) (same_is n))
     by_test false there next = or_right (m == n) (list_any (λ j. j == n) ns) (next there)
+
+pub found_passes : (f : ℕ → Bool) (ns : List ℕ) (n : ℕ) → find f ns ≡ Some n → f n ≡ true
+found_passes f [] n is = absurd (none_some n is)
+found_passes f (m ∷ ns) n is = by_test (f m) refl is (found_passes f ns n)
+  where
+    by_test : (b : Bool) → f m ≡ b → (if b then Some m else find f ns) ≡ Some n → (find f ns ≡ Some n → f n ≡ true) → f n ≡ true
+    by_test true passes here next = subst (λ j. f j ≡ true) (same_some m n here) passes
+    by_test false fails there next = next there
 
 -- the one that is asked first
 first_asked : (P : Fact) (d m n : ℕ) → (1 ≤ m) × (m ≤ 32) → has (set_with 0 m) n ≡ true → (Some m ≡ Some n) ⊎ WasTried P d n
@@ -66,6 +75,7 @@ vote_told : (P : Fact) (plan : Plan) (promises : List Promised) (a : AttachedDev
     → list_all (has_promised promises) plan.nodes ≡ true → AreLow plan.nodes → P.place a → EntryTold P plan promises (vote_entry a o)
 vote_told P plan promises a None is all low place = record {
   place = place;
+  among = λ n seizer. absurd (none_some n seizer);
   told = λ n r seizer result. absurd (none_some n seizer);
   asked = λ n asked. absurd (no_one n asked);
   shows = λ n among not_valid. shows_not promises a.device n not_valid (of_all (has_promised promises) n plan.nodes all among);
@@ -74,6 +84,10 @@ vote_told P plan promises a None is all low place = record {
 }
 vote_told P plan promises a (Some m) is all low place = record {
   place = place;
+  among = λ n seizer.
+      let at : m ≡ n = same_some m n seizer in
+      subst (λ j. IsAmong j plan.nodes × (has a.nodes j ≡ true)) at
+      (found_among (may_seize promises a) plan.nodes m is, (and_cases (has a.nodes m) (holds_valid promises a.device m) (found_passes (may_seize promises a) plan.nodes m is)).0);
   told = λ n r seizer result. absurd (none_some r result);
   asked = λ n asked. first_asked P a.device m n (low m (found_among (may_seize promises a) plan.nodes m is)) asked;
   shows = λ n among not_valid. shows_not promises a.device n not_valid (of_all (has_promised promises) n plan.nodes all among);
@@ -100,6 +114,10 @@ plain_told : (P : Fact) (plan : Plan) (promises : List Promised) (a : AttachedDe
 plain_told P plan promises a None is all low place = tt
 plain_told P plan promises a (Some m) is all low place = record {
   place = place;
+  among = λ n seizer.
+      let at : m ≡ n = same_some m n seizer in
+      subst (λ j. IsAmong j plan.nodes × (has a.nodes j ≡ true)) at
+      (found_among (λ j. has a.nodes j) plan.nodes m is, found_passes (λ j. has a.nodes j) plan.nodes m is);
   told = λ n r seizer result. absurd (none_some r result);
   asked = λ n asked. first_asked P a.device m n (low m (found_among (λ j. has a.nodes j) plan.nodes m is)) asked;
   shows = λ n among not_valid. shows_not promises a.device n not_valid (of_all (has_promised promises) n plan.nodes all among);
@@ -127,6 +145,7 @@ ended_told : (P : Fact) (plan : Plan) (promises : List Promised) (d from : ℕ) 
     → next_by plan.cluster promises plan.nodes e e.kind r ≡ None → EntryTold P plan promises e → EntryTold P plan promises (record e { result = Some r })
 ended_told P plan promises d from r e f none k = record {
   place = k.place;
+  among = k.among;
   told = λ n z seizer same.
       subst (λ y. P.told e.attached.device n y) (same_some r z same)
       (subst (λ y. P.told e.attached.device y r) (same_some from n (sym (awaited_seizer d from e f.awaited) ∙ seizer))
@@ -159,6 +178,21 @@ next_keys cluster promises nodes e Vote (end.Contended key) m is = absurd (none_
 next_keys cluster promises nodes e Vote end.Fault m is = absurd (none_some m is)
 next_keys cluster promises nodes e Plain r m is = absurd (none_some m is)
 
+-- .. and who has a path there
+pub next_path : (cluster : ℕ) (promises : List Promised) (nodes : List ℕ) (e : Seizing) (kind : SeizeKind) (r : SeizeResult) (m : ℕ) → next_by cluster promises nodes e kind r ≡ Some m → has e.attached.nodes m ≡ true
+next_path cluster promises nodes e Vote (end.NotRegistered keys) m is =
+    first_true (has e.attached.nodes m) (holds_valid promises e.attached.device m) (not (has e.asked m)) (list_any (λ key. key == key_of cluster m) keys) (found_passes (may_follow cluster promises e keys) nodes m is)
+  where
+    first_true : (a b c d : Bool) → (a && b && c && d) ≡ true → a ≡ true
+    first_true true b c d i = refl
+    first_true false b c d i = absurd (false_true i)
+next_path cluster promises nodes e Vote (end.Held keys) m is = absurd (none_some m is)
+next_path cluster promises nodes e Vote (end.Greater w) m is = absurd (none_some m is)
+next_path cluster promises nodes e Vote end.Expelled m is = absurd (none_some m is)
+next_path cluster promises nodes e Vote (end.Contended key) m is = absurd (none_some m is)
+next_path cluster promises nodes e Vote end.Fault m is = absurd (none_some m is)
+next_path cluster promises nodes e Plain r m is = absurd (none_some m is)
+
 pub next_among : (cluster : ℕ) (promises : List Promised) (nodes : List ℕ) (e : Seizing) (kind : SeizeKind) (r : SeizeResult) (m : ℕ) → next_by cluster promises nodes e kind r ≡ Some m → IsAmong m nodes
 next_among cluster promises nodes e Vote (end.NotRegistered keys) m is = found_among (may_follow cluster promises e keys) nodes m is
 next_among cluster promises nodes e Vote (end.Held keys) m is = absurd (none_some m is)
@@ -173,9 +207,10 @@ no_result None x is some = none_some x some
 no_result (Some y) x is some = false_true is
 
 asked_told : (P : Fact) (plan : Plan) (promises : List Promised) (d from m : ℕ) (keys : List ℕ) (e : Seizing) → Answer P d from (end.NotRegistered keys) e → (1 ≤ m) × (m ≤ 32)
-    → EntryTold P plan promises e → EntryTold P plan promises (record e { seizer = Some m; asked = set_with e.asked m })
-asked_told P plan promises d from m keys e f low k = record {
+    → IsAmong m plan.nodes × (has e.attached.nodes m ≡ true) → EntryTold P plan promises e → EntryTold P plan promises (record e { seizer = Some m; asked = set_with e.asked m })
+asked_told P plan promises d from m keys e f low among k = record {
   place = k.place;
+  among = λ n seizer. subst (λ j. IsAmong j plan.nodes × (has e.attached.nodes j ≡ true)) (same_some m n seizer) among;
   told = λ n z seizer same. absurd (no_result e.result z (awaited_none d from e f.awaited) same);
   asked = λ n is. by_case n (or_cases (n == m) (has e.asked n) (sym (set_more e.asked m n low) ∙ is));
   shows = k.shows;
@@ -197,16 +232,16 @@ asked_told P plan promises d from m keys e f low k = record {
     by_case n (inr old) = was n (k.asked n old)
 
 pub nexts_told : (P : Fact) (plan : Plan) (promises : List Promised) (d from m : ℕ) (keys : List ℕ) (e : Seizing) (es : List Seizing) → Answer P d from (end.NotRegistered keys) e → (1 ≤ m) × (m ≤ 32)
-    → AllByRecursion (IsTheOne d e) es → AllTold P plan promises es → AllTold P plan promises (map (with_next d m) es)
-nexts_told P plan promises d from m keys e [] f low one k = tt
-nexts_told P plan promises d from m keys e (y ∷ es) f low one k = (
+    → IsAmong m plan.nodes × (has e.attached.nodes m ≡ true) → AllByRecursion (IsTheOne d e) es → AllTold P plan promises es → AllTold P plan promises (map (with_next d m) es)
+nexts_told P plan promises d from m keys e [] f low among one k = tt
+nexts_told P plan promises d from m keys e (y ∷ es) f low among one k = (
   if_with (EntryTold P plan promises) ((y.attached.device == d) && is_none y.result) ((y.attached.device == d) && is_none y.result)
       (record y { seizer = Some m; asked = set_with y.asked m }) y refl
       (λ is.
       let same : y ≡ e = one.0 (and_cases (y.attached.device == d) (is_none y.result) is).0 in
       subst (λ (z : Seizing). EntryTold P plan promises z → EntryTold P plan promises (record z { seizer = Some m; asked = set_with z.asked m })) (sym same)
-      (asked_told P plan promises d from m keys e f low) k.0) (λ is. k.0),
-  nexts_told P plan promises d from m keys e es f low one.1 k.1,
+      (asked_told P plan promises d from m keys e f low among) k.0) (λ is. k.0),
+  nexts_told P plan promises d from m keys e es f low among one.1 k.1,
 )
 
 -- what an answer leaves is of the same devices

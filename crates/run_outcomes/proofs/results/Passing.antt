@@ -13,6 +13,7 @@ use Rattle.status_report.specs.declared.attempt_entry.AttemptEntry.TheVariants a
 use Rattle.status_report.specs.declared.device_entry.DeviceEntry.TheVariants as device_entry
 use Rattle.status_report.specs.declared.entry.Entry.{Entry}
 use Rattle.status_report.specs.declared.entry.Entry.TheVariants as entry
+use Rattle.status_report.specs.declared.start_entry.StartEntry.TheVariants as start_entry
 use Rattle.status_report.specs.declared.packet_entry.PacketEntry.TheVariants as packet
 use Rattle.wire.specs.Spelling.{spelling}
 use Rattle.wire.specs.declared.message.Message.{Message}
@@ -93,5 +94,7 @@ idle_spares n (Told (entry.Device (device_entry.Refused m x value why))) k = tt
 idle_spares n _ k = tt
 
 pub idle_ends : (h : Header) (ms : List Moment) (x : Moment) → IsIdle x → EndsShown h ms x
+idle_ends h ms (Told (entry.Start (start_entry.Started e members held count))) k = absurd k
+idle_ends h ms (Told (entry.Start (start_entry.Base e v words))) k = absurd k
 idle_ends h ms (Told (entry.Attempt (attempt_entry.Votes e have need lacking))) k = absurd k
 idle_ends h ms _ k = tt

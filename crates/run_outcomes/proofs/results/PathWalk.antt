@@ -52,7 +52,7 @@ use Rattle.wire.specs.declared.lists.Reading.{Reading}
 use Rattle.wire.specs.declared.message.Body.{Body}
 use Rattle.wire.specs.declared.message.Body.TheVariants as body
 use Rattle.run_outcomes.proofs.results.Asked.{first_path, steps_path, turn_path}
-use Rattle.run_outcomes.proofs.results.Calm.{AllCalm, IsMute, IsPlain, made_calm, minor_calm, saved_calm, spread_calm, ticked_calm, write_calm}
+use Rattle.run_outcomes.proofs.results.Calm.{AllCalm, AllMute, IsMute, IsPlain, all_mute, made_mute, minor_calm, saved_mute, spread_calm, ticked_calm, write_calm}
 use Rattle.run_outcomes.proofs.results.Acted.{plain_mute}
 use Rattle.run_outcomes.specs.results.Paths.{AttemptIn, AttemptPath, BodyPath, HandPath, NodePath, TasksPath, TurnPath, UpPath, WorkPath}
 
@@ -186,10 +186,13 @@ mute_path c to (body.SeizeQuorum e members d) k = absurd k
 mute_path c to (body.SeizeData e members d) k = absurd k
 mute_path c to _ k = tt
 
+muted_path : (c : Cluster) (os : List Output) → AllMute os → OutsPath c os
+muted_path c [] k = tt
+muted_path c (Tells e ∷ os) k = (tt, muted_path c os k.1)
+muted_path c (Sends to b ∷ os) k = (mute_path c to b k.0, muted_path c os k.1)
+
 calm_path : (c : Cluster) (os : List Output) → AllCalm os → OutsPath c os
-calm_path c [] k = tt
-calm_path c (Tells e ∷ os) k = (tt, calm_path c os k.1)
-calm_path c (Sends to b ∷ os) k = (mute_path c to b k.0, calm_path c os k.1)
+calm_path c os k = muted_path c os (all_mute os k)
 
 sends_path : (c : Cluster) (n to : ℕ) (b : Body) (g : Hand) → guards.InHand (λ u. SendsSo u.steps to b) g → TurnPath c n g → BodyPath c to b
 sends_path c n to b None at turn = absurd at
@@ -211,7 +214,7 @@ said_path h c n told g x Ticks may at so turn = (tt, calm_path c (ticked_output 
 said_path h c n told g x (Ends b why) may at so turn = (tt, tt)
 said_path h c n told g x (Takes on command a) may at so turn = (tt, tt)
 said_path h c n told g x (Stores d value a) may at so turn = (tt, calm_path c _ (write_calm n x d value a))
-said_path h c n told g x (Makes ch) may at so turn = calm_path c _ (made_calm c n x ch (made_plain ch at))
+said_path h c n told g x (Makes ch) may at so turn = muted_path c _ (made_mute c n x ch (made_plain ch at))
 said_path h c n told g x (Gives os) may at so turn = calm_path c os (minor_calm os so may)
 said_path h c n told g x (Spreads receivers b) may at so turn = calm_path c _ (spread_calm receivers b (plain_mute b at))
 said_path h c n told g x (Hears from b) may at so turn = tt
@@ -226,11 +229,11 @@ said_path h c n told g x (Works w) may at so turn = tt
 
 saved_path : (c : Cluster) (n : ℕ) (x : UpNode) (ch : Change) → OutsPath c (first_lines n ch ++ saved_lines c n x ch)
 saved_path c n x (Admits on command a d) = (tt, (tt, tt))
-saved_path c n x (Promises p) = calm_path c (first_lines n (Promises p) ++ saved_lines c n x (Promises p)) (saved_calm c n x (Promises p) tt)
-saved_path c n x (Leads p members) = calm_path c (first_lines n (Leads p members) ++ saved_lines c n x (Leads p members)) (saved_calm c n x (Leads p members) tt)
+saved_path c n x (Promises p) = muted_path c (first_lines n (Promises p) ++ saved_lines c n x (Promises p)) (saved_mute c n x (Promises p) tt)
+saved_path c n x (Leads p members) = muted_path c (first_lines n (Leads p members) ++ saved_lines c n x (Leads p members)) (saved_mute c n x (Leads p members) tt)
 saved_path c n x (Counts a q s i) = (tt, (tt, tt))
 saved_path c n x (Installs s i) = (tt, (tt, tt))
-saved_path c n x (Starts a q s) = calm_path c (first_lines n (Starts a q s) ++ saved_lines c n x (Starts a q s)) (saved_calm c n x (Starts a q s) tt)
+saved_path c n x (Starts a q s) = muted_path c (first_lines n (Starts a q s) ++ saved_lines c n x (Starts a q s)) (saved_mute c n x (Starts a q s) tt)
 saved_path c n x (Sits s e) = (tt, (tt, tt))
 saved_path c n x (Distrusts d) = (tt, tt)
 saved_path c n x (Proposes s p text) = (tt, (tt, tt))

@@ -3,6 +3,7 @@ use Rattle.run_history.specs.WorldLines.{IsDevice}
 use Rattle.run_outcomes.proofs.results.Apart.{header_apart}
 use Rattle.cl_base.specs.declared.header.HeaderDevice.{HeaderDevice}
 use Rattle.cmm_attempt.specs.declared.attached.AttachedDevice.{AttachedDevice}
+use Rattle.history_setting.proofs.Votes.{setting_counts_votes}
 use Rattle.history.specs.Setting.{paths_of}
 use Rattle.world_model.specs.First.{attached_from, first_cluster}
 use Rattle.run_outcomes.proofs.counts.Named.{at_paths}
@@ -79,6 +80,8 @@ of_header h few = record {
       });
   apart = header_apart 1 h.devices;
   few = wide (length h.devices) few;
+  all = refl;
+  votes = setting_counts_votes h;
 }
   where
     less : (d n : ℕ) → d + 1 ≤ 1 + n → d ≤ n

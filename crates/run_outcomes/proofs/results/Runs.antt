@@ -30,6 +30,9 @@ use Rattle.cl_base.specs.declared.packet.DropCause.TheVariants as drop
 use Rattle.device_queue.specs.Queue.{next_of}
 use Rattle.history.specs.Contact.{AttemptsDiffer, IsNew}
 use Rattle.history.specs.Moment.{Moment, Part, Said, Told}
+use Rattle.history.specs.Order.{Always}
+use Rattle.history.specs.Trace.{base, start}
+use Rattle.history_setting.specs.Settings.{setting_of}
 use Rattle.interconnect.specs.Links as links
 use Rattle.interconnect.specs.Links.{Links, Packet, packet_of, removing, sending}
 use Rattle.node_model.specs.declared.cluster.Cluster.{Cluster}
@@ -72,8 +75,9 @@ use Rattle.run_history.specs.Stages.{site_of}
 use Rattle.run_seizings.proofs.Progress.{begun_stays}
 use Rattle.run_outcomes.proofs.results.Stays.{Spares, letters_grow, letters_stay, node_grows, node_stays}
 use Rattle.run_outcomes.proofs.results.Steps.{plain_comes, step_shown}
+use Rattle.run_outcomes.specs.accounts.Laws.{AccountsOfEachRun, StartsExplained}
 use Rattle.run_outcomes.specs.results.Laws.{ResultsOfEachRun}
-use Rattle.run_outcomes.specs.results.Shown.{AsksOf, EndsShown, HandShown, IsShown, LetterShown, SaysShown, collected_in, installed_in}
+use Rattle.run_outcomes.specs.results.Shown.{AsksOf, EndsShown, HandShown, IsShown, LetterShown, SaysShown, StartShown, collected_in, installed_in}
 use Rattle.run_outcomes.specs.results.Tried.{Collected}
 use Rattle.run_outcomes.proofs.results.Readied.{takes_gone}
 use Rattle.run_outcomes.proofs.results.Readied.{of_header}
@@ -270,6 +274,16 @@ run_shown h cells size disks (x ∷ xs) s d last may shaped k =
     let c : Cluster = first_cluster h in
     run_shown h cells size disks xs (happened c s x) (due_after c (happened c s x) d x) last may.1 shaped.1 (comes_more h cells size disks s d x may.0 shaped.0 k)
 
+-- the lines of starts
+start_told : (h : Header) (ms : List Moment) (x : Moment) → EndsShown h ms x → StartShown (setting_of h) (x ∷ ms)
+start_told h ms (start e members held count) k = k
+start_told h ms (base e v words) k = k
+start_told h ms _ k = tt
+
+starts_told : (h : Header) (ms : List Moment) → Always (EndsShown h) ms → StartsExplained (setting_of h) ms
+starts_told h [] k = tt
+starts_told h (x ∷ ms) k = (start_told h ms x k.0, starts_told h ms k.1)
+
 pub results_of_each_run : ResultsOfEachRun
 results_of_each_run h cells hs few small disks may shaped =
     let size : IsSmall h = record { few = few; small = small } in
@@ -277,3 +291,11 @@ results_of_each_run h cells hs few small disks may shaped =
     (run_shown h cells size disks hs (first_scene h cells) nothing nothing may shaped
     (record { reached = record { happenings = []; may = tt; is = refl }; kept = record { wants_so = tt; so = first_strict h cells few disks }; shown = first_shown h cells })).shown.lines
     (lacking_of_each_run h cells hs few small may) (promised_in_each_run h cells hs few small may) (counted_of_each_run h cells hs few small may)
+
+-- each start accounts for its devices
+pub accounts_of_each_run : AccountsOfEachRun
+accounts_of_each_run h cells hs few small disks may shaped =
+    let size : IsSmall h = record { few = few; small = small } in
+    starts_told h (all_happened (first_cluster h) (first_scene h cells) hs).moments
+    (run_shown h cells size disks hs (first_scene h cells) nothing nothing may shaped
+    (record { reached = record { happenings = []; may = tt; is = refl }; kept = record { wants_so = tt; so = first_strict h cells few disks }; shown = first_shown h cells })).shown.lines

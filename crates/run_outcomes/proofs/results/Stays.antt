@@ -216,6 +216,7 @@ entries_stay h ms x e plan promises [] new begun k = tt
 entries_stay h ms x e plan promises (s ∷ es) new begun k = (
   record {
     place = k.0.place;
+    among = k.0.among;
     told = λ m r seizer is. end_stays h e s.attached.device m r x ms new begun (k.0.told m r seizer is);
     asked = λ m is. was_asked h ms x e m s new begun (k.0.asked m is);
     shows = k.0.shows;

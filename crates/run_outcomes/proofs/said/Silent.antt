@@ -22,7 +22,7 @@ use Rattle.run_history.specs.Guards.{AtAct, AtAll, AtDoing, AtWrite, Hand, IsPla
 use Rattle.status_report.specs.declared.node_entry.DownCause.{DownCause}
 use Rattle.wire.specs.declared.message.Body.{Body}
 use Rattle.wire.specs.declared.message.Body.TheVariants as body
-use Rattle.run_outcomes.proofs.results.Calm.{AllCalm, IsMute, lost_calm, made_calm, saved_calm, ticked_calm, write_calm}
+use Rattle.run_outcomes.proofs.results.Calm.{AllCalm, AllMute, IsMute, all_mute, lost_calm, made_mute, saved_mute, ticked_calm, write_calm}
 
 -- ---- what is given
 
@@ -42,10 +42,13 @@ mute_silent : (b : Body) → IsMute b → IsSeized b → ⊥
 mute_silent (body.Seized e d r) mute is = mute
 mute_silent _ mute is = is
 
+muted_silent : (os : List Output) → AllMute os → AreSilent os
+muted_silent [] k = tt
+muted_silent (Tells e ∷ os) k = (tt, muted_silent os k.1)
+muted_silent (Sends to b ∷ os) k = (mute_silent b k.0, muted_silent os k.1)
+
 calm_silent : (os : List Output) → AllCalm os → AreSilent os
-calm_silent [] k = tt
-calm_silent (Tells e ∷ os) k = (tt, calm_silent os k.1)
-calm_silent (Sends to b ∷ os) k = (mute_silent b k.0, calm_silent os k.1)
+calm_silent os k = muted_silent os (all_mute os k)
 
 nothing_silent : (to : ℕ) (b : Body) → TellsNothing (Sends to b) → IsSeized b → ⊥
 nothing_silent to (body.Seized e d r) nothing is = nothing
@@ -68,7 +71,7 @@ spread_silent receivers b plain = mapped IsSilent (λ n. Sends n b) (numbers_to 
 
 pub saved_silent : (c : Cluster) (n : ℕ) (x : UpNode) (ch : Change) → AreSilent (first_lines n ch ++ saved_lines c n x ch)
 saved_silent c n x (Admits at command a d) = (tt, (tt, tt))
-saved_silent c n x ch = calm_silent (first_lines n ch ++ saved_lines c n x ch) (saved_calm c n x ch tt)
+saved_silent c n x ch = muted_silent (first_lines n ch ++ saved_lines c n x ch) (saved_mute c n x ch tt)
 
 pub lost_silent : (n : ℕ) (ch : Change) (why : DownCause) → AreSilent (first_lines n ch ++ gone_line n why)
 lost_silent n (Admits at command a d) why = (tt, (tt, tt))
@@ -76,7 +79,7 @@ lost_silent n ch why = calm_silent (first_lines n ch ++ gone_line n why) (lost_c
 
 made_silent : (c : Cluster) (n : ℕ) (x : UpNode) (ch : Change) → AreSilent (first_lines n ch ++ last_lines c n x ch)
 made_silent c n x (Admits at command a d) = (tt, tt)
-made_silent c n x ch = calm_silent (first_lines n ch ++ last_lines c n x ch) (made_calm c n x ch tt)
+made_silent c n x ch = muted_silent (first_lines n ch ++ last_lines c n x ch) (made_mute c n x ch tt)
 
 -- ---- what each small step may tell
 

@@ -1,5 +1,5 @@
 -- What each node has of results, in its tasks and its attempt, and what messages tell of them, against the lines.
-use Rattle.std.specs.Prelude.{ℕ, ◌+◌, ◌≡◌, ◌<◌, ◌≤◌, ◌⊎◌, ◌==◌, ◌&&◌, not, true, false, List, [], ◌∷◌, Option, None, Some, is_some, length}
+use Rattle.std.specs.Prelude.{ℕ, ◌+◌, ◌≡◌, ◌<◌, ◌≤◌, ◌⊎◌, ◌==◌, ◌&&◌, not, true, false, List, [], ◌∷◌, Option, None, Some, IfSome, is_some, length}
 use Rattle.std.specs.List.{AllByRecursion, count_by, list_any}
 use Rattle.attempt_laws.specs.Asking.{AreApart, entry_numbers, numbers_of}
 use Rattle.cl_base.specs.Seizings.{SeizeResult}
@@ -27,14 +27,17 @@ use Rattle.history.specs.Moment.{Moment}
 use Rattle.history.specs.Order.{Always, since}
 use Rattle.history.specs.Seizing.{is_attempt}
 use Rattle.history.specs.Setting.{coordinator, nodes_of, paths_of}
-use Rattle.history.specs.Trace.{ended_votes}
+use Rattle.history.specs.Setting.{Setting}
+use Rattle.history.specs.Starts.{base_so_far, completed}
+use Rattle.history.specs.Trace.{base, ended_votes, start}
+use Rattle.history_setting.specs.Settings.{setting_of}
 use Rattle.node_model.specs.Seats.{session_of}
 use Rattle.node_model.specs.declared.cluster.Cluster.{Cluster}
 use Rattle.node_model.specs.declared.node.Node.{Node}
 use Rattle.node_model.specs.declared.node.Node.TheVariants.{Down, Up}
 use Rattle.node_model.specs.declared.node.UpNode.{UpNode}
 use Rattle.refinement.specs.Runs.{Letter, Nodes}
-use Rattle.refinement.specs.Ties.{Delivered}
+use Rattle.refinement.specs.Ties.{Delivered, votes_under}
 use Rattle.run_history.specs.Scenes.{Scene}
 use Rattle.run_history.specs.WorldLines.{IsDevice}
 use Rattle.run_seizings.specs.Seized.{Base, Either, Fresh, IsOf}
@@ -42,6 +45,8 @@ use Rattle.seize.specs.declared.step.SeizeStep.{SeizeStep}
 use Rattle.seize.specs.declared.step.SeizeStep.TheVariants as step
 use Rattle.wire.specs.declared.message.Body.{Body}
 use Rattle.wire.specs.declared.message.Body.TheVariants as body
+use Rattle.world_model.specs.First.{attached_from}
+use Rattle.run_outcomes.specs.accounts.Laws.{IsExplained}
 use Rattle.run_outcomes.specs.results.Tried.{Collected, SeatHeld, TasksHeld, Tried, Unheld, Without}
 
 -- ---- how a seizing ended
@@ -63,8 +68,14 @@ ObstacleShown h e d before obstacle.NoPath = Unit {0}
 ObstacleShown h e d before (obstacle.Seizing (Held keys)) = ⊥
 ObstacleShown h e d before (obstacle.Seizing end) = is_ended_so h e d before end ≡ true
 
--- for want of votes it ends with results that are shown
+-- where a start is complete, it accounts for each device
+abbrev pub StartShown : Setting → List Moment → Type 0
+StartShown S moments = IfSome (completed moments) (λ s. IsExplained S moments s (base_so_far moments))
+
+-- for want of votes it ends with results that are shown; where it starts, it accounts for each device
 abbrev pub EndsShown : Header → List Moment → Moment → Type 0
+EndsShown h before (start e members held count) = StartShown (setting_of h) (start e members held count ∷ before)
+EndsShown h before (base e v words) = StartShown (setting_of h) (base e v words ∷ before)
 EndsShown h before (ended_votes e have need lacking) = AllByRecursion (λ (x : Lack). ObstacleShown h e x.device before x.obstacle) lacking
 EndsShown h before _ = Unit {0}
 
@@ -116,6 +127,7 @@ WasTried P d n = (keys : List ℕ) × P.told d n (NotRegistered keys)
 -- registered, no other is to be asked; and where nobody was, no attached node holds it valid.
 pub record EntryTold (P : Fact) (plan : Plan) (promises : List Promised) (s : Seizing) : Type 0 where
   pub place : P.place s.attached
+  pub among : (n : ℕ) → s.seizer ≡ Some n → IsAmong n plan.nodes × (has s.attached.nodes n ≡ true)
   pub told : (n : ℕ) (r : SeizeResult) → s.seizer ≡ Some n → s.result ≡ Some r → P.told s.attached.device n r
   pub asked : (n : ℕ) → has s.asked n ≡ true → (s.seizer ≡ Some n) ⊎ WasTried P s.attached.device n
   pub shows : (n : ℕ) → IsAmong n plan.nodes → holds_valid promises s.attached.device n ≡ false → ShowsNot promises s.attached.device n
@@ -147,12 +159,15 @@ pub record OfHeader (h : Header) (c : Cluster) : Type 0 where
   pub places : AllByRecursion (IsPlaced h) c.attached
   pub apart : AreApart (numbers_of c.attached)
   pub few : length h.devices ≤ 32
+  pub all : c.attached ≡ attached_from 1 h.devices
+  pub votes : (updates : List (List ℕ)) → (setting_of h).votes updates ≡ votes_under c updates
 
 pub record PlanShown (h : Header) (plan : Plan) : Type 0 where
   pub own : plan.coordinator ≡ coordinator plan.epoch
   pub nodes : plan.nodes ≡ nodes_of plan.members
   pub cluster : plan.cluster ≡ h.cluster
   pub places : AllByRecursion (IsPlaced h) plan.attached
+  pub all : plan.attached ≡ attached_from 1 h.devices
   pub apart : AreApart (numbers_of plan.attached)
 
 pub record AttemptShown (h : Header) (moments : List Moment) (q : ℕ) (a : AttemptState) : Type 0 where
