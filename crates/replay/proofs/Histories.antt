@@ -34,6 +34,7 @@ use Rattle.run_outcomes.proofs.counts.Runs as counts
 use Rattle.run_lines.proofs.Runs.{lines_of_each_run}
 use Rattle.run_outcomes.proofs.exclusions.Runs.{exclusions_of_each_run}
 use Rattle.run_owed.proofs.installs.Runs.{installs_of_each_run}
+use Rattle.run_owed.proofs.installs.Sound.{each_install_of_each_run}
 use Rattle.run_owed.proofs.prepares.Runs as owed
 use Rattle.run_devices.proofs.queues.Disks.{disk_lines_of_each_run}
 use Rattle.run_devices.proofs.readings.Runs as readings
@@ -41,7 +42,7 @@ use Rattle.run_commands.proofs.taken.Laws as taken
 use Rattle.run_devices.proofs.valid.Runs as valid
 use Rattle.run_packets.proofs.admitted.Whole.{attempts_begin_as_wanted}
 use Rattle.run_packets.proofs.native.Boots.{boots_are_of_the_header}
-use Rattle.run_outcomes.proofs.results.Runs.{results_of_each_run}
+use Rattle.run_outcomes.proofs.results.Runs.{accounts_of_each_run, results_of_each_run}
 use Rattle.run_owed.proofs.repeats.Runs.{prepares_again_of_each_run}
 use Rattle.run_owed.proofs.replies.Runs.{orders_are_answered_in_each_run}
 use Rattle.run_owed.proofs.replies.Collects.{collects_are_answered_in_each_run}
@@ -158,6 +159,7 @@ told_trace cycles h events text p header disks asks named few_bytes is told =
       prepares_answered = prepares_are_answered_in_each_run h 65536 told.happenings (setting_of h) header.devices header.cluster_high refl told.may told.shaped;
       requests = λ few. requests_of_each_run h 65536 told.happenings (setting_of h) header.devices header.cluster_high refl told.may told.shaped few short;
       installs_sent = installs_of_each_run h 65536 told.happenings (setting_of h) nodes header.devices header.cluster_high refl told.may told.shaped boots;
+      installs_go_on = λ short. each_install_of_each_run h 65536 told.happenings (setting_of h) nodes header.devices header.cluster_high refl told.may told.shaped boots short;
       links = links.run;
       no_drop_due = links.due;
       devices = devices.run;
@@ -222,6 +224,7 @@ told_trace cycles h events text p header disks asks named few_bytes is told =
       needed = counts.needed_of_each_run h 65536 told.happenings header.devices header.cluster_high told.may;
       lacking = counts.lacking_of_each_run h 65536 told.happenings header.devices header.cluster_high told.may;
       short = results_of_each_run h 65536 told.happenings header.devices header.cluster_high built told.may told.shaped;
+      accounts = accounts_of_each_run h 65536 told.happenings header.devices header.cluster_high built told.may told.shaped;
       one_seizer = valid.one_seizer_in_each_run h 65536 told.happenings header.devices header.cluster_high told.may;
       installs_told = installs_tell_all_seizings h 65536 told.happenings header.devices header.cluster_high told.may;
       seizeds = readings.seizeds_say_what_was_read h 65536 told.happenings header.devices header.cluster_high told.may;

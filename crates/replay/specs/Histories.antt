@@ -43,10 +43,11 @@ use Rattle.run_history.specs.Scenes.{text_of}
 use Rattle.run_lines.specs.Laws.{IsAnswered}
 use Rattle.run_lines.specs.writes.Laws.{IsWritten}
 use Rattle.run_lines.specs.rounds.Parts.{PartsInOrder, shown}
+use Rattle.run_outcomes.specs.accounts.Laws.{StartsExplained}
 use Rattle.run_outcomes.specs.counts.Laws.{EndsForeign, EndsNeeding, NamesLacking}
 use Rattle.run_outcomes.specs.exclusions.Laws.{EndsExcluded}
 use Rattle.run_outcomes.specs.results.Laws.{EndsAsShort}
-use Rattle.run_owed.specs.installs.Laws.{HasInstalls}
+use Rattle.run_owed.specs.installs.Laws.{GoesOnAtOnce, HasInstalls}
 use Rattle.run_owed.specs.prepares.Laws.{HasPrepares, IsOfOne}
 use Rattle.run_owed.specs.repeats.Laws.{HasPreparesAgain}
 use Rattle.run_owed.specs.replies.Laws.{HasDone, HasPrepared, HasPromiseOrNack}
@@ -65,7 +66,8 @@ use Rattle.replay.specs.Replays.{OfCluster, OfDevice, Schedule, entries, schedul
 -- the device answers; the parts of rounds come in their order; a `disk` line at a node whose tasks are told does the
 -- command that is due; a client's request is served by a president, or skipped; the entries of an event are one node's;
 -- a proposal has its Prepares, which go again, an Order, a Collect and a Prepare are answered, a command goes to the
--- president as it becomes the oldest that waits, and an Install to each other member as its coordinator installs; the
+-- president as it becomes the oldest that waits, and an Install to each other member as its coordinator installs, or the
+-- membership starts where there is none; the
 -- links and the devices do what their lines say, each start has its base, what was acknowledged is kept, no device
 -- takes a write of a node that a greater membership left out, a node installs, is ready, is a member and has prepared
 -- by the messages that tell of it, and a membership starts with a majority of the votes under its base and with devices
@@ -77,8 +79,9 @@ use Rattle.replay.specs.Replays.{OfCluster, OfDevice, Schedule, entries, schedul
 -- its coordinator is not configured, and its Installs bring its members; it ends, and starts, while it is under way, is
 -- superseded by what stands against it, ends for want of an answer at its eighth tick at the earliest and for want of
 -- votes once all have promised, by what the newest record in hand counts and with obstacles that are shown, for keys
--- that are not registered of each attached member, for the least member that is foreign by that record, or for one that an earlier
--- attempt left out, and names a member. A node comes up, crashes and saves in the event that makes it do so, panics for
+-- that are not registered of each attached member, for the least member that is foreign by that record, or for one that
+-- an earlier attempt left out, and names a member; where it starts, each device is held, no member is attached to it, or
+-- it is shown why it is not held (of a device without votes at least that some attached member may not seize it). A node comes up, crashes and saves in the event that makes it do so, panics for
 -- a fence where a write of its own was refused and for an exclusion where it was told so, and stops exactly where an
 -- armed stop falls in a save that the rules let it make (but for commands at a device, where the rules are not proved).
 -- While there are fewer than 2^63 lines, which number the commands, all holds that a trace has to keep at each prefix
@@ -104,6 +107,7 @@ pub record IsTrace (h : Header) (events : List Event) (text : List ℕ) : Type 0
   pub prepares_answered : EachEvent (HasPrepared (setting_of h)) moments
   pub requests : length (lines_of moments) < 2 ^ 63 → EachEvent (HasRequests (setting_of h)) moments
   pub installs_sent : EachEvent (HasInstalls (setting_of h)) moments
+  pub installs_go_on : length moments < 2 ^ 63 → EachEvent (GoesOnAtOnce (setting_of h)) moments
   pub links : Links 65536 moments
   pub no_drop_due : drop_due 65536 moments ≡ None
   pub devices : DeviceRun h moments
@@ -140,6 +144,7 @@ pub record IsTrace (h : Header) (events : List Event) (text : List ℕ) : Type 0
   pub needed : Always (EndsNeeding (setting_of h)) moments
   pub lacking : Always (NamesLacking (setting_of h)) moments
   pub short : Always (EndsAsShort (setting_of h)) moments
+  pub accounts : StartsExplained (setting_of h) moments
   pub seizeds : Always (SaysWhatWasRead h) moments
   pub readings : Always (BringsWhatWasRead h) moments
   pub one_seizer : OneSeizer h moments
