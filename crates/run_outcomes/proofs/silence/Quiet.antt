@@ -49,7 +49,7 @@ use Rattle.run_outcomes.specs.saves.Courses.{Leaves, LeavesAct, LeavesChange}
 use Rattle.run_outcomes.specs.silence.Asked.{Alike, HasAnswered, IsTold, Query, asks, asked_by_body, asked_by_output, asked_by_outputs, asked_by_steps, is_sent}
 use Rattle.run_outcomes.specs.silence.AskedCourses.{AskNone, AsksNone, AttemptTold, GivesPlainly, GoesTo, HasTold, IsNoAsk, Mute, MuteAct, PlainAct, StepsTold, Tally, then_given}
 use Rattle.run_outcomes.proofs.phases.Leading.{act_has, change_has}
-use Rattle.run_outcomes.proofs.results.Calm.{AllCalm, IsMute, again_by_calm, last_calm}
+use Rattle.run_outcomes.proofs.results.Calm.{AllCalm, IsMute, again_by_calm, AllMute, all_mute, last_mute}
 
 -- ---- alike
 
@@ -143,10 +143,13 @@ body_none : (b : Body) → IsMute b → IsNoAsk b
 body_none (body.SeizeData e members d) h = h
 body_none _ h = tt
 
+muted_none : (os : List Output) → AreMild os → AllMute os → AskNone os
+muted_none [] h k = tt
+muted_none (Tells x ∷ os) h k = (line_none x h.0, muted_none os h.1 k.1)
+muted_none (Sends to b ∷ os) h k = (body_none b k.0, muted_none os h.1 k.1)
+
 pub mild_none : (os : List Output) → AreMild os → AllCalm os → AskNone os
-mild_none [] h k = tt
-mild_none (Tells x ∷ os) h k = (line_none x h.0, mild_none os h.1 k.1)
-mild_none (Sends to b ∷ os) h k = (body_none b k.0, mild_none os h.1 k.1)
+mild_none os h k = muted_none os h (all_mute os k)
 
 leaves_calm : (change : Change) → LeavesChange change → CalmChange change
 leaves_calm (Leads p members) h = h
@@ -158,7 +161,7 @@ first_none me (Proposes s p text) = (tt, tt)
 first_none me _ = tt
 
 pub last_none : (c : Cluster) (me : ℕ) (x : UpNode) (change : Change) → LeavesChange change → AskNone (last_lines c me x change)
-last_none c me x change h = mild_none (last_lines c me x change) (last_mild c me x change (leaves_calm change h)) (last_calm c me x change)
+last_none c me x change h = muted_none (last_lines c me x change) (last_mild c me x change (leaves_calm change h)) (last_mute c me x change)
 
 saved_none : (c : Cluster) (me : ℕ) (x : UpNode) (change : Change) → LeavesChange change → AskNone (first_lines me change ++ saved_lines c me x change)
 saved_none c me x change h = both AsksNone (first_lines me change) (saved_lines c me x change) (first_none me change) (tt, last_none c me x change h)
