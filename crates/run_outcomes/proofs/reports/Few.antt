@@ -1,5 +1,5 @@
 -- In each run a node's seizings have read at most as many keys as there are nodes.
-use Rattle.std.specs.Prelude.{ℕ, List, [], ◌∷◌}
+use Rattle.std.specs.Prelude.{List, [], ◌∷◌}
 use Rattle.std.specs.List.{AllByRecursion}
 use Rattle.std.proofs.Common.{subst}
 use Rattle.device_queue.specs.declared.task.Task.{Task}

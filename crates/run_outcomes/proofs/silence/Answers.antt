@@ -1,6 +1,6 @@
 -- Each call of an attempt leaves those answered that were asked to seize a device, but for the one whose answer is awaited.
-use Rattle.std.specs.Prelude.{ℕ, ◌==◌, ◌&&◌, ◌||◌, ◌≡◌, ◌⊎◌, ◌≤◌, ◌++◌, not, Bool, true, false, List, [], ◌∷◌, Option, None, Some, is_none, is_some, map, option_map, length, if◌then◌else◌}
-use Rattle.std.specs.List.{filter_map, find, list_any}
+use Rattle.std.specs.Prelude.{ℕ, ◌==◌, ◌&&◌, ◌||◌, ◌≡◌, ◌⊎◌, ◌≤◌, ◌++◌, not, Bool, true, false, List, Option, None, Some, is_none, is_some, map, option_map, if◌then◌else◌}
+use Rattle.std.specs.List.{find}
 use Rattle.std.proofs.Common.{arith, refl, sym, ap, subst, ◌∙◌, inl, inr}
 use Rattle.attempt_laws.proofs.StillHeld.{same_attached}
 use Rattle.attempt_laws.proofs.Walk.{IsSeizing, TellsResult, Walk, walks, walks_begun}
@@ -9,12 +9,11 @@ use Rattle.cl_base.proofs.SetLemmas.{none_of_zero}
 use Rattle.cl_base.specs.Numbers.{numbers_to}
 use Rattle.cl_base.specs.Seizings.{SeizeResult}
 use Rattle.cl_base.specs.Sets.{has, set_with}
-use Rattle.cmm_attempt.proofs.Basics.{and_cases, false_true, none_some, or_cases, same_number, same_some}
-use Rattle.cmm_attempt.specs.Attempts.{AttemptState, Turn, asked_next, begun, has_readied, installing, plain_devices, vote_entries, vote_entries_under}
-use Rattle.cmm_attempt.specs.Calls.{Call, May, Own_seized, Take, Tick, With_votes, turn}
+use Rattle.cmm_attempt.proofs.Basics.{false_true, none_some, or_cases, same_number, same_some}
+use Rattle.cmm_attempt.specs.Attempts.{AttemptState, Turn, asked_next, begun, installing, plain_devices, vote_entries_under}
+use Rattle.cmm_attempt.specs.Calls.{Call, May, Tick, turn}
 use Rattle.cmm_attempt.specs.Counts.{is_quorum, vote_new}
 use Rattle.cmm_attempt.specs.Plans.{is_reachable}
-use Rattle.cmm_attempt.specs.Promises.{holds_valid}
 use Rattle.cmm_attempt.specs.Seizings.{all_settled, awaits, first_seizer, is_asked, is_seized, may_seize, next_by, plain_entry, plain_new, vote_entry, with_next, with_result}
 use Rattle.cmm_attempt.specs.declared.attached.AttachedDevice.{AttachedDevice}
 use Rattle.cmm_attempt.specs.declared.counting.BothVotes.{BothVotes}
@@ -22,11 +21,7 @@ use Rattle.cmm_attempt.specs.declared.phase.Phase.{Phase}
 use Rattle.cmm_attempt.specs.declared.phase.Phase.TheVariants.{Choosing, Collecting, Installing, Over, SeizingOthers, SeizingVotes}
 use Rattle.cmm_attempt.specs.declared.plan.Plan.{Plan}
 use Rattle.cmm_attempt.specs.declared.seizing.Seizing.{Seizing}
-use Rattle.history.specs.Names as name
 use Rattle.seize.specs.declared.kind.SeizeKind.TheVariants.{Plain}
-use Rattle.wire.specs.declared.message.Body.{Body}
-use Rattle.wire.specs.declared.message.Body.TheVariants as body
-use Rattle.wire.specs.declared.message.Message.{Message}
 use Rattle.run_outcomes.specs.tasks.Asks.{IsEarly}
 use Rattle.run_outcomes.specs.silence.Asked.{Answers, AnswersIn, HasAnswered, IsSettledAt, IsSound}
 use Rattle.run_outcomes.proofs.asks.Apart.{appended_by, apart_append, apart_new, entry_found, entry_mapped, entry_new, found_device, lacks_seized, numbers_mapped, plain_keeps, settled_one}

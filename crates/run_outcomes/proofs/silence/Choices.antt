@@ -1,5 +1,5 @@
 -- An attempt that asks for its votes sends no message in that call.
-use Rattle.std.specs.Prelude.{ℕ, ◌≡◌, ◌⊎◌, Bool, true, false, List, [], ◌∷◌, Option, None, Some}
+use Rattle.std.specs.Prelude.{ℕ, ◌≡◌, Bool, List, [], ◌∷◌}
 use Rattle.std.proofs.Common.{refl, sym, subst, ◌∙◌, inl, inr}
 use Rattle.attempt_laws.proofs.Walk.{IsSeizing, Walk, walks, walks_begun}
 use Rattle.cmm_attempt.specs.Attempts.{AttemptState, Turn, again_in, asked_next, beginning, first_state, installing, later, promises_of}

@@ -1,40 +1,35 @@
 -- Each call of an attempt leaves those that were asked to seize a device that is no quorum device as the device's entry has them.
-use Rattle.std.specs.Prelude.{ℕ, ◌==◌, ◌&&◌, ◌||◌, ◌≡◌, ◌≤◌, ◌++◌, not, Bool, true, false, List, [], ◌∷◌, Option, None, Some, is_none, is_some, map, option_map, length, if◌then◌else◌}
+use Rattle.std.specs.Prelude.{ℕ, ◌==◌, ◌&&◌, ◌||◌, ◌≡◌, ◌≤◌, ◌++◌, not, Bool, true, false, List, [], ◌∷◌, Option, None, Some, is_none, map, option_map, if◌then◌else◌}
 use Rattle.std.specs.List.{filter_map, find, list_any}
-use Rattle.std.proofs.Common.{arith, refl, sym, ap, subst, ◌∙◌, inl, inr}
+use Rattle.std.proofs.Common.{arith, refl, sym, ap, subst, ◌∙◌}
 use Rattle.attempt_laws.proofs.StillHeld.{same_attached}
-use Rattle.attempt_laws.proofs.Walk.{IsSeizing, TellsResult, Walk, walks, walks_begun}
+use Rattle.attempt_laws.proofs.Walk.{Walk, walks, walks_begun}
 use Rattle.attempt_laws.specs.Asking.{AreApart, entry_numbers, entry_of, numbers_of}
 use Rattle.cl_base.specs.Seizings.{SeizeResult}
 use Rattle.cl_base.specs.Sets.{has, set_with}
 use Rattle.cl_base.proofs.SetLemmas.{none_of_zero}
 use Rattle.cl_base.specs.Numbers.{numbers_to}
-use Rattle.cmm_attempt.proofs.Basics.{and_cases, false_true, if_either, none_some, same_number, same_some}
-use Rattle.cmm_attempt.specs.Attempts.{AttemptState, Turn, again_in, all_promised, asked_next, begun, collects, ends, in_phase, install_in, installed, installing, installs, later, plain_devices, silent_others, vote_entries, vote_entries_under, waits, with_steps}
-use Rattle.cmm_attempt.specs.Calls.{Call, May, Tick, With_votes, turn}
+use Rattle.cmm_attempt.proofs.Basics.{false_true, none_some, same_number, same_some}
+use Rattle.cmm_attempt.specs.Attempts.{AttemptState, again_in, asked_next, begun, collects, in_phase, install_in, installing, installs, later, plain_devices, silent_others, vote_entries, vote_entries_under, with_steps}
+use Rattle.cmm_attempt.specs.Calls.{Call, May, Tick, turn}
 use Rattle.cmm_attempt.specs.Counts.{is_quorum, vote_new}
 use Rattle.cmm_attempt.specs.Installs.{send_start}
 use Rattle.cmm_attempt.specs.Plans.{is_reachable, others_of}
-use Rattle.cmm_attempt.specs.Seizings.{again_for, all_settled, awaits, first_seizer, held_set, is_asked, is_seized, next_by, plain_entry, plain_new, request, request_for, vote_entry, with_next, with_result}
+use Rattle.cmm_attempt.specs.Seizings.{awaits, first_seizer, held_set, is_asked, is_seized, next_by, plain_entry, plain_new, request, request_for, vote_entry, with_next, with_result}
 use Rattle.cmm_attempt.specs.declared.attached.AttachedDevice.{AttachedDevice}
 use Rattle.cmm_attempt.specs.declared.counting.BothVotes.{BothVotes}
 use Rattle.cmm_attempt.specs.declared.phase.Phase.{Phase}
 use Rattle.cmm_attempt.specs.declared.phase.Phase.TheVariants.{Choosing, Collecting, Installing, Over, SeizingOthers, SeizingVotes}
 use Rattle.cmm_attempt.specs.declared.plan.Plan.{Plan}
-use Rattle.cmm_attempt.specs.declared.promised.Promised.{Promised}
 use Rattle.cmm_attempt.specs.declared.seizing.Seizing.{Seizing}
-use Rattle.cmm_attempt.specs.declared.step.AttemptEnd.{AttemptEnd}
-use Rattle.cmm_attempt.specs.declared.step.Step.{Step}
 use Rattle.cmm_attempt.specs.declared.step.Step.TheVariants.{InstallHere, StartHere}
-use Rattle.cl_base.specs.declared.seizing.SeizeEnd.TheVariants.{NotRegistered}
 use Rattle.seize.specs.declared.kind.SeizeKind.{SeizeKind}
-use Rattle.seize.specs.declared.kind.SeizeKind.TheVariants.{Plain, Vote}
 use Rattle.wire.specs.declared.message.Body.TheVariants as body
 use Rattle.run_outcomes.specs.tasks.Asks.{IsEarly}
 use Rattle.run_outcomes.specs.tasks.Laws.{is_vote}
-use Rattle.run_outcomes.specs.silence.Asked.{Data, DataIn, DataTurn, IsSound, IsVoteAt, asked_by_steps, has_plain, wants_plain}
-use Rattle.run_outcomes.proofs.asks.Apart.{appended_by, apart_append, apart_new, entry_found, entry_mapped, entry_new, found_device, lacks_seized, numbers_mapped, plain_keeps, settled_one, vote_keeps}
-use Rattle.run_outcomes.proofs.asks.Entries.{IsNext, found_node, next_of, with_one}
+use Rattle.run_outcomes.specs.silence.Asked.{Data, DataIn, DataTurn, IsVoteAt, asked_by_steps, has_plain, wants_plain}
+use Rattle.run_outcomes.proofs.asks.Apart.{appended_by, apart_append, apart_new, entry_found, entry_mapped, entry_new, found_device, lacks_seized, numbers_mapped, plain_keeps, vote_keeps}
+use Rattle.run_outcomes.proofs.asks.Entries.{found_node, next_of, with_one}
 use Rattle.run_outcomes.proofs.silence.Plain.{again_asks, one_asked, requests_ask, sent_none, to_seize}
 
 -- ---- phases

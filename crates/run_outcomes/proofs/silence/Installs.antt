@@ -1,7 +1,7 @@
 -- A coordinator sends no Install before its attempt installs: whatever a node does, the guards of its small steps say so.
 use Rattle.std.specs.Prelude.{ℕ, ◌+◌, ◌==◌, ◌&&◌, ◌||◌, ◌≡◌, ◌⊎◌, ◌++◌, Bool, true, false, List, [], ◌∷◌, Option, None, Some, Ok, if◌then◌else◌}
 use Rattle.std.specs.List.{AllByRecursion}
-use Rattle.std.proofs.Common.{arith, refl, sym, ap, subst, ◌∙◌, inl, inr}
+use Rattle.std.proofs.Common.{arith, refl, sym, subst, ◌∙◌, inl, inr}
 use Rattle.attempt_laws.proofs.Stays.{plan_begins, plan_stays}
 use Rattle.attempt_laws.proofs.Steady.{Steady, call_keeps}
 use Rattle.attempt_laws.specs.Staying.{IsFinal}
@@ -9,15 +9,11 @@ use Rattle.ccr_commit.specs.Entries.{all_committed}
 use Rattle.ccr_tables.specs.State.{ConfigState}
 use Rattle.cl_base.specs.Limits.{most_nodes}
 use Rattle.cl_base.specs.Numbers.{numbers_to}
-use Rattle.cmm_attempt.proofs.Basics.{false_true, if_either, or_cases}
+use Rattle.cmm_attempt.proofs.Basics.{false_true, if_either}
 use Rattle.cmm_attempt.specs.Attempts.{AttemptState, install_in}
 use Rattle.cmm_attempt.specs.Calls.{Call, May, turn}
-use Rattle.cmm_attempt.specs.declared.phase.Phase.{Phase}
-use Rattle.cmm_attempt.specs.declared.phase.Phase.TheVariants.{Choosing, Collecting, Installing, Over, SeizingOthers, SeizingVotes}
+use Rattle.cmm_attempt.specs.declared.phase.Phase.TheVariants.{Installing}
 use Rattle.cmm_attempt.specs.declared.plan.Plan.{Plan}
-use Rattle.history.specs.Letters.{name_of}
-use Rattle.history.specs.Names as name
-use Rattle.history.specs.Names.{same_name}
 use Rattle.node_model.specs.Attempts.{adopted_line, adopted_lines, adopted_of, adopted_on, base_lines, is_adopted, promise_of, starting_as}
 use Rattle.node_model.specs.Configurations.{in_force}
 use Rattle.node_model.specs.Entries.{unknown_line, unknown_lines}
@@ -54,8 +50,7 @@ use Rattle.wire.specs.declared.message.Body.{Body}
 use Rattle.wire.specs.declared.message.Body.TheVariants as body
 use Rattle.cmm_member.specs.Nodes.{NodeState}
 use Rattle.run_outcomes.specs.phases.Kept.{In}
-use Rattle.run_outcomes.specs.saves.Courses.{LeavesAct, LeavesChange}
-use Rattle.run_outcomes.specs.silence.Asked.{Query, asked_by_body, asked_by_output, asked_by_outputs, asks}
+use Rattle.run_outcomes.specs.silence.Asked.{Query, asked_by_body, asked_by_output, asked_by_outputs}
 use Rattle.run_outcomes.specs.silence.AskedCourses.{GoesTo, HasLate, Late, Tally, then_given, to_install}
 use Rattle.run_outcomes.proofs.phases.Leading.{act_has, change_has}
 

@@ -1,15 +1,13 @@
 -- In each run an attempt waits for the answers that are missing by the lines.
-use Rattle.std.specs.Prelude.{ℕ, ◌==◌, ◌&&◌, ◌||◌, ◌≡◌, ◌⊎◌, ◌^◌, not, nat_lt, Bool, true, false, List, [], ◌∷◌, Option, None, Some, is_none, is_some, if◌then◌else◌}
+use Rattle.std.specs.Prelude.{ℕ, ◌==◌, ◌&&◌, ◌||◌, ◌≡◌, ◌⊎◌, not, Bool, true, false, List, [], ◌∷◌, Option, None, Some, is_none, is_some, if◌then◌else◌}
 use Rattle.std.specs.List.{list_all, list_any}
-use Rattle.std.proofs.Common.{arith, refl, sym, ap, subst, ◌∙◌, inl, inr}
+use Rattle.std.proofs.Common.{refl, sym, ap, subst, ◌∙◌, inl, inr}
 use Rattle.attempt_laws.specs.Asking.{entry_of}
 use Rattle.attempt_laws.specs.Staying.{IsFinal}
 use Rattle.cl_base.specs.Sets.{has}
-use Rattle.cl_base.specs.declared.header.Header.{Header}
 use Rattle.cmm_attempt.proofs.Basics.{and_cases, false_true, none_some, or_cases, same_number}
 use Rattle.cmm_attempt.specs.Attempts.{AttemptState, is_missing, is_missing_in, is_over, is_unready}
 use Rattle.cmm_attempt.specs.Attempts as attempts
-use Rattle.cmm_attempt.specs.Promises as taken
 use Rattle.cmm_attempt.specs.Seizings.{awaits_from, is_asked}
 use Rattle.cmm_attempt.specs.declared.phase.Phase.{Phase}
 use Rattle.cmm_attempt.specs.declared.phase.Phase.TheVariants.{Choosing, Collecting, Installing, Over, SeizingOthers, SeizingVotes}
@@ -31,7 +29,7 @@ use Rattle.run_outcomes.specs.tasks.Asks.{IsEarly}
 use Rattle.run_outcomes.specs.phases.Laws.{PromisesTold, has_gathered, is_other}
 use Rattle.run_outcomes.specs.silence.Asked.{Answers, HasAnswered, IsSettledAt, Query, answers, asked_in, comes, has_plain, is_other_node}
 use Rattle.run_outcomes.specs.silence.AskedCourses.{AttemptTold, Late, to_install}
-use Rattle.history.specs.Attempts.{has_readied, is_answered, is_ready_of, is_unanswered, questions, readies, seize_questions}
+use Rattle.history.specs.Attempts.{has_readied, is_ready_of, is_unanswered, questions, readies, seize_questions}
 use Rattle.run_outcomes.specs.tasks.Laws.{AsksTold, has_asked, is_vote}
 use Rattle.run_outcomes.proofs.silence.Lines.{any_asked, seized_come}
 

@@ -1,5 +1,5 @@
 -- Along the courses of its attempt a coordinator has sent what the attempt has.
-use Rattle.std.specs.Prelude.{ℕ, ◌==◌, ◌≡◌, ◌++◌, nat_le, nat_lt, Bool, true, false, List, [], ◌∷◌, Option, None, Some, find, is_some, if◌then◌else◌}
+use Rattle.std.specs.Prelude.{ℕ, ◌==◌, ◌≡◌, ◌++◌, nat_le, nat_lt, Bool, true, false, List, [], ◌∷◌, Option, None, Some, is_some, if◌then◌else◌}
 use Rattle.std.specs.List.{AllByRecursion}
 use Rattle.std.specs.Option.{unwrap_or}
 use Rattle.std.proofs.Common.{arith, refl, sym, ap, subst, ◌∙◌}
@@ -7,10 +7,8 @@ use Rattle.attempt_laws.proofs.Stays.{plan_begins, plan_stays}
 use Rattle.attempt_laws.specs.Asking.{AreApart, numbers_of}
 use Rattle.cl_base.specs.Sets.{has}
 use Rattle.cmm_attempt.proofs.Basics.{if_either}
-use Rattle.cmm_attempt.specs.Attempts.{AttemptState, Turn, beginning, first_state, newest_installed, promises_of}
+use Rattle.cmm_attempt.specs.Attempts.{AttemptState, Turn, newest_installed}
 use Rattle.cmm_attempt.specs.Calls.{Call, May, Own_ready, Tick as Call_tick, With_votes, starts_in, turn}
-use Rattle.cmm_attempt.specs.Promises.{promised_by, shown_by}
-use Rattle.cmm_attempt.specs.declared.attached.AttachedDevice.{AttachedDevice}
 use Rattle.cmm_attempt.specs.declared.phase.Phase.TheVariants.{Choosing}
 use Rattle.cmm_attempt.specs.declared.plan.Plan.{Plan}
 use Rattle.cmm_attempt.specs.declared.step.AttemptEnd.{AttemptEnd}
@@ -46,8 +44,8 @@ use Rattle.wire.specs.declared.message.Install.{Install}
 use Rattle.wire.specs.declared.message.Message.{Message}
 use Rattle.run_outcomes.specs.phases.Kept.{In}
 use Rattle.run_outcomes.specs.silence.Asked.{CallTold, Query, Told, asked_by_body, asked_by_output, asked_by_outputs, asked_by_steps}
-use Rattle.run_outcomes.specs.silence.AskedCourses.{AskNone, AttemptTold, GivesPlainly, GoesTo, HasTold, StepsTold, Tally, then_given}
-use Rattle.run_outcomes.proofs.silence.Quiet.{Never, goes_if, goes_joined, mild_none, none_goes, plain_first, quiet_mute, silent_goes}
+use Rattle.run_outcomes.specs.silence.AskedCourses.{AttemptTold, GivesPlainly, GoesTo, HasTold, StepsTold, Tally, then_given}
+use Rattle.run_outcomes.proofs.silence.Quiet.{Never, goes_if, goes_joined, none_goes, plain_first, quiet_mute, silent_goes}
 use Rattle.run_outcomes.proofs.silence.Turns.{call_told, first_told}
 use Rattle.run_outcomes.proofs.phases.Leading.{deciding_by_l, excluded_l, is_choice, steps_l}
 use Rattle.run_outcomes.proofs.saves.Rests.{joined_l}

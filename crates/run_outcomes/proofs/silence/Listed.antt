@@ -1,11 +1,11 @@
 -- Each device that an attempt has asked a member to seize is one of the header.
-use Rattle.std.specs.Prelude.{ℕ, ◌+◌, ◌<◌, ◌≤◌, ◌==◌, ◌&&◌, ◌||◌, ◌≡◌, ◌⊎◌, ◌++◌, Bool, true, false, List, [], ◌∷◌, Option, None, Some, length, if◌then◌else◌}
+use Rattle.std.specs.Prelude.{ℕ, ◌+◌, ◌<◌, ◌≤◌, ◌==◌, ◌&&◌, ◌≡◌, ◌⊎◌, Bool, true, false, List, [], ◌∷◌, Some, length, if◌then◌else◌}
 use Rattle.std.specs.List.{AllByRecursion, list_any}
-use Rattle.std.proofs.Common.{arith, refl, sym, ap, subst, suc, zero, ◌∙◌, inl, inr}
+use Rattle.std.proofs.Common.{arith, refl, subst, suc, zero, inl, inr}
 use Rattle.attempt_laws.specs.Asking.{entry_of}
 use Rattle.cl_base.specs.Sets.{has}
 use Rattle.cl_base.specs.declared.header.HeaderDevice.{HeaderDevice}
-use Rattle.cmm_attempt.proofs.Basics.{and_cases, false_true, none_some, or_cases, same_number, same_some}
+use Rattle.cmm_attempt.proofs.Basics.{and_cases, false_true, none_some, or_cases, same_some}
 use Rattle.cmm_attempt.specs.declared.seizing.Seizing.{Seizing}
 use Rattle.history.specs.Setting.{all_to}
 use Rattle.node_model.specs.Clusters.{has_path}

@@ -1,14 +1,12 @@
 -- Which members the steps of an attempt ask to seize a device that is no quorum device.
-use Rattle.std.specs.Prelude.{ℕ, ◌==◌, ◌&&◌, ◌||◌, ◌≡◌, ◌≤◌, ◌++◌, not, Bool, true, false, List, [], ◌∷◌, Option, None, Some, is_none, map, option_map, if◌then◌else◌}
-use Rattle.std.specs.List.{cons_option, filter_map, find, list_any}
+use Rattle.std.specs.Prelude.{ℕ, ◌==◌, ◌&&◌, ◌||◌, ◌≡◌, not, Bool, true, false, List, [], ◌∷◌, Option, None, Some, is_none, map, if◌then◌else◌}
+use Rattle.std.specs.List.{cons_option, filter_map, list_any}
 use Rattle.std.proofs.Common.{arith, refl, sym, ap, subst, ◌∙◌}
 use Rattle.attempt_laws.specs.Asking.{AreApart, entry_numbers, entry_of}
 use Rattle.cl_base.specs.Seizings.{SeizeResult}
-use Rattle.cl_base.specs.Sets.{has, set_with}
-use Rattle.cmm_attempt.proofs.Basics.{false_true, none_some, same_number, same_some}
+use Rattle.cmm_attempt.proofs.Basics.{false_true, same_number}
 use Rattle.cmm_attempt.specs.Installs.{send_to}
-use Rattle.cmm_attempt.specs.Seizings.{again_by, again_for, is_asked, is_seized, plain_entry, plain_new, request, request_body, request_by, request_for, with_next, with_result}
-use Rattle.cmm_attempt.specs.declared.attached.AttachedDevice.{AttachedDevice}
+use Rattle.cmm_attempt.specs.Seizings.{again_by, again_for, is_asked, request, request_body, request_by, request_for}
 use Rattle.cmm_attempt.specs.declared.plan.Plan.{Plan}
 use Rattle.cmm_attempt.specs.declared.seizing.Seizing.{Seizing}
 use Rattle.cmm_attempt.specs.declared.step.Step.{Step}
@@ -19,7 +17,7 @@ use Rattle.history.specs.Names.{same_name}
 use Rattle.seize.specs.declared.kind.SeizeKind.{SeizeKind}
 use Rattle.seize.specs.declared.kind.SeizeKind.TheVariants.{Plain, Vote}
 use Rattle.wire.specs.declared.message.Body.{Body}
-use Rattle.run_outcomes.specs.silence.Asked.{Query, asked_by_steps, has_plain, wants_plain}
+use Rattle.run_outcomes.specs.silence.Asked.{Query, asked_by_steps, wants_plain}
 use Rattle.run_outcomes.specs.tasks.Laws.{is_vote}
 
 abbrev pub to_seize : ℕ → ℕ → Query

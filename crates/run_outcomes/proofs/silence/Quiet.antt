@@ -3,7 +3,6 @@ use Rattle.std.specs.Prelude.{ℕ, ◌==◌, ◌&&◌, ◌||◌, ◌≡◌, ◌�
 use Rattle.std.proofs.Common.{refl, sym, ap, subst, ◌∙◌, inl, inr}
 use Rattle.attempt_laws.specs.Asking.{entry_of}
 use Rattle.cl_base.specs.Limits.{most_nodes}
-use Rattle.cl_base.specs.Sets.{has}
 use Rattle.cmm_attempt.specs.Seizings.{is_asked}
 use Rattle.cmm_attempt.specs.declared.seizing.Seizing.{Seizing}
 use Rattle.cl_base.specs.Numbers.{numbers_to}

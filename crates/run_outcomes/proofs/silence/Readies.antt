@@ -1,7 +1,6 @@
 -- Each call of an attempt leaves its Readies those that came.
 use Rattle.std.specs.Prelude.{ℕ, ◌==◌, ◌||◌, ◌≡◌, ◌⊎◌, ◌++◌, Bool, true, false, List, [], ◌∷◌}
-use Rattle.std.specs.List.{list_any}
-use Rattle.std.proofs.Common.{refl, sym, ap, subst, ◌∙◌, inl, inr}
+use Rattle.std.proofs.Common.{refl, ap, subst, ◌∙◌, inl, inr}
 use Rattle.attempt_laws.proofs.Steady.{Steady, begun_keeps, call_keeps}
 use Rattle.cmm_attempt.proofs.Basics.{false_true, or_cases, same_number}
 use Rattle.cmm_attempt.specs.Attempts.{AttemptState, begun, has_readied, is_of}

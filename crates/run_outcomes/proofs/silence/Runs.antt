@@ -1,15 +1,13 @@
 -- In each run an attempt has sent what its state has.
 use Rattle.std.specs.Prelude.{All, ℕ, ◌-◌, ◌==◌, ◌≡◌, ◌≢◌, ◌⊎◌, ◌≤◌, ◌&&◌, ◌||◌, not, Bool, true, false, List, ◌∷◌, Option, None, Some, slice_get}
-use Rattle.std.specs.List.{AllByRecursion, list_any}
-use Rattle.std.specs.Option.{option_and_then}
+use Rattle.std.specs.List.{AllByRecursion}
 use Rattle.std.proofs.Common.{arith, refl, sym, ap, subst, ◌∙◌, inl, inr}
-use Rattle.attempt_laws.specs.Asking.{AreApart, entry_of, numbers_of}
+use Rattle.attempt_laws.specs.Asking.{AreApart, numbers_of}
 use Rattle.cl_base.specs.declared.header.Header.{Header}
 use Rattle.cl_base.specs.declared.method.Outcome as method
 use Rattle.cl_base.specs.declared.packet.DropCause.{DropCause}
 use Rattle.cmm_attempt.specs.Attempts.{AttemptState}
 use Rattle.cmm_attempt.specs.Calls.{IsDevice}
-use Rattle.cmm_attempt.specs.declared.seizing.Seizing.{Seizing}
 use Rattle.history.specs.Letters.{sends}
 use Rattle.history.specs.Moment.{Moment, Said}
 use Rattle.history.specs.Letters as told
@@ -26,8 +24,6 @@ use Rattle.wire.specs.declared.message.Body.TheVariants as body
 use Rattle.wire.specs.declared.message.Message.{Message}
 use Rattle.world_model.specs.Sends.{name_of}
 use Rattle.cmm_attempt.proofs.Basics.{false_true}
-use Rattle.history.specs.Order.{since}
-use Rattle.history.specs.Seizing.{is_attempt}
 use Rattle.history.specs.Setting.{coordinator}
 use Rattle.interconnect.specs.Links as net
 use Rattle.interconnect.specs.Links.{Packet, packet_of, sending}
@@ -54,7 +50,7 @@ use Rattle.run_history.proofs.Idle.{passing_nodes}
 use Rattle.run_history.proofs.MemberRuns.{first_fit}
 use Rattle.run_history.specs.Happenings.{Arrives, Begins, Commands, Happening, IsPlain, Loses, MayAllHappen, MayHappen, Misses, Notes, Refuses, Repeats, Speaks, Strays, Takes as Takes_plain, Writes, all_happened, armed_by, commanded, commanded_at, given_by, happened, removed, taking}
 use Rattle.run_history.specs.Scenes.{Scene, adding, dropped_so, first_scene, telling, with_links}
-use Rattle.run_messages.proofs.Reaching.{IsReached, IsSmall, holds_of_each}
+use Rattle.run_messages.proofs.Reaching.{IsSmall, holds_of_each}
 use Rattle.run_messages.specs.records.Kept.{KnownScene}
 use Rattle.schedule_text.specs.declared.event.Event.{Event}
 use Rattle.schedule_text.specs.declared.event.Event.TheVariants as event
@@ -64,16 +60,14 @@ use Rattle.status_report.specs.declared.packet_entry.PacketEntry.TheVariants as 
 use Rattle.world_model.specs.First.{first_cluster}
 use Rattle.run_outcomes.specs.phases.Kept.{In}
 use Rattle.run_outcomes.specs.saves.Kept.{IsAt}
-use Rattle.run_outcomes.specs.silence.Asked.{Alike, HandTold, InputTold, IsTold, Query, answers, asked_in, comes, is_sent}
+use Rattle.run_outcomes.specs.silence.Asked.{Alike, HandTold, InputTold, Query, answers, asked_in, comes, is_sent}
 use Rattle.run_outcomes.specs.silence.AskedCourses.{AttemptTold, HasBoth, Late, Tally, then_given, to_install}
 use Rattle.run_outcomes.specs.tasks.AsksGiven.{BeginsOwn, IsLeft}
-use Rattle.run_outcomes.proofs.asks.Firsts.{coordinator_is}
 use Rattle.run_outcomes.proofs.asks.Lines.{dropped_next, left_before, passing_next, sending_next}
 use Rattle.run_outcomes.proofs.silence.Lines.{delivered_alike, dropped_asked, none_comes, others_asked, passing_alike, passing_less}
 use Rattle.run_outcomes.proofs.asks.Steps.{step_own}
 use Rattle.run_outcomes.proofs.silence.Steps.{EndsTold, step_told}
 use Rattle.run_outcomes.proofs.silence.Quiet.{alike_itself, alike_told}
-use Rattle.run_outcomes.proofs.phases.Promised.{HasIt, has_it}
 use Rattle.run_outcomes.proofs.phases.Runs.{knows_at, ways_at}
 use Rattle.run_outcomes.proofs.phases.Taken.{Ways}
 use Rattle.run_outcomes.proofs.asks.Devices.{are_apart}

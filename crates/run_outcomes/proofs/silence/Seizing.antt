@@ -1,13 +1,12 @@
 -- While an attempt seizes devices, the answers for which it waits are missing by the lines.
-use Rattle.std.specs.Prelude.{ℕ, ◌+◌, ◌-◌, ◌<◌, ◌≤◌, ◌==◌, ◌&&◌, ◌||◌, ◌≡◌, ◌≢◌, ◌⊎◌, ◌++◌, not, Bool, true, false, List, [], ◌∷◌, Option, None, Some, is_none, is_some, length, if◌then◌else◌}
+use Rattle.std.specs.Prelude.{ℕ, ◌==◌, ◌&&◌, ◌||◌, ◌≡◌, ◌⊎◌, not, Bool, true, false, List, [], ◌∷◌, Option, None, Some, is_none, is_some, if◌then◌else◌}
 use Rattle.std.specs.List.{list_any}
 use Rattle.std.specs.Option.{option_and_then}
 use Rattle.std.proofs.Common.{arith, refl, sym, ap, subst, ◌∙◌, inl, inr}
 use Rattle.attempt_laws.specs.Asking.{AreApart, entry_numbers, entry_of}
 use Rattle.attempt_laws.specs.Staying.{IsBefore}
-use Rattle.cl_base.specs.Sets.{has}
 use Rattle.cmm_attempt.proofs.Basics.{and_cases, false_true, none_some, or_cases, same_number, same_some}
-use Rattle.cmm_attempt.specs.Attempts.{AttemptState, is_missing}
+use Rattle.cmm_attempt.specs.Attempts.{AttemptState}
 use Rattle.cmm_attempt.specs.Seizings.{awaits_from, is_asked}
 use Rattle.cmm_attempt.specs.declared.seizing.Seizing.{Seizing}
 use Rattle.history.specs.Letters.{sends}
@@ -18,8 +17,6 @@ use Rattle.history.specs.Order.{since}
 use Rattle.history.specs.Queue as told
 use Rattle.history.specs.Seizing.{is_attempt}
 use Rattle.history.specs.Setting.{all_to, coordinator}
-use Rattle.seize.specs.declared.kind.SeizeKind.{SeizeKind}
-use Rattle.seize.specs.declared.kind.SeizeKind.TheVariants.{Plain, Vote}
 use Rattle.run_outcomes.specs.silence.Asked.{Data, Query, asked_in, wants_plain}
 use Rattle.history.specs.Attempts.{is_unanswered, questions, seize_questions}
 use Rattle.run_outcomes.specs.tasks.Asks.{first_in}

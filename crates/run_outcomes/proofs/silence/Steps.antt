@@ -1,6 +1,5 @@
 -- After each step of a node its attempt has sent what its state has, with what the node gave.
 use Rattle.std.specs.Prelude.{All, ℕ, ◌≡◌, ◌≤◌, ◌++◌, Bool, List, [], ◌∷◌, Option, None, Some}
-use Rattle.std.specs.List.{AllByRecursion}
 use Rattle.std.proofs.Common.{refl, sym, ap, subst, ◌∙◌}
 use Rattle.attempt_laws.specs.Asking.{AreApart, numbers_of}
 use Rattle.cl_base.specs.declared.method.Outcome as method
@@ -22,13 +21,12 @@ use Rattle.record_disk.specs.Disks.{DiskState, mounting, saving}
 use Rattle.record_disk.specs.declared.error.Loss.{Loss}
 use Rattle.record_disk.specs.declared.error.Loss.TheVariants.{Fault, Stopped}
 use Rattle.refinement.proofs.Cuts.{step_of_node_is_its_course}
-use Rattle.refinement.proofs.Disks.{disks_keep_rules}
-use Rattle.refinement.proofs.Facts.{facts_of, step_may}
+use Rattle.refinement.proofs.Facts.{facts_of}
 use Rattle.refinement.proofs.Handlers.{delivered_by, step_may_go}
 use Rattle.refinement.specs.Courses.{Course, plan_from, saying}
 use Rattle.refinement.specs.Courses.Course.{Acts, Falls, Keeps, Stops}
-use Rattle.refinement.specs.Cuts.{course_at, doings}
-use Rattle.refinement.specs.Doings.{Doing, Site, acted, changed, first_lines, said, saved_lines, site}
+use Rattle.refinement.specs.Cuts.{course_at}
+use Rattle.refinement.specs.Doings.{acted, changed, first_lines, said, saved_lines}
 use Rattle.refinement.specs.Facts.{JoinsIn}
 use Rattle.refinement.specs.Guards.{MayGo}
 use Rattle.refinement.specs.Steps.{disk_rules}
@@ -36,7 +34,6 @@ use Rattle.refinement.specs.Ties.{NodeTied}
 use Rattle.run_downs.proofs.Courses.{says_all}
 use Rattle.run_history.proofs.Courses.{doings_so}
 use Rattle.run_history.specs.Scenes.{Scene}
-use Rattle.run_messages.proofs.records.Replies.{CutSo, steps_are_cut_so}
 use Rattle.run_messages.specs.records.Kept.{KnownScene}
 use Rattle.run_outcomes.specs.saves.Kept.{IsAt}
 use Rattle.run_outcomes.specs.silence.AskedCourses.{GoesTo, HasBoth, HasLate, HasTold, Tally, then_given}
@@ -44,7 +41,7 @@ use Rattle.run_outcomes.specs.silence.Asked.{Alike, InputTold, Query, asked_by_o
 use Rattle.history.specs.Names.{Name}
 use Rattle.run_outcomes.proofs.silence.Inputs.{course_told}
 use Rattle.run_outcomes.proofs.silence.Installs.{course_late, goes_both, late_same}
-use Rattle.run_outcomes.proofs.silence.Quiet.{Grows, alike_itself, gives_plainly, in_same}
+use Rattle.run_outcomes.proofs.silence.Quiet.{alike_itself, gives_plainly, in_same}
 
 -- ---- a course
 

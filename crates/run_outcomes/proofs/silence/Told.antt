@@ -1,10 +1,10 @@
 -- The law, of each run.
-use Rattle.std.specs.Prelude.{ℕ, ◌==◌, ◌&&◌, ◌≡◌, ◌<◌, ◌≤◌, ◌⊎◌, ◌^◌, nat_lt, not, Bool, true, false, List, Option, None, Some, length}
+use Rattle.std.specs.Prelude.{ℕ, ◌==◌, ◌&&◌, ◌≡◌, ◌<◌, ◌≤◌, ◌⊎◌, ◌^◌, nat_lt, not, Bool, true, false, List, Some, length}
 use Rattle.std.specs.List.{list_any}
-use Rattle.std.proofs.Common.{arith, refl, sym, ap, subst, ◌∙◌, inl, inr}
+use Rattle.std.proofs.Common.{refl, sym, ap, subst, ◌∙◌, inl, inr}
 use Rattle.cl_base.specs.declared.header.Header.{Header}
 use Rattle.cmm_attempt.specs.Attempts.{AttemptState, is_missing, is_missing_in}
-use Rattle.history.specs.Setting.{all_to, coordinator}
+use Rattle.history.specs.Setting.{all_to}
 use Rattle.attempt_laws.specs.Asking.{entry_of}
 use Rattle.attempt_laws.specs.Staying.{IsBefore}
 use Rattle.cmm_attempt.specs.Seizings.{awaits_from}

@@ -1,22 +1,21 @@
 -- Each call of an attempt leaves what it has sent as its state has it.
-use Rattle.std.specs.Prelude.{ℕ, ◌==◌, ◌&&◌, ◌||◌, ◌≡◌, ◌++◌, not, Bool, true, false, List, [], ◌∷◌, Option, None, Some, filter, map, if◌then◌else◌}
-use Rattle.std.specs.List.{list_all, list_any}
+use Rattle.std.specs.Prelude.{ℕ, ◌==◌, ◌&&◌, ◌||◌, ◌≡◌, not, Bool, true, false, List, [], ◌∷◌, Option, None, Some, filter, map, if◌then◌else◌}
+use Rattle.std.specs.List.{list_any}
 use Rattle.std.proofs.Common.{arith, refl, sym, ap, subst, ◌∙◌}
 use Rattle.attempt_laws.proofs.MachineLemmas.{of_all}
-use Rattle.attempt_laws.proofs.Stays.{plan_begins, plan_stays}
+use Rattle.attempt_laws.proofs.Stays.{plan_stays}
 use Rattle.attempt_laws.proofs.Walk.{TellsResult, if_with}
 use Rattle.attempt_laws.specs.Asking.{AreApart, numbers_of}
 use Rattle.cl_base.specs.Seizings.{SeizeResult}
 use Rattle.wire.specs.Kinds.{is_ready}
-use Rattle.cmm_attempt.proofs.Basics.{and_cases, false_true, if_either, or_cases, same_number}
+use Rattle.cmm_attempt.proofs.Basics.{and_cases, false_true, if_either, same_number}
 use Rattle.cmm_attempt.specs.Attempts.{AttemptState, Turn, all_promised, beginning, begun, choosing, chosen_by, collects, first_state, is_missing, is_missing_in, is_of, promises_of, silent_others, with_steps}
 use Rattle.cmm_attempt.specs.Calls.{Call, May, Own_ready, Own_seized, Take, Tick, With_votes, turn}
-use Rattle.cmm_attempt.specs.Installs.{send_collect, send_to}
+use Rattle.cmm_attempt.specs.Installs.{send_collect}
 use Rattle.cmm_attempt.specs.Promises.{has_promised, newest_shown, promised_by, shown_by}
 use Rattle.cmm_attempt.specs.declared.attached.AttachedDevice.{AttachedDevice}
 use Rattle.cmm_attempt.specs.declared.phase.Phase.TheVariants.{Collecting}
 use Rattle.cmm_attempt.specs.declared.plan.Plan.{Plan}
-use Rattle.cmm_attempt.specs.declared.promised.Promised.{Promised}
 use Rattle.cmm_attempt.specs.declared.promised.Shown.{Shown}
 use Rattle.cmm_attempt.specs.declared.step.Step.{Step}
 use Rattle.cmm_attempt.specs.declared.step.Step.TheVariants as step
