@@ -16,3 +16,4 @@ pub mod told_tasks
 pub mod lines
 pub mod reports
 pub mod silence
+pub mod outward

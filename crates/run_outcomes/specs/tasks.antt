@@ -13,3 +13,4 @@ pub mod OwnTasks
 pub mod Quiet
 pub mod Showing
 pub mod Left
+pub mod Outward

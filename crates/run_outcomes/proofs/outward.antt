@@ -1,0 +1,10 @@
+pub mod Doings
+pub mod Runs
+pub mod Addressed
+pub mod Collects
+pub mod Comes
+pub mod Collectors
+pub mod Moves
+pub mod Resting
+pub mod Rested
+pub mod Left
