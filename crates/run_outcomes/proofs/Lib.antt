@@ -17,3 +17,4 @@ pub mod lines
 pub mod reports
 pub mod silence
 pub mod outward
+pub mod onward

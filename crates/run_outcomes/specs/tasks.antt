@@ -14,3 +14,4 @@ pub mod Quiet
 pub mod Showing
 pub mod Left
 pub mod Outward
+pub mod Onward

@@ -154,7 +154,7 @@ own_ready_leads I c me x keeps h = if_either (LeadsTo c me (Has I) x) (joins x.t
 pub own_ready_has : (I : AttemptState → Type 0) (c : Cluster) (me : ℕ) (x : UpNode) → IsKept I → Has I x → LeadsTo c me (Has I) x (cuts.own_ready_course c me x)
 own_ready_has I c me x keeps h = own_ready_leads I c me x (kept_led I keeps) h
 
-called_has : (I : AttemptState → Type 0) (c : Cluster) (me : ℕ) (x : UpNode) (a : AttemptState) (k : Call) → IsLed I → I (turn a k).after → LeadsTo c me (Has I) x (cuts.called c me x a k)
+pub called_has : (I : AttemptState → Type 0) (c : Cluster) (me : ℕ) (x : UpNode) (a : AttemptState) (k : Call) → IsLed I → I (turn a k).after → LeadsTo c me (Has I) x (cuts.called c me x a k)
 called_has I c me x a k keeps h =
     leads_joined c me (Has I) (Has I) x (cuts.turned_all c me x a k) (if_installed c me (turn a k).steps) (turned_all_has I c me x a k h)
     (λ y kept. if_either (LeadsTo c me (Has I) y) (begins_install (turn a k).steps) (cuts.own_ready_course c me y) Stops (own_ready_leads I c me y keeps kept) kept)

@@ -1,0 +1,16 @@
+pub mod Given
+pub mod Beside
+pub mod Finals
+pub mod Calls
+pub mod Messages
+pub mod Devices
+pub mod Passing
+pub mod Ticks
+pub mod Befores
+pub mod Asked
+pub mod Comes
+pub mod Inputs
+pub mod Marks
+pub mod Here
+pub mod Leads
+pub mod Begins

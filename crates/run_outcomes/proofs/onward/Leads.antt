@@ -1,0 +1,188 @@
+-- A coordinator whose attempt seizes devices has come to its tasks so, where a packet came that asks for no seizing, or a command at a device is answered.
+use Rattle.std.specs.Prelude.{ℕ, ◌≡◌, ◌++◌, Bool, true, false, List, [], ◌∷◌, Option, None, Some}
+use Rattle.std.proofs.Common.{refl, sym, ap, subst, ◌∙◌}
+use Rattle.attempt_laws.proofs.Walk.{TellsResult}
+use Rattle.cl_base.specs.Seizings.{SeizeResult}
+use Rattle.cl_base.specs.declared.method.Outcome as method
+use Rattle.cmm_attempt.specs.Attempts.{AttemptState}
+use Rattle.cmm_attempt.specs.Calls.{Call, IsReached, May, Own_ready, Own_seized, Take, With_votes, turn}
+use Rattle.cmm_attempt.specs.declared.counting.BothVotes.{BothVotes}
+use Rattle.device_queue.specs.Queue.{due_device, next_of, progress_after}
+use Rattle.device_queue.specs.declared.progress.Progress.{Progress}
+use Rattle.device_queue.specs.declared.progress.Progress.TheVariants.{GoesOn, Joined, Seized}
+use Rattle.device_queue.specs.declared.task.Task.{Task}
+use Rattle.history.specs.Member.{attempt_of, in_collect}
+use Rattle.history.specs.Moment.{Moment, Told}
+use Rattle.history.specs.Queue as told
+use Rattle.history.specs.Queue.{is_write}
+use Rattle.history.specs.Setting.{Setting, coordinator}
+use Rattle.history.specs.Trace.{delivered}
+use Rattle.node_model.specs.Attempts.{is_choosing}
+use Rattle.node_model.specs.Devices.{answer_told}
+use Rattle.node_model.specs.Members.{hearing}
+use Rattle.node_model.specs.Seats.{record_of}
+use Rattle.node_model.specs.Steps.{at_second}
+use Rattle.node_model.specs.declared.cluster.Cluster.{Cluster}
+use Rattle.node_model.specs.declared.input.Input.TheVariants.{Answered, Packet}
+use Rattle.node_model.specs.declared.node.Node.TheVariants.{Up}
+use Rattle.node_model.specs.declared.node.UpNode.{UpNode}
+use Rattle.node_model.specs.declared.output.Output.{Output}
+use Rattle.pgr_device.specs.declared.command.PrCommand.{PrCommand}
+use Rattle.refinement.specs.Cuts as cuts
+use Rattle.refinement.specs.Doings.{answered_so, command_line}
+use Rattle.refinement.specs.Runs.{moved}
+use Rattle.refinement.specs.Runs.Move.{Takes as Takes_in}
+use Rattle.run_devices.proofs.queues.Tasks.{same_taken}
+use Rattle.run_devices.specs.queues.Laws.{Same}
+use Rattle.run_history.specs.Happenings.{given_by, taking}
+use Rattle.run_history.specs.Scenes.{Scene, passing, telling}
+use Rattle.run_messages.specs.records.Kept.{Came}
+use Rattle.seize.specs.Answers.{Answer}
+use Rattle.seize.specs.declared.kind.JoinResult.{JoinResult}
+use Rattle.status_report.specs.declared.device_entry.DeviceEntry.TheVariants as device_entry
+use Rattle.status_report.specs.declared.entry.Entry.TheVariants as entry
+use Rattle.wire.specs.declared.message.Message.{Message}
+use Rattle.run_outcomes.specs.phases.Kept.{In}
+use Rattle.run_outcomes.specs.phases.Laws.{is_seizing}
+use Rattle.run_outcomes.specs.tasks.Entries.{EntriesSo}
+use Rattle.run_outcomes.specs.tasks.Laws.{AsksTold, own_result}
+use Rattle.run_outcomes.specs.tasks.Onward.{AreStill, GoesOut, Onward, OnwardOf}
+use Rattle.run_outcomes.specs.tasks.Quiet.{AreQuiet}
+use Rattle.run_outcomes.proofs.phases.Leading.{Has}
+use Rattle.run_outcomes.proofs.onward.Asked.{HoldsOwn}
+use Rattle.run_outcomes.proofs.onward.Comes.{CallSo, MarkedSo, took_led}
+use Rattle.run_outcomes.proofs.onward.Devices.{IsQuietly, OnwardFrom, answered_out, call_by}
+use Rattle.run_outcomes.proofs.onward.Here.{given_passed, taken_here}
+use Rattle.run_outcomes.proofs.onward.Marks.{AsksForNone, came_own, command_asks, command_own, delivered_asks, take_tells}
+use Rattle.run_outcomes.proofs.onward.Messages.{KeepsTasks, Took, packet_out}
+use Rattle.run_outcomes.proofs.onward.Passing.{Passed, still_passed}
+use Rattle.run_outcomes.proofs.told_tasks.Led.{LedOn}
+
+-- what is known of the node before the step, and of its attempt after it
+pub record StepSo (S : Setting) (c : Cluster) (n : ℕ) (x : UpNode) (k : Call) (b : AttemptState) (both : BothVotes) (before : List Moment) : Type 0 where
+  pub seizing : is_seizing b.phase ≡ true
+  pub given : b.votes ≡ Some both
+  pub reached : IsReached b
+  pub cluster : c.id ≡ S.header.cluster
+  pub last : attempt_of n before ≡ Some b.plan.epoch
+  pub holds : HoldsOwn b (record_of x).valid
+  pub same : Same x.tasks (told.tasks_of S n before)
+  pub own : (a : AttemptState) → x.attempt ≡ Some a → (coordinator a.plan.epoch ≡ n) × (a.plan.coordinator ≡ n)
+  pub so : (a : AttemptState) → x.attempt ≡ Some a → is_seizing a.phase ≡ true → EntriesSo a × AsksTold a before
+  pub none : (a : AttemptState) → x.attempt ≡ Some a → is_choosing (turn a k).after.phase ≡ true → (d : ℕ) → told.asked_last a.plan.epoch d before ≡ None
+
+take_may : (from : ℕ) (m : Message) (a : AttemptState) → May a (Take from m)
+take_may from m a = tt
+
+take_votes : (from : ℕ) (m : Message) (v : BothVotes) → Take from m ≡ With_votes v → ⊥
+take_votes from m v e = cc
+
+pub packet_led : (S : Setting) (c : Cluster) (n number from now : ℕ) (ends : method.Outcome) (m : Message) (ms : List Moment) (t : Scene) (x y : UpNode) (b : AttemptState) (both : BothVotes)
+    → t.moments ≡ delivered number from n ∷ ms → Came (delivered number from n ∷ ms) n from m.body → AsksForNone m.body → in_collect n t.moments ≡ false
+    → KeepsTasks c n (hearing (at_second now x) from m.body) m.body → t.nodes.node n ≡ Up x → (taking c n now ends (Packet from m) t).nodes.node n ≡ Up y → y.attempt ≡ Some b
+    → ((a : AttemptState) → x.attempt ≡ Some a → (d k : ℕ) (r : SeizeResult) → TellsResult (Take from m) a d k r → k ≡ a.plan.coordinator → own_result d y.tasks ≡ Some r)
+    → StepSo S c n x (Take from m) b both ms → LedOn S n y b both (taking c n now ends (Packet from m) t).moments
+packet_led S c n number from now ends m ms t x y b both line came none calm keeps was up at self g =
+    took_led S c n x (Take from m) y b both (taking c n now ends (Packet from m) t).moments
+    (record {
+      seizing = g.seizing;
+      given = g.given;
+      reached = g.reached;
+      cluster = g.cluster;
+      marked = delivered number from n ∷ ms;
+      newer = z.newer;
+      parts = z.parts ∙ ap (λ q. z.newer ++ q) line;
+      quiet = subst (λ q. AreQuiet n q z.newer) line z.quiet;
+      had = told.tasks_of S n ms;
+      same = g.same;
+      told_so = came_own S n number from b.plan.epoch ms m.body came none g.last;
+    })
+    (take_votes from m) (take_may from m) g.holds (λ a has is. ((g.so a has is).0, delivered_asks a number from n ms (g.so a has is).1))
+    (λ a has is. record {
+      entries = (g.so a has is).0;
+      asks = delivered_asks a number from n ms (g.so a has is).1;
+      told_other = λ d k r tells other. take_tells a number from n m ms came (g.own a has).0 d k r tells;
+      told_own = λ d k r tells own. self a has d k r tells own;
+    }) (λ a has chooses d. g.none a has chooses d) h.1
+  where
+    h : AreStill n (given_by c n now ends (Packet from m) t.nodes) × Took c n x (Take from m) b y.tasks
+    h =
+        subst (In (OnwardOf n (Took c n x (Take from m)) y.tasks (given_by c n now ends (Packet from m) t.nodes))) at
+        (taken_here c n now ends (Packet from m) t (Onward n (Took c n x (Take from m))) x y was up (λ so. packet_out c n ends (at_second now x) from m keeps)) g.seizing
+
+    z : Passed n t.moments (taking c n now ends (Packet from m) t).moments
+    z = given_passed c n now ends (Packet from m) t calm h.0
+
+-- ---- a command at a device
+
+by_may : (p : Progress) (a : AttemptState) → May a (call_by p)
+by_may GoesOn a = tt
+by_may (Seized d r) a = tt
+by_may (Joined d r) a = tt
+
+by_votes : (p : Progress) (v : BothVotes) → call_by p ≡ With_votes v → ⊥
+by_votes GoesOn v e = cc
+by_votes (Seized d r) v e = cc
+by_votes (Joined d r) v e = cc
+
+by_other : (p : Progress) (a : AttemptState) (d k : ℕ) (r : SeizeResult) → TellsResult (call_by p) a d k r → k ≡ a.plan.coordinator
+by_other GoesOn a d k r tells = absurd tells
+by_other (Seized e q) a d k r tells = tells.2
+by_other (Joined e q) a d k r tells = absurd tells
+
+pub command_led : (S : Setting) (c : Cluster) (n d now : ℕ) (ends : method.Outcome) (q : PrCommand) (a : Answer) (ms : List Moment) (t : Scene) (x y : UpNode) (b : AttemptState) (both : BothVotes)
+    → t.moments ≡ ms → in_collect n ms ≡ false → is_write q ≡ false → due_device x.tasks ≡ Some d → next_of x.tasks ≡ Some q
+    → ((e : ℕ) (r : JoinResult) → progress_after x.tasks a ≡ Joined e r → Has IsQuietly x) → t.nodes.node n ≡ Up x → (taking c n now ends (Answered a) t).nodes.node n ≡ Up y → y.attempt ≡ Some b
+    → ((s : AttemptState) → x.attempt ≡ Some s → (e k : ℕ) (r : SeizeResult) → TellsResult (call_by (progress_after x.tasks a)) s e k r → own_result e y.tasks ≡ Some r)
+    → StepSo S c n x (call_by (progress_after x.tasks a)) b both ms → LedOn S n y b both (taking c n now ends (Answered a) t).moments
+command_led S c n d now ends q a ms t x y b both line calm plain device next joins was up at self g =
+    took_led S c n (answered_so x a) k y b both (taking c n now ends (Answered a) t).moments
+    (record {
+      seizing = g.seizing;
+      given = g.given;
+      reached = g.reached;
+      cluster = g.cluster;
+      marked = mark ∷ ms;
+      newer = z.newer;
+      parts = z.parts ∙ ap (λ r. z.newer ++ (mark ∷ r)) line;
+      quiet = subst (λ r. AreQuiet n (mark ∷ r) z.newer) line z.quiet;
+      had = told.moved a (told.tasks_of S n ms);
+      same = same_taken x.tasks (told.tasks_of S n ms) a g.same;
+      told_so = command_own S n d b.plan.epoch q a ms plain g.last;
+    })
+    (by_votes (progress_after x.tasks a)) (by_may (progress_after x.tasks a)) g.holds (λ s has is. ((g.so s has is).0, command_asks s n d q a ms (g.so s has is).1))
+    (λ s has is. record {
+      entries = (g.so s has is).0;
+      asks = command_asks s n d q a ms (g.so s has is).1;
+      told_other = λ e j r tells other. absurd (other (by_other (progress_after x.tasks a) s e j r tells));
+      told_own = λ e j r tells own. self s has e j r tells;
+    }) (λ s has chooses e. g.none s has chooses e) h.3
+  where
+    k : Call
+    k = call_by (progress_after x.tasks a)
+
+    mark : Moment
+    mark = Told (entry.Device (device_entry.Command n d q (answer_told a)))
+
+    R : AttemptState → List Task → Type 0
+    R = Took c n (answered_so x a) k
+
+    all : List Output
+    all = given_by c n now ends (Answered a) t.nodes
+
+    h : (os : List Output) × (all ≡ command_line n d q a ++ os) × AreStill n os × R b y.tasks
+    h =
+        subst (In (λ s. is_seizing s.phase ≡ true → (os : List Output) × (all ≡ command_line n d q a ++ os) × AreStill n os × R s y.tasks)) at
+        (taken_here c n now ends (Answered a) t (OnwardFrom n (command_line n d q a) R) x y was up
+        (λ so.
+        subst (λ o. GoesOut c n (OnwardFrom n (command_line n d q a) R) (at_second now x) [] (cuts.answered_course c n (at_second now x) a o (next_of x.tasks))) (sym device)
+        (subst (λ o. GoesOut c n (OnwardFrom n (command_line n d q a) R) (at_second now x) [] (cuts.answered_course c n (at_second now x) a (Some d) o)) (sym next)
+        (answered_out c n (at_second now x) a d q joins)))) g.seizing
+
+    w : Scene
+    w = record t { nodes = moved c t.nodes (Takes_in n now ends (Answered a)) }
+
+    z : Passed n (mark ∷ t.moments) (taking c n now ends (Answered a) t).moments
+    z =
+        subst (λ os. Passed n (mark ∷ t.moments) (passing n os w).moments) (sym h.1)
+        (still_passed n h.0 (telling (entry.Device (device_entry.Command n d q (answer_told a))) w) (subst (λ r. in_collect n r ≡ false) (sym line) calm) h.2)
