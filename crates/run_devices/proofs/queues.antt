@@ -1,4 +1,5 @@
 pub mod Acts
+pub mod Alone
 pub mod Asking
 pub mod Changes
 pub mod Doings
@@ -6,6 +7,7 @@ pub mod Downs
 pub mod Ends
 pub mod Goes
 pub mod Happens
+pub mod Installing
 pub mod Joinings
 pub mod Ascending
 pub mod Read

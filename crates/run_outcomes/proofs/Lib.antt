@@ -13,6 +13,7 @@ pub mod seized
 pub mod accounts
 pub mod shown
 pub mod told_tasks
+pub mod others
 pub mod lines
 pub mod reports
 pub mod silence

@@ -15,3 +15,4 @@ pub mod Showing
 pub mod Left
 pub mod Outward
 pub mod Onward
+pub mod Others

@@ -30,7 +30,7 @@ use Rattle.wire.specs.declared.message.Body.TheVariants as body
 use Rattle.history.specs.Moment.{Moment, Told}
 use Rattle.history.specs.Queue as told
 use Rattle.history.specs.Queue.{is_write, moved}
-use Rattle.history.specs.Setting.{Setting}
+use Rattle.run_devices.specs.queues.Views.{View}
 use Rattle.node_model.specs.Devices.{answer_told}
 use Rattle.node_model.specs.Seats.{installed_of, record_of, session_of}
 use Rattle.node_model.specs.declared.cluster.Cluster.{Cluster}
@@ -51,7 +51,8 @@ use Rattle.run_seizings.proofs.Progress.{if_so, same_is}
 use Rattle.run_seizings.specs.Seized.{has_installed}
 use Rattle.run_devices.specs.queues.Kept.{NoJoins, Pending, Tells, UpSo, joins_in}
 use Rattle.run_devices.specs.queues.Laws.{Same}
-use Rattle.run_devices.specs.queues.Told.{leads, told_after, told_tasks}
+use Rattle.run_devices.specs.queues.Told.{leads}
+use Rattle.run_devices.specs.queues.Views.{told_after, told_tasks}
 use Rattle.run_devices.proofs.queues.Goes.{AreMild, Goes, goes_at, line_goes, outputs_go, posting_goes}
 use Rattle.run_devices.proofs.queues.Mild.{ended_mild, minors_mild, spread_mild, tick_mild, write_mild}
 use Rattle.run_devices.proofs.queues.Options.{Kept, Mapped, kept, mapped}
@@ -124,7 +125,7 @@ abbrev pub line_of : ℕ → ℕ → PrCommand → Answer → Moment
 line_of n at k a = Told (entry.Device (device_entry.Command n at k (answer_told a)))
 
 -- what it told, and makes of it
-pub line_told : (S : Setting) (ms : List Moment) (n at : ℕ) (k : PrCommand) (a : Answer) (tasks : List told.Task) → is_write k ≡ false
+pub line_told : (S : View) (ms : List Moment) (n at : ℕ) (k : PrCommand) (a : Answer) (tasks : List told.Task) → is_write k ≡ false
     → told_tasks S n (line_of n at k a ∷ ms) ≡ Some tasks → Mapped (moved a) (told_tasks S n ms) tasks
 line_told S ms n at k a tasks off is =
     let z : Kept (leads n (line_of n at k a ∷ ms)) (told_after S n (line_of n at k a) ms (told_tasks S n ms)) tasks =
@@ -151,7 +152,7 @@ tells_taken o (Some us) x y a first session installed tasks f k =
     )
 
 -- the line of a command, whose answer the node takes
-pub taken_up : (S : Setting) (ms : List Moment) (n at : ℕ) (x y : UpNode) (k : PrCommand) (a : Answer) → next_of x.tasks ≡ Some k → JoinsFirst x → session_of y ≡ session_of x
+pub taken_up : (S : View) (ms : List Moment) (n at : ℕ) (x y : UpNode) (k : PrCommand) (a : Answer) → next_of x.tasks ≡ Some k → JoinsFirst x → session_of y ≡ session_of x
     → installed_of y ≡ installed_of x → y.tasks ≡ after_answer x.tasks a → UpSo S ms n None x → UpSo S (line_of n at k a ∷ ms) n None y
 taken_up S ms n at x y k a due first session installed tasks up = record {
   none = λ is. up.none (sym session ∙ is);
@@ -169,14 +170,14 @@ IsSimple (Makes change) = ⊥
 IsSimple _ = Unit {0}
 
 -- it goes on with the same session, installed epoch and tasks
-pub mild_at : (S : Setting) (n : ℕ) (told : Delivered) (v w : Nodes) (p : Pending) (x y : UpNode) (os : List Output) (s : Scene) → AreMild os → session_of y ≡ session_of x
+pub mild_at : (S : View) (n : ℕ) (told : Delivered) (v w : Nodes) (p : Pending) (x y : UpNode) (os : List Output) (s : Scene) → AreMild os → session_of y ≡ session_of x
     → installed_of y ≡ installed_of x → y.tasks ≡ x.tasks → Goes S n told v w p (Up x) s → Goes S n told v w p (Up y) (passing n os s)
 mild_at S n told v w p x y os s are session installed tasks k =
     let t : Goes S n told v w p (Up x) (passing n os s) = outputs_go S n told v w p (Up x) os s are k in
     goes_at S n told v w p p (Up x) (Up y) (passing n os s) (up_same S (passing n os s).moments n p x y session installed tasks t.here) t
 
-pub act_goes : (S : Setting) (c : Cluster) (n : ℕ) (told : Delivered) (v w : Nodes) (disk : NodeRecord) (x : UpNode) (g : Hand) (a : Act) (s : Scene) → (AsksIn told → ⊥)
-    → MayAct c n told x a → ActSo a → ActMay S.header n told g x a → IsSimple a → DoingAgrees S.header n (site (Up x) disk) s.moments (Does a) → seizings.Goes S.header n told v w (site (Up x) disk) g s → Goes S n told v w None (Up x) s
+pub act_goes : (S : View) (c : Cluster) (n : ℕ) (told : Delivered) (v w : Nodes) (disk : NodeRecord) (x : UpNode) (g : Hand) (a : Act) (s : Scene) → (AsksIn told → ⊥)
+    → MayAct c n told x a → ActSo a → ActMay S.setting.header n told g x a → IsSimple a → DoingAgrees S.setting.header n (site (Up x) disk) s.moments (Does a) → seizings.Goes S.setting.header n told v w (site (Up x) disk) g s → Goes S n told v w None (Up x) s
     → Goes S n told v w None (Up (acted c n x a)) (passing n (said c n x a) s)
 act_goes S c n told v w disk x g a s calm may so guard simple agrees z k = by_act a may so guard simple agrees
   where
@@ -184,15 +185,15 @@ act_goes S c n told v w disk x g a s calm may so guard simple agrees z k = by_ac
         → Goes S n told v w None (Up y) (passing n os s)
     mild_to y os are session installed tasks = mild_at S n told v w None x y os s are session installed tasks k
 
-    queues : (b : AttemptState) (d : ℕ) (kind : SeizeKind) → x.attempt ≡ Some b → ActMay S.header n told g x (Queues b d kind)
+    queues : (b : AttemptState) (d : ℕ) (kind : SeizeKind) → x.attempt ≡ Some b → ActMay S.setting.header n told g x (Queues b d kind)
         → Goes S n told v w None (Up (acted c n x (Queues b d kind))) s
     queues b d kind is e =
         let q : seizing.SeizeState = seizing.begun kind b.plan.epoch b.plan.members n c.id (has (record_of x).valid d) in
         if_either (λ (y : UpNode). Goes S n told v w None (Up y) s) (has b.plan.members n) (record x { tasks = after_seize x.tasks d q }) x
         (goes_at S n told v w None None (Up x) (Up (record x { tasks = after_seize x.tasks d q })) s
-        (queued_up S s.moments n d x q (open_here S n s.moments (leads_so S.header n s.moments x b is (before_in b d kind g e) z.here.up)) k.here) k) k
+        (queued_up S s.moments n d x q (open_here S n s.moments (leads_so S.setting.header n s.moments x b is (before_in b d kind g e) z.here.up)) k.here) k) k
 
-    by_act : (b : Act) → MayAct c n told x b → ActSo b → ActMay S.header n told g x b → IsSimple b → DoingAgrees S.header n (site (Up x) disk) s.moments (Does b)
+    by_act : (b : Act) → MayAct c n told x b → ActSo b → ActMay S.setting.header n told g x b → IsSimple b → DoingAgrees S.setting.header n (site (Up x) disk) s.moments (Does b)
         → Goes S n told v w None (Up (acted c n x b)) (passing n (said c n x b) s)
     by_act (Hears from b) m o e f i = mild_to (acted c n x (Hears from b)) [] tt refl refl refl
     by_act Ticks m o e f i = mild_to (acted c n x Ticks) (said c n x Ticks) (tt, tick_mild c x) refl refl refl

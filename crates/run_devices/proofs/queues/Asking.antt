@@ -20,7 +20,7 @@ use Rattle.wire.specs.declared.message.Body.TheVariants as body
 use Rattle.wire.specs.declared.message.Message.{Message}
 use Rattle.history.specs.Moment.{Moment}
 use Rattle.history.specs.Queue as told
-use Rattle.history.specs.Setting.{Setting}
+use Rattle.run_devices.specs.queues.Views.{View}
 use Rattle.node_model.specs.Members.{hearing, is_foreign, is_foreign_seizing}
 use Rattle.node_model.specs.Seats.{installed_of, is_in}
 use Rattle.node_model.specs.Steps.{at_second}
@@ -39,7 +39,7 @@ use Rattle.run_history.specs.Guards.{request_as}
 use Rattle.run_history.specs.Scenes.{Scene, passing}
 use Rattle.run_devices.specs.queues.Kept.{Pending, Tells, UpSo, begun_with}
 use Rattle.run_devices.specs.queues.Laws.{Same}
-use Rattle.run_devices.specs.queues.Told.{told_tasks}
+use Rattle.run_devices.specs.queues.Views.{told_tasks}
 use Rattle.run_devices.proofs.queues.Acts.{mild_at}
 use Rattle.run_devices.proofs.queues.Goes.{Goes, goes_at, posting_goes}
 use Rattle.run_devices.proofs.queues.Requests.{pending_by, pending_of, state_for}
@@ -58,7 +58,7 @@ tells_kept : (o : Option (List told.Task)) (p : Pending) (x : UpNode) → begun_
 tells_kept None p x same k = tt
 tells_kept (Some ts) p x same k = (k.0, λ ne. subst (λ z. Same z ts) same (k.1 ne))
 
-kept_up : (S : Setting) (ms : List Moment) (n : ℕ) (p : Pending) (x : UpNode) → begun_with p x.tasks ≡ x.tasks → UpSo S ms n p x → UpSo S ms n None x
+kept_up : (S : View) (ms : List Moment) (n : ℕ) (p : Pending) (x : UpNode) → begun_with p x.tasks ≡ x.tasks → UpSo S ms n p x → UpSo S ms n None x
 kept_up S ms n p x same k =
     record { none = k.none; fresh = k.fresh; done = k.done; plain = k.plain; tells = tells_kept (told_tasks S n ms) p x same k.tells }
 
@@ -66,7 +66,7 @@ tells_begun : (o : Option (List told.Task)) (d : ℕ) (s : SeizeState) (x : UpNo
 tells_begun None d s x k = tt
 tells_begun (Some ts) d s x k = (λ is. subst (λ z. Same z ts) (sym (joins_begun d x.tasks s)) (k.0 is), λ ne. k.1 ne)
 
-begun_up : (S : Setting) (ms : List Moment) (n d : ℕ) (s : SeizeState) (x : UpNode) → UpSo S ms n (Some (d, s)) x → UpSo S ms n None (record x { tasks = after_seize x.tasks d s })
+begun_up : (S : View) (ms : List Moment) (n d : ℕ) (s : SeizeState) (x : UpNode) → UpSo S ms n (Some (d, s)) x → UpSo S ms n None (record x { tasks = after_seize x.tasks d s })
 begun_up S ms n d s x k = record {
   none = k.none;
   fresh = k.fresh;
@@ -77,18 +77,18 @@ begun_up S ms n d s x k = record {
 
 -- ---- the steps
 
-abbrev Walked : Setting → Cluster → ℕ → Delivered → Nodes → Nodes → NodeRecord → UpNode → List Reply → Course → Scene → Type 0
+abbrev Walked : View → Cluster → ℕ → Delivered → Nodes → Nodes → NodeRecord → UpNode → List Reply → Course → Scene → Type 0
 Walked S c n told v w disk x replies k s = Goes S n told v w None (after_all c n (site (Up x) disk) (under replies k)).node (passing n (given_all c n (site (Up x) disk) (under replies k)) s)
 
-writes : (S : Setting) (c : Cluster) (n : ℕ) (told : Delivered) (v w : Nodes) (disk : NodeRecord) (x : UpNode) (replies : List Reply) (to : ℕ) (b : Body) (s : Scene)
+writes : (S : View) (c : Cluster) (n : ℕ) (told : Delivered) (v w : Nodes) (disk : NodeRecord) (x : UpNode) (replies : List Reply) (to : ℕ) (b : Body) (s : Scene)
     → Goes S n told v w None (Up x) s → Walked S c n told v w disk x replies (writing to b) s
 writes S c n told v w disk x replies to b s k = posting_goes S n told v w None (Up x) s to (record { sender = n; body = b }) k
 
-kept_goes : (S : Setting) (n : ℕ) (told : Delivered) (v w : Nodes) (p : Pending) (x : UpNode) (s : Scene) → begun_with p x.tasks ≡ x.tasks → Goes S n told v w p (Up x) s
+kept_goes : (S : View) (n : ℕ) (told : Delivered) (v w : Nodes) (p : Pending) (x : UpNode) (s : Scene) → begun_with p x.tasks ≡ x.tasks → Goes S n told v w p (Up x) s
     → Goes S n told v w None (Up x) s
 kept_goes S n told v w p x s same k = goes_at S n told v w p None (Up x) (Up x) s (kept_up S s.moments n p x same k.here) k
 
-request_walk : (S : Setting) (c : Cluster) (n : ℕ) (told : Delivered) (v w : Nodes) (disk : NodeRecord) (x : UpNode) (replies : List Reply) (from e members d : ℕ) (kind : SeizeKind)
+request_walk : (S : View) (c : Cluster) (n : ℕ) (told : Delivered) (v w : Nodes) (disk : NodeRecord) (x : UpNode) (replies : List Reply) (from e members d : ℕ) (kind : SeizeKind)
     (s : Scene) → Goes S n told v w (pending_by false true (installed_of x == e) d (state_for c n x kind e members d)) (Up x) s
     → Walked S c n told v w disk x replies (request_course x from kind e members d (kept_of x.tasks d)) s
 request_walk S c n told v w disk x replies from e members d kind s k = by_kept (kept_of x.tasks d) refl
@@ -111,7 +111,7 @@ request_walk S c n told v w disk x replies from e members d kind s k = by_kept (
         (kept_goes S n told v w (pending_by false true (installed_of x == e) d q) x s (held (installed_of x == e) r is) k)
     by_kept None is = by_over (installed_of x == e) k
 
-seizing_walk : (S : Setting) (c : Cluster) (n : ℕ) (told : Delivered) (v w : Nodes) (disk : NodeRecord) (x : UpNode) (replies : List Reply) (from e members d : ℕ) (kind : SeizeKind)
+seizing_walk : (S : View) (c : Cluster) (n : ℕ) (told : Delivered) (v w : Nodes) (disk : NodeRecord) (x : UpNode) (replies : List Reply) (from e members d : ℕ) (kind : SeizeKind)
     (s : Scene) → Goes S n told v w (pending_by false (is_in x e) (installed_of x == e) d (state_for c n x kind e members d)) (Up x) s
     → Walked S c n told v w disk x replies (seizing_course x from kind e members d) s
 seizing_walk S c n told v w disk x replies from e members d kind s k = by_inside (is_in x e) k
@@ -125,7 +125,7 @@ seizing_walk S c n told v w disk x replies from e members d kind s k = by_inside
 abbrev course_for : Cluster → ℕ → Outcome → UpNode → ℕ → Message → Body → Course
 course_for c n outcome x from m b = if is_foreign c n x b then Stops else Acts (Hears from b) (body_course c n outcome (hearing x from b) from m b)
 
-heard_walk : (S : Setting) (c : Cluster) (n : ℕ) (told : Delivered) (v w : Nodes) (disk : NodeRecord) (x : UpNode) (replies : List Reply) (from e members d : ℕ) (kind : SeizeKind) (b : Body)
+heard_walk : (S : View) (c : Cluster) (n : ℕ) (told : Delivered) (v w : Nodes) (disk : NodeRecord) (x : UpNode) (replies : List Reply) (from e members d : ℕ) (kind : SeizeKind) (b : Body)
     (s : Scene) → (f : Bool) → Goes S n told v w (pending_by f (is_in x e) (installed_of x == e) d (state_for c n x kind e members d)) (Up x) s
     → Walked S c n told v w disk x replies (if f then Stops else Acts (Hears from b) (seizing_course (hearing x from b) from kind e members d)) s
 heard_walk S c n told v w disk x replies from e members d kind b s true k = k
@@ -133,7 +133,7 @@ heard_walk S c n told v w disk x replies from e members d kind b s false k =
     seizing_walk S c n told v w disk (hearing x from b) replies from e members d kind s
     (mild_at S n told v w (pending_by false (is_in x e) (installed_of x == e) d (state_for c n x kind e members d)) x (hearing x from b) [] s tt refl refl refl k)
 
-asked_walk : (S : Setting) (c : Cluster) (n : ℕ) (outcome : Outcome) (told : Delivered) (v w : Nodes) (disk : NodeRecord) (x : UpNode) (replies : List Reply) (from e members d : ℕ)
+asked_walk : (S : View) (c : Cluster) (n : ℕ) (outcome : Outcome) (told : Delivered) (v w : Nodes) (disk : NodeRecord) (x : UpNode) (replies : List Reply) (from e members d : ℕ)
     (kind : SeizeKind) (m : Message) (s : Scene) → Goes S n told v w (pending_of c n x kind e members d) (Up x) s
     → Walked S c n told v w disk x replies (course_for c n outcome x from m (request_as kind e members d)) s
 asked_walk S c n outcome told v w disk x replies from e members d Vote m s k =
@@ -142,7 +142,7 @@ asked_walk S c n outcome told v w disk x replies from e members d Plain m s k =
     heard_walk S c n told v w disk x replies from e members d Plain (body.SeizeData e members d) s (is_foreign_seizing c n members d) k
 
 -- of a node that is up
-pub request_goes : (S : Setting) (c : Cluster) (n now : ℕ) (ends : method.Outcome) (told : Delivered) (v w : Nodes) (disk : NodeRecord) (x : UpNode) (replies : List Reply)
+pub request_goes : (S : View) (c : Cluster) (n now : ℕ) (ends : method.Outcome) (told : Delivered) (v w : Nodes) (disk : NodeRecord) (x : UpNode) (replies : List Reply)
     (from e members d : ℕ) (kind : SeizeKind) (m : Message) (s : Scene) → m.body ≡ request_as kind e members d → Goes S n told v w (pending_of c n x kind e members d) (Up x) s
     → Goes S n told v w None (after_all c n (site (Up x) disk) (doings c n now ends replies (input.Packet from m) (Up x))).node
     (passing n (given_all c n (site (Up x) disk) (doings c n now ends replies (input.Packet from m) (Up x))) s)

@@ -1,8 +1,9 @@
 -- What a node saves: a promise, an attempt of its own, an install.
-use Rattle.std.specs.Prelude.{ℕ, ◌≡◌, ◌<◌, ◌≤◌, ◌==◌, ◌&&◌, ◌++◌, Bool, true, false, List, [], ◌∷◌, length, Option, None, Some}
+use Rattle.std.specs.Prelude.{ℕ, ◌≡◌, ◌<◌, ◌≤◌, ◌==◌, ◌&&◌, ◌++◌, Bool, true, false, List, [], ◌∷◌, length, Option, None, Some, is_some, if◌then◌else◌}
 use Rattle.std.specs.List.{list_any}
 use Rattle.std.proofs.Common.{refl, sym, ap, subst, ◌∙◌, arith}
 use Rattle.cl_base.specs.Sets.{has}
+use Rattle.cl_base.specs.declared.header.Header.{Header}
 use Rattle.attempt_laws.proofs.Goes.{chosen_reached, goes_by_call}
 use Rattle.attempt_laws.proofs.Stays.{plan_stays}
 use Rattle.cmm_attempt.proofs.Basics.{same_some}
@@ -25,11 +26,12 @@ use Rattle.history.specs.Member as member
 use Rattle.history.specs.Member.{in_collect}
 use Rattle.history.specs.Moment.{Moment}
 use Rattle.history.specs.Queue as told
-use Rattle.history.specs.Queue.{joinings}
+use Rattle.history.specs.Queue.{is_open, joinings, shown_valid}
 use Rattle.history.specs.Seizing.{seizing_of}
-use Rattle.history.specs.Setting.{Setting, all_to, coordinator}
+use Rattle.run_devices.specs.queues.Views.{View}
+use Rattle.history.specs.Setting.{all_to, coordinator, key_of, paths_of}
 use Rattle.history.specs.Trace.{attempt, installed, saved}
-use Rattle.history.specs.Validated.{validity}
+use Rattle.history.specs.Validated.{Lapsed, Open, Valid, at_install, validity}
 use Rattle.node_model.specs.Attempts.{joining_from}
 use Rattle.node_model.specs.Entries.{unknown_lines}
 use Rattle.node_model.specs.Members.{rested_by}
@@ -47,8 +49,9 @@ use Rattle.refinement.specs.Ties.{Delivered}
 use Rattle.run_history.proofs.Changes.{At, at_attempt, session_after}
 use Rattle.run_history.proofs.Walk.{passing_append}
 use Rattle.run_history.specs.Scenes.{Scene, passing, telling}
+use Rattle.run_history.specs.WorldLines.{IsDevice}
 use Rattle.run_seizings.proofs.Changes.{NoCollect, mid}
-use Rattle.run_seizings.proofs.Progress.{if_not, if_so, or_left, same_is}
+use Rattle.run_seizings.proofs.Progress.{if_not, if_so, no_truth, or_left, same_is}
 use Rattle.run_seizings.proofs.Promising.{and_both, same_so}
 use Rattle.run_seizings.specs.Seized.{ReadSo, has_installed}
 use Rattle.run_devices.specs.installs.Shown.{InstallSo, ReadInOrder}
@@ -60,8 +63,9 @@ use Rattle.run_devices.proofs.validity.Goes.{HasCollect, IsCollect}
 use Rattle.run_devices.proofs.validity.Installs.{Brings, mid_brings}
 use Rattle.run_devices.specs.queues.Kept.{NoJoins, Pending, Tells, UpSo, joins_in}
 use Rattle.run_devices.specs.queues.Laws.{Same}
-use Rattle.run_devices.specs.queues.Told.{is_unsure, joined, leads, told_after, told_tasks}
-use Rattle.run_devices.proofs.queues.Joinings.{Paths, ReadAgrees, read_agrees}
+use Rattle.run_devices.specs.queues.Told.{is_unsure, leads}
+use Rattle.run_devices.specs.queues.Views.{ShownAs, joined, leaves_open, stays_open, told_after, told_tasks}
+use Rattle.run_devices.proofs.queues.Joinings.{Paths, ReadAgrees, any_to, read_agrees}
 use Rattle.run_devices.proofs.queues.Joined.{joinings_same}
 use Rattle.run_devices.proofs.queues.Goes.{Goes, line_goes, mild_append, outputs_go}
 use Rattle.run_devices.proofs.queues.Mild.{superseded_mild, unknown_mild}
@@ -74,14 +78,14 @@ and_not : (a b : Bool) → b ≡ false → (a && b) ≡ false
 and_not true b h = h
 and_not false b h = refl
 
-saved_still : (S : Setting) (ms : List Moment) (n : ℕ) → in_collect n ms ≡ false → Still S ms n (saved n)
+saved_still : (S : View) (ms : List Moment) (n : ℕ) → in_collect n ms ≡ false → Still S ms n (saved n)
 saved_still S ms n calm = record {
   told = λ ts is. sym (if_not ((n == n) && in_collect n ms) (Some []) (told_tasks S n ms) (and_not (n == n) (in_collect n ms) calm)) ∙ is;
   installs = λ e. refl;
   session = λ k. if_not ((n == n) && in_collect n ms) (member.promised_to ms) (member.session_of n ms) (and_not (n == n) (in_collect n ms) calm) ∙ k;
 }
 
-pub mid_goes : (S : Setting) (n : ℕ) (told : Delivered) (v w : Nodes) (x : UpNode) (s : Scene) (b : Bool) → (b ≡ true → NoCollect told) → Goes S n told v w None (Up x) s
+pub mid_goes : (S : View) (n : ℕ) (told : Delivered) (v w : Nodes) (x : UpNode) (s : Scene) (b : Bool) → (b ≡ true → NoCollect told) → Goes S n told v w None (Up x) s
     → Goes S n told v w None (Up x) (passing n (mid b n) s)
 mid_goes S n told v w x s false calm k = k
 mid_goes S n told v w x s true calm k =
@@ -101,7 +105,7 @@ positive : (a b : ℕ) → a < b → b ≡ 0 → ⊥
 positive a b low is = omega (arith, low, is)
 
 -- its tasks are dropped
-entered_up : (S : Setting) (ms : List Moment) (n : ℕ) (y : UpNode) → installed_of y < session_of y → has_installed n (session_of y) ms ≡ false → y.tasks ≡ []
+entered_up : (S : View) (ms : List Moment) (n : ℕ) (y : UpNode) → installed_of y < session_of y → has_installed n (session_of y) ms ≡ false → y.tasks ≡ []
     → ((ts : List told.Task) → told_tasks S n ms ≡ Some ts → ts ≡ []) → UpSo S ms n None y
 entered_up S ms n y low fresh none told = record {
   none = λ is. absurd (positive (installed_of y) (session_of y) low is);
@@ -112,7 +116,7 @@ entered_up S ms n y low fresh none told = record {
       (λ ts is. (λ same. absurd (not_below (installed_of y) (session_of y) low same), λ ne. subst (λ us. Same y.tasks us) (sym (told ts is)) (subst (λ z. Same z []) (sym none) tt)));
 }
 
-pub told_dropped : (S : Setting) (n : ℕ) (x : Moment) (ms : List Moment) (ts : List told.Task) → told_after S n x ms (told_tasks S n ms) ≡ Some [] → told_tasks S n (x ∷ ms) ≡ Some ts → ts ≡ []
+pub told_dropped : (S : View) (n : ℕ) (x : Moment) (ms : List Moment) (ts : List told.Task) → told_after S n x ms (told_tasks S n ms) ≡ Some [] → told_tasks S n (x ∷ ms) ≡ Some ts → ts ≡ []
 told_dropped S n x ms ts drops is =
     let k : Kept (leads n (x ∷ ms)) (told_after S n x ms (told_tasks S n ms)) ts = kept (leads n (x ∷ ms)) (told_after S n x ms (told_tasks S n ms)) ts is in
     sym (same_some [] ts (sym drops ∙ k.told))
@@ -141,12 +145,12 @@ unseen n p ms low less k = by_test (has_installed n p ms) k
     by_test true f = absurd (too_high p low (f refl) less)
     by_test false f = refl
 
-rested_up : (S : Setting) (ms : List Moment) (n p : ℕ) (x : UpNode) (o : Option AttemptState) → installed_of x < p → has_installed n p ms ≡ false
+rested_up : (S : View) (ms : List Moment) (n p : ℕ) (x : UpNode) (o : Option AttemptState) → installed_of x < p → has_installed n p ms ≡ false
     → ((ts : List told.Task) → told_tasks S n ms ≡ Some ts → ts ≡ []) → UpSo S ms n None (rested_by (promising x p) o)
 rested_up S ms n p x None low fresh told = entered_up S ms n (promising x p) low fresh refl told
 rested_up S ms n p x (Some a) low fresh told = entered_up S ms n (rested_by (promising x p) (Some a)) low fresh refl told
 
-pub promises_go : (S : Setting) (c : Cluster) (n : ℕ) (told : Delivered) (v w : Nodes) (x : UpNode) (p : ℕ) (s : Scene) → installed_of x ≤ promised_of x
+pub promises_go : (S : View) (c : Cluster) (n : ℕ) (told : Delivered) (v w : Nodes) (x : UpNode) (p : ℕ) (s : Scene) → installed_of x ≤ promised_of x
     → (has_installed n p s.moments ≡ true → p ≤ promised_of x) → MayChange c n told x (Promises p) → Goes S n told v w None (Up x) s
     → Goes S n told v w None (Up (changed c n x (Promises p))) (passing n (mid true n ++ last_lines c n x (Promises p)) s)
 promises_go S c n told v w x p s order low may k =
@@ -167,7 +171,7 @@ mid_installs : (n p : ℕ) (b : Bool) (s : Scene) → has_installed n p (passing
 mid_installs n p true s = refl
 mid_installs n p false s = refl
 
-pub leads_go : (S : Setting) (c : Cluster) (n : ℕ) (told : Delivered) (v w : Nodes) (x : UpNode) (p members : ℕ) (b : Bool) (s : Scene) → installed_of x ≤ promised_of x
+pub leads_go : (S : View) (c : Cluster) (n : ℕ) (told : Delivered) (v w : Nodes) (x : UpNode) (p members : ℕ) (b : Bool) (s : Scene) → installed_of x ≤ promised_of x
     → (has_installed n p s.moments ≡ true → p ≤ promised_of x) → MayChange c n told x (Leads p members) → (b ≡ true → NoCollect told) → Goes S n told v w None (Up x) s
     → Goes S n told v w None (Up (changed c n x (Leads p members))) (passing n (mid b n ++ last_lines c n x (Leads p members)) s)
 leads_go S c n told v w x p members b s order low may calm k =
@@ -188,22 +192,70 @@ leads_go S c n told v w x p members b s order low may calm k =
 -- ---- an install
 
 -- what holds of the run
-pub record Placed (S : Setting) (c : Cluster) (n : ℕ) : Type 0 where
-  pub fixed : Fixed S.header c n
-  pub paths : Paths S c n
+pub record Placed (S : View) (c : Cluster) (n : ℕ) : Type 0 where
+  pub fixed : Fixed S.setting.header c n
+  pub paths : Paths S.setting c n
 
-told_joined : (S : Setting) (n e : ℕ) (ms : List Moment) (ts : List told.Task) → told_tasks S n (installed n e ∷ ms) ≡ Some ts
-    → Failed (list_any (is_unsure S n e ms) (all_to (length S.header.devices))) (Some (joinings S n e ms)) ts
+told_joined : (S : View) (n e : ℕ) (ms : List Moment) (ts : List told.Task) → told_tasks S n (installed n e ∷ ms) ≡ Some ts
+    → Failed (list_any (leaves_open S n e ms) (all_to (length S.setting.header.devices))) (Some (joinings S.setting n e ms)) ts
 told_joined S n e ms ts is =
     let k : Kept (leads n (installed n e ∷ ms)) (told_after S n (installed n e) ms (told_tasks S n ms)) ts =
     kept (leads n (installed n e ∷ ms)) (told_after S n (installed n e) ms (told_tasks S n ms)) ts is in
-    failed (list_any (is_unsure S n e ms) (all_to (length S.header.devices))) (Some (joinings S n e ms)) ts
+    failed (list_any (leaves_open S n e ms) (all_to (length S.setting.header.devices))) (Some (joinings S.setting n e ms)) ts
     (sym (if_so (n == n) (joined S n e ms) (told_tasks S n ms) (same_is n)) ∙ k.told)
 
-installed_so : (S : Setting) (c : Cluster) (n e joined_set : ℕ) (told : Delivered) (v w : Nodes) (x y : UpNode) (ts : List Task) (rs : List Reading) (s : Scene) → Placed S c n
-    → e ≡ session_of y → e ≡ installed_of y → session_of y ≡ session_of x → ReadSo S.header s.moments e rs → ReadAgrees S n e joined_set s.moments rs
-    → ReadInOrder rs → ((d : ℕ) → told_in rs d ≡ seizing_of S.header e d s.moments) → y.tasks ≡ joining_from c n e joined_set ts rs → NoJoins ts → Goes S n told v w None (Up x) s → Goes S n told v w None (Up y) (telling (entry.Node n (note.Installed e)) s)
-installed_so S c n e joined_set told v w x y ts rs s placed session here same reads agrees order seizings tasks plain k =
+any_off : (b : Bool) → (b ≡ true → ⊥) → b ≡ false
+any_off true ban = absurd (ban refl)
+any_off false ban = refl
+
+all_three : (a b c : Bool) → a ≡ true → b ≡ true → c ≡ true → (a && b && c) ≡ true
+all_three true true c f g k = k
+all_three true false c f g k = absurd (no_truth g)
+all_three false b c f g k = absurd (no_truth f)
+
+-- it is known of each device that is not left open
+known_of : (S : View) (n e held : ℕ) (ms : List Moment) → list_any (leaves_open S n e ms) (all_to (length S.setting.header.devices)) ≡ false
+    → (S.alone ≡ false → (coordinator e == n) ≡ false → ShownAs S.setting n e held ms) → ShownAs S.setting n e held ms
+known_of S n e held ms sure shown d ask = by_view S.alone refl
+  where
+    h : Header
+    h = S.setting.header
+
+    off : leaves_open S n e ms d ≡ false
+    off =
+        any_off (leaves_open S n e ms d)
+        (λ on. no_truth (sym sure ∙ any_to (leaves_open S n e ms) (length h.devices) d ask.device.0 ask.device.1 on))
+
+    unsure : is_unsure S.setting n e ms d ≡ true
+    unsure =
+        all_three (has (paths_of h d) n) (is_some (seizing_of h e d ms)) (is_open (validity h n d ms)) ask.path (ap is_some ask.seized) (ap is_open ask.stays)
+
+    still : validity h n d (installed n e ∷ ms) ≡ Open
+    still =
+        if_so (n == n) (at_install h n (seizing_of h e d ms) (validity h n d ms)) (validity h n d ms) (same_is n)
+        ∙ (ap (λ o. at_install h n o (validity h n d ms)) ask.seized
+        ∙ (if_not (ask.found.seizer == n) Valid (if list_any (λ key. key == key_of h n) ask.found.keys then validity h n d ms else Lapsed) ask.other
+        ∙ (if_so (list_any (λ key. key == key_of h n) ask.found.keys) (validity h n d ms) Lapsed ask.seen ∙ ask.stays)))
+
+    stays : (coordinator e == n) ≡ true → stays_open S n e ms d ≡ true
+    stays own =
+        and_both (coordinator e == n) (has (paths_of h d) n && is_open (validity h n d (installed n e ∷ ms))) own
+        (and_both (has (paths_of h d) n) (is_open (validity h n d (installed n e ∷ ms))) ask.path (ap is_open still))
+
+    by_coordinator : (b : Bool) → (coordinator e == n) ≡ b → S.alone ≡ false → has (shown_valid n ms) d ≡ has held d
+    by_coordinator false other besides = shown besides other d ask
+    by_coordinator true own besides =
+        absurd (no_truth (sym off ∙ (if_not S.alone (is_unsure S.setting n e ms d) (stays_open S n e ms d) besides ∙ stays own)))
+
+    by_view : (b : Bool) → S.alone ≡ b → has (shown_valid n ms) d ≡ has held d
+    by_view true lines = absurd (no_truth (sym off ∙ (if_so S.alone (is_unsure S.setting n e ms d) (stays_open S n e ms d) lines ∙ unsure)))
+    by_view false besides = by_coordinator (coordinator e == n) refl besides
+
+installed_so : (S : View) (c : Cluster) (n e held joined_set : ℕ) (told : Delivered) (v w : Nodes) (x y : UpNode) (ts : List Task) (rs : List Reading) (s : Scene) → Placed S c n
+    → e ≡ session_of y → e ≡ installed_of y → session_of y ≡ session_of x → ReadSo S.setting.header s.moments e rs → ReadAgrees S.setting n e held joined_set s.moments rs
+    → ((d : ℕ) → IsDevice S.setting.header d → Agrees (validity S.setting.header n d s.moments) (has held d))
+    → (S.alone ≡ false → (coordinator e == n) ≡ false → ShownAs S.setting n e held s.moments) → ReadInOrder rs → ((d : ℕ) → told_in rs d ≡ seizing_of S.setting.header e d s.moments) → y.tasks ≡ joining_from c n e joined_set ts rs → NoJoins ts → Goes S n told v w None (Up x) s → Goes S n told v w None (Up y) (telling (entry.Node n (note.Installed e)) s)
+installed_so S c n e held joined_set told v w x y ts rs s placed session here same reads agrees holds shown order seizings tasks plain k =
     line_goes S n told v w None None (Up x) (Up y) s (entry.Node n (note.Installed e)) refl (λ j ne is. ne (sym is)) (record {
       none = λ is. k.here.none (sym same ∙ is);
       fresh = λ some ne. absurd (ne (sym here ∙ session));
@@ -212,20 +264,21 @@ installed_so S c n e joined_set told v w x y ts rs s placed session here same re
           (and_both (n == n) (e == session_of y) (same_is n) (same_so e (session_of y) session));
       plain = λ ne. absurd (ne (sym here ∙ session));
       tells = tells_by (told_tasks S n (installed n e ∷ s.moments)) None y (λ us is.
-          let f : Failed (list_any (is_unsure S n e s.moments) (all_to (length S.header.devices))) (Some (joinings S n e s.moments)) us = told_joined S n e s.moments us is in (
+          let f : Failed (list_any (leaves_open S n e s.moments) (all_to (length S.setting.header.devices))) (Some (joinings S.setting n e s.moments)) us = told_joined S n e s.moments us is in (
             (λ at.
                 subst (λ z. Same (joins_in z) us) (sym tasks)
-                (subst (λ z. Same (joins_in (joining_from c n e joined_set ts rs)) z) (same_some (joinings S n e s.moments) us f.told)
-                (joinings_same S c n e joined_set s.moments ts rs placed.paths placed.fixed.id reads agrees order f.so seizings plain))),
+                (subst (λ z. Same (joins_in (joining_from c n e joined_set ts rs)) z) (same_some (joinings S.setting n e s.moments) us f.told)
+                (joinings_same S.setting c n e held joined_set s.moments ts rs placed.paths placed.fixed.id reads agrees order
+                (record { agrees = holds; known = known_of S n e held s.moments f.so shown }) seizings plain))),
             (λ ne. absurd (ne (sym here ∙ session))),
           ));
     }) k
 
-pub counts_go : (S : Setting) (c : Cluster) (M : Memberships) (n : ℕ) (told : Delivered) (v w : Nodes) (disk : NodeRecord) (x : UpNode) (a : AttemptState) (q : Call) (r : NodeState)
-    (i : Install) (b : Bool) (s : Scene) → Placed S c n → At c M n told disk x → disk ≡ record_of x → MayChange c n told x (Counts a q r i) → Brings S.header s.moments i
-    → InstallSo S.header (passing n (mid b n) s).moments n r i → RecordAgrees S.header n (passing n (mid b n) s).moments disk → (b ≡ true → NoCollect told) → Goes S n told v w None (Up x) s
+pub counts_go : (S : View) (c : Cluster) (M : Memberships) (n : ℕ) (told : Delivered) (v w : Nodes) (disk : NodeRecord) (x : UpNode) (a : AttemptState) (q : Call) (r : NodeState)
+    (i : Install) (b : Bool) (s : Scene) → Placed S c n → At c M n told disk x → disk ≡ record_of x → MayChange c n told x (Counts a q r i) → Brings S.setting.header s.moments i
+    → InstallSo S.setting.header (passing n (mid b n) s).moments n r i → RecordAgrees S.setting.header n (passing n (mid b n) s).moments disk → coordinator a.plan.epoch ≡ n → (b ≡ true → NoCollect told) → Goes S n told v w None (Up x) s
     → Goes S n told v w None (Up (changed c n x (Counts a q r i))) (passing n (mid b n ++ last_lines c n x (Counts a q r i)) s)
-counts_go S c M n told v w disk x a q r i b s placed at kept may brings so agrees calm k =
+counts_go S c M n told v w disk x a q r i b s placed at kept may brings so agrees leads calm k =
     let t : Scene = passing n (mid b n) s in
     let l : Goes S n told v w None (Up x) t = mid_goes S n told v w x s b calm k in
     let y : UpNode = changed c n x (Counts a q r i) in
@@ -238,16 +291,19 @@ counts_go S c M n told v w disk x a q r i b s placed at kept may brings so agree
     let own : a.plan.epoch ≡ session_of x = at_attempt c M n told disk x a (a.plan.epoch ≡ session_of x) at may.0 (λ z shows co. co.epoch ∙ (sym shows ∙ sight.session)) in
     let after : session_of y ≡ session_of x = session_after c n told x (Counts a q r i) may tt (λ p e. cc) in
     subst (λ z. Goes S n told v w None (Up y) z) (sym (passing_append n (mid b n) (last_lines c n x (Counts a q r i)) s))
-    (installed_so S c n i.epoch (installed_with r i).joined told v w x y [] i.readings t placed (epoch ∙ (own ∙ sym after)) refl after
-    (mid_brings S.header n i b s brings).reads
-    (read_agrees S n t.moments r i placed.fixed.many placed.fixed.few so
-    (λ d is. subst (λ z. Agrees (validity S.header n d t.moments) (has z d)) (ap (λ (z : NodeRecord). z.valid) kept ∙ ap (λ z. (state_of z).saved.valid) may.1) (agrees d is))) so.order so.told refl tt l)
+    (installed_so S c n i.epoch r.saved.valid (installed_with r i).joined told v w x y [] i.readings t placed (epoch ∙ (own ∙ sym after)) refl after
+    (mid_brings S.setting.header n i b s brings).reads
+    (read_agrees S.setting n t.moments r i placed.fixed.many placed.fixed.few so)
+    (λ d is. subst (λ z. Agrees (validity S.setting.header n d t.moments) (has z d)) (ap (λ (z : NodeRecord). z.valid) kept ∙ ap (λ z. (state_of z).saved.valid) may.1) (agrees d is))
+    (λ besides other. absurd (no_truth (sym other ∙ same_so (coordinator i.epoch) n (ap coordinator epoch ∙ leads)))) so.order so.told refl tt l)
 
-pub joins_go : (S : Setting) (c : Cluster) (n : ℕ) (told : Delivered) (v w : Nodes) (disk : NodeRecord) (x : UpNode) (r : NodeState) (i : Install) (b : Bool) (s : Scene) → Placed S c n
-    → disk ≡ record_of x → MayChange c n told x (Installs r i) → Brings S.header s.moments i → InstallSo S.header (passing n (mid b n) s).moments n r i
-    → RecordAgrees S.header n (passing n (mid b n) s).moments disk → (b ≡ true → NoCollect told) → Goes S n told v w None (Up x) s
+pub joins_go : (S : View) (c : Cluster) (n : ℕ) (told : Delivered) (v w : Nodes) (disk : NodeRecord) (x : UpNode) (r : NodeState) (i : Install) (b : Bool) (s : Scene) → Placed S c n
+    → disk ≡ record_of x → MayChange c n told x (Installs r i) → Brings S.setting.header s.moments i → InstallSo S.setting.header (passing n (mid b n) s).moments n r i
+    → RecordAgrees S.setting.header n (passing n (mid b n) s).moments disk
+    → (S.alone ≡ false → (coordinator i.epoch == n) ≡ false → ShownAs S.setting n i.epoch r.saved.valid (passing n (mid b n) s).moments) → (b ≡ true → NoCollect told)
+    → Goes S n told v w None (Up x) s
     → Goes S n told v w None (Up (changed c n x (Installs r i))) (passing n (mid b n ++ last_lines c n x (Installs r i)) s)
-joins_go S c n told v w disk x r i b s placed kept may brings so agrees calm k =
+joins_go S c n told v w disk x r i b s placed kept may brings so agrees shown calm k =
     let t : Scene = passing n (mid b n) s in
     let l : Goes S n told v w None (Up x) t = mid_goes S n told v w x s b calm k in
     let y : UpNode = changed c n x (Installs r i) in
@@ -256,7 +312,8 @@ joins_go S c n told v w disk x r i b s placed kept may brings so agrees calm k =
     let after : session_of y ≡ session_of x = session_after c n told x (Installs r i) may tt (λ p e. cc) in
     let other : installed_of x ≡ session_of x → ⊥ = λ is. may.4 (ap (λ (z : NodeState). z.saved.installed) (sym seat) ∙ (is ∙ sym at)) in
     subst (λ z. Goes S n told v w None (Up y) z) (sym (passing_append n (mid b n) (last_lines c n x (Installs r i)) s))
-    (installed_so S c n i.epoch (installed_with r i).joined told v w x y x.tasks i.readings t placed (at ∙ sym after) refl after
-    (mid_brings S.header n i b s brings).reads
-    (read_agrees S n t.moments r i placed.fixed.many placed.fixed.few so
-    (λ d is. subst (λ z. Agrees (validity S.header n d t.moments) (has z d)) (ap (λ (z : NodeRecord). z.valid) kept ∙ ap (λ (z : NodeState). z.saved.valid) seat) (agrees d is))) so.order so.told refl (l.here.plain other) l)
+    (installed_so S c n i.epoch r.saved.valid (installed_with r i).joined told v w x y x.tasks i.readings t placed (at ∙ sym after) refl after
+    (mid_brings S.setting.header n i b s brings).reads
+    (read_agrees S.setting n t.moments r i placed.fixed.many placed.fixed.few so)
+    (λ d is. subst (λ z. Agrees (validity S.setting.header n d t.moments) (has z d)) (ap (λ (z : NodeRecord). z.valid) kept ∙ ap (λ (z : NodeState). z.saved.valid) seat) (agrees d is))
+    shown so.order so.told refl (l.here.plain other) l)

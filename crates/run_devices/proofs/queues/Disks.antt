@@ -31,6 +31,7 @@ use Rattle.run_lines.specs.Entries.{MayBegin}
 use Rattle.run_devices.specs.queues.Laws.{DiskLinesOfEachRun, DoesDue, HasTold, IsDiskOf, IsDone, NodeHas, queued, skip_of}
 use Rattle.run_devices.proofs.queues.Opens.{Opening, awaits_more, due_for, first_awaits}
 use Rattle.run_devices.proofs.queues.Queues.{due_in, due_same, listed, some_same}
+use Rattle.run_devices.proofs.queues.Alone.{lines_of, same_told}
 use Rattle.run_devices.proofs.queues.Runs.{Comes_to, comes_more, first_comes, has_told}
 use Rattle.run_devices.proofs.queues.Wanted.{Awaits, Leaves}
 
@@ -87,26 +88,26 @@ opening_so S s ties = record { line_so = λ e later leaves. line_done S s e late
 
 -- ---- the run
 
-ties_at : (S : Setting) (cells : ℕ) (s : Scene) (wants : List Want) → length S.header.devices ≤ most_devices → S.header.cluster < 2 ^ 32 → Comes_to S cells s wants → Ties S s
+ties_at : (S : Setting) (cells : ℕ) (s : Scene) (wants : List Want) → length S.header.devices ≤ most_devices → S.header.cluster < 2 ^ 32 → Comes_to (lines_of S) cells s wants → Ties S s
 ties_at S cells s wants few small k = record {
   nodes = subst (λ (z : Scene). (n : ℕ) → NodeLines n (z.nodes.node n) z.moments) k.reached.is (members_of_each_run S.header cells k.reached.happenings few k.reached.may).nodes;
-  told = λ n. has_told S cells s wants n few small k;
+  told = λ n ts is. has_told (lines_of S) cells s wants n few small k ts (same_told S n s.moments ∙ is);
 }
 
 run_done : (S : Setting) (cells : ℕ) → length S.header.devices ≤ most_devices → S.header.cluster < 2 ^ 32 → (xs : List Happening) (s : Scene) (d last : Due)
-    → MayAllHappen (first_cluster S.header) s xs → ShapedFrom (first_cluster S.header) s d xs last → Comes_to S cells s d.wants → Awaits (IsDone S) s d.wants
+    → MayAllHappen (first_cluster S.header) s xs → ShapedFrom (first_cluster S.header) s d xs last → Comes_to (lines_of S) cells s d.wants → Awaits (IsDone S) s d.wants
     → Awaits (IsDone S) (all_happened (first_cluster S.header) s xs) last.wants
 run_done S cells few small [] s d last may shaped z k = subst (λ (y : Due). Awaits (IsDone S) s y.wants) shaped k
 run_done S cells few small (x ∷ xs) s d last may shaped z k =
     let c : Cluster = first_cluster S.header in
-    run_done S cells few small xs (happened c s x) (due_after c (happened c s x) d x) last may.1 shaped.1 (comes_more S cells few small s d x may.0 shaped.0 z)
+    run_done S cells few small xs (happened c s x) (due_after c (happened c s x) d x) last may.1 shaped.1 (comes_more (lines_of S) cells refl few small s d x may.0 shaped.0 z)
     (awaits_more (IsDone S) S.header s d.wants d.rounds x (opening_so S s (ties_at S cells s d.wants few small z)) may.0 shaped.0 k)
 
 disks_so : (S : Setting) (cells : ℕ) (xs : List Happening) → length S.header.devices ≤ most_devices → S.header.cluster < 2 ^ 32 → AreDisks S.header
     → MayAllHappen (first_cluster S.header) (first_scene S.header cells) xs → IsShaped (first_cluster S.header) (first_scene S.header cells) xs
     → EachEvent (IsDone S) (all_happened (first_cluster S.header) (first_scene S.header cells) xs).moments
 disks_so S cells xs few small disks may shaped =
-    (run_done S cells few small xs (first_scene S.header cells) nothing nothing may shaped (first_comes S cells few disks) (first_awaits (IsDone S) S.header cells)).events [] refl
+    (run_done S cells few small xs (first_scene S.header cells) nothing nothing may shaped (first_comes (lines_of S) cells few disks) (first_awaits (IsDone S) S.header cells)).events [] refl
 
 pub disk_lines_of_each_run : DiskLinesOfEachRun
 disk_lines_of_each_run h cells xs S few small same =

@@ -10,7 +10,7 @@ use Rattle.status_report.specs.declared.node_entry.DownCause.{DownCause}
 use Rattle.status_report.specs.declared.node_entry.NodeEntry.TheVariants as note
 use Rattle.status_report.specs.declared.update_entry.UpdateEntry.TheVariants as update_entry
 use Rattle.history.specs.Member as member
-use Rattle.history.specs.Setting.{Setting}
+use Rattle.run_devices.specs.queues.Views.{View}
 use Rattle.history.specs.Trace.{up}
 use Rattle.node_model.specs.Devices.{answer_told}
 use Rattle.node_model.specs.declared.cluster.Cluster.{Cluster}
@@ -25,16 +25,16 @@ use Rattle.run_history.specs.Scenes.{Scene, passing, telling}
 use Rattle.run_seizings.proofs.Progress.{if_so, same_is}
 use Rattle.run_devices.specs.queues.Kept.{Pending}
 use Rattle.run_devices.specs.queues.Laws.{Same}
-use Rattle.run_devices.specs.queues.Told.{told_after, told_tasks}
+use Rattle.run_devices.specs.queues.Views.{told_after, told_tasks}
 use Rattle.run_devices.proofs.queues.Acts.{own_command}
 use Rattle.run_devices.proofs.queues.Changes.{tells_by, told_dropped}
 use Rattle.run_devices.proofs.queues.Goes.{Goes, line_goes}
 
-pub gone_goes : (S : Setting) (n : ℕ) (told : Delivered) (v w : Nodes) (p : Pending) (x : Node) (why : DownCause) (s : Scene) → Goes S n told v w p x s
+pub gone_goes : (S : View) (n : ℕ) (told : Delivered) (v w : Nodes) (p : Pending) (x : Node) (why : DownCause) (s : Scene) → Goes S n told v w p x s
     → Goes S n told v w None Down (passing n (gone_line n why) s)
 gone_goes S n told v w p x why s k = line_goes S n told v w p None x Down s (entry.Node n (note.Down why)) refl (λ j ne is. ne (sym is)) tt k
 
-pub lost_goes : (S : Setting) (n : ℕ) (told : Delivered) (v w : Nodes) (p : Pending) (x : Node) (ch : Change) (why : DownCause) (s : Scene) → Goes S n told v w p x s
+pub lost_goes : (S : View) (n : ℕ) (told : Delivered) (v w : Nodes) (p : Pending) (x : Node) (ch : Change) (why : DownCause) (s : Scene) → Goes S n told v w p x s
     → Goes S n told v w None Down (passing n (first_lines n ch ++ gone_line n why) s)
 lost_goes S n told v w p x ch why s k = by_change ch
   where
@@ -62,7 +62,7 @@ lost_goes S n told v w p x ch why s k = by_change ch
 none_below : 0 < 0 → ⊥
 none_below e = omega (arith, e)
 
-pub up_goes : (S : Setting) (c : Cluster) (n : ℕ) (told : Delivered) (v w : Nodes) (disk : NodeRecord) (s : Scene) → Goes S n told v w None Down s
+pub up_goes : (S : View) (c : Cluster) (n : ℕ) (told : Delivered) (v w : Nodes) (disk : NodeRecord) (s : Scene) → Goes S n told v w None Down s
     → Goes S n told v w None (effect c n (site Down disk) Comes_up).node (passing n (of_node n note.Up ∷ []) s)
 up_goes S c n told v w disk s k =
     let drops : told_after S n (up n) s.moments (told_tasks S n s.moments) ≡ Some [] = if_so (n == n) (Some []) (told_tasks S n s.moments) (same_is n) in

@@ -24,7 +24,7 @@ use Rattle.history.specs.Member.{in_collect}
 use Rattle.history.specs.Moment.{Moment, Told}
 use Rattle.history.specs.Names as name
 use Rattle.history.specs.Names.{same_name}
-use Rattle.history.specs.Setting.{Setting}
+use Rattle.run_devices.specs.queues.Views.{View}
 use Rattle.node_model.specs.declared.node.Node.{Node}
 use Rattle.node_model.specs.declared.output.Output.{Output}
 use Rattle.node_model.specs.declared.output.Output.TheVariants.{Sends, Tells}
@@ -42,21 +42,21 @@ hand_stays ms x n told same k =
     record { collects = λ is. here ∙ k.collects is; calm = λ is. here ∙ k.calm is }
 
 -- In the step of node n, which is as x has it now, and for which this was delivered; the others are as v has them, and all as w has them in the end.
-pub record Goes (S : Setting) (n : ℕ) (told : Delivered) (v w : Nodes) (p : Pending) (x : Node) (s : Scene) : Type 0 where
+pub record Goes (S : View) (n : ℕ) (told : Delivered) (v w : Nodes) (p : Pending) (x : Node) (s : Scene) : Type 0 where
   pub here : NodeSo S s.moments n p x
   pub there : (k : ℕ) → k ≢ n → NodeSo S s.moments k None (v.node k)
   pub hand : HandSo s.moments n told
   pub nodes : s.nodes ≡ w
 
 -- the node has gone on, in memory
-pub goes_at : (S : Setting) (n : ℕ) (told : Delivered) (v w : Nodes) (p q : Pending) (x y : Node) (s : Scene) → NodeSo S s.moments n q y → Goes S n told v w p x s
+pub goes_at : (S : View) (n : ℕ) (told : Delivered) (v w : Nodes) (p q : Pending) (x y : Node) (s : Scene) → NodeSo S s.moments n q y → Goes S n told v w p x s
     → Goes S n told v w q y s
 goes_at S n told v w p q x y s here k = record { here = here; there = k.there; hand = k.hand; nodes = k.nodes }
 
-links_go : (S : Setting) (n : ℕ) (told : Delivered) (v w : Nodes) (p : Pending) (x : Node) (s : Scene) (l : Links) → Goes S n told v w p x s → Goes S n told v w p x (with_links s l)
+links_go : (S : View) (n : ℕ) (told : Delivered) (v w : Nodes) (p : Pending) (x : Node) (s : Scene) (l : Links) → Goes S n told v w p x s → Goes S n told v w p x (with_links s l)
 links_go S n told v w p x s l k = record { here = k.here; there = k.there; hand = k.hand; nodes = k.nodes }
 
-pub line_goes : (S : Setting) (n : ℕ) (told : Delivered) (v w : Nodes) (p q : Pending) (x y : Node) (s : Scene) (z : Entry) → arrived (Told z ∷ s.moments) ≡ arrived s.moments
+pub line_goes : (S : View) (n : ℕ) (told : Delivered) (v w : Nodes) (p q : Pending) (x y : Node) (s : Scene) (z : Entry) → arrived (Told z ∷ s.moments) ≡ arrived s.moments
     → ((k : ℕ) → k ≢ n → StillFor k z) → NodeSo S (Told z ∷ s.moments) n q y → Goes S n told v w p x s → Goes S n told v w q y (telling z s)
 line_goes S n told v w p q x y s z same others here k = record {
   here = here;
@@ -128,7 +128,7 @@ mild (entry.Attempt e) is = mild_attempt e is
 mild (entry.Packet e) is = mild_packet e is
 mild _ is = record { same = λ ms. refl; still = λ k. tt }
 
-pub mild_goes : (S : Setting) (n : ℕ) (told : Delivered) (v w : Nodes) (p : Pending) (x : Node) (s : Scene) (z : Entry) → IsMild z → Goes S n told v w p x s
+pub mild_goes : (S : View) (n : ℕ) (told : Delivered) (v w : Nodes) (p : Pending) (x : Node) (s : Scene) (z : Entry) → IsMild z → Goes S n told v w p x s
     → Goes S n told v w p x (telling z s)
 mild_goes S n told v w p x s z is k =
     let m : Mild z = mild z is in
@@ -136,12 +136,12 @@ mild_goes S n told v w p x s z is k =
 
 -- ---- messages
 
-dropped_goes : (S : Setting) (n : ℕ) (told : Delivered) (v w : Nodes) (p : Pending) (x : Node) (s : Scene) (o : Option (ℕ × DropCause)) → Goes S n told v w p x s
+dropped_goes : (S : View) (n : ℕ) (told : Delivered) (v w : Nodes) (p : Pending) (x : Node) (s : Scene) (o : Option (ℕ × DropCause)) → Goes S n told v w p x s
     → Goes S n told v w p x (dropped_so o s)
 dropped_goes S n told v w p x s None k = k
 dropped_goes S n told v w p x s (Some drop) k = mild_goes S n told v w p x s (entry.Packet (packet.Dropped drop.0 drop.1)) tt k
 
-pub posting_goes : (S : Setting) (n : ℕ) (told : Delivered) (v w : Nodes) (p : Pending) (x : Node) (s : Scene) (to : ℕ) (m : Message) → Goes S n told v w p x s
+pub posting_goes : (S : View) (n : ℕ) (told : Delivered) (v w : Nodes) (p : Pending) (x : Node) (s : Scene) (to : ℕ) (m : Message) → Goes S n told v w p x s
     → Goes S n told v w p x (posting n to m s)
 posting_goes S n told v w p x s to m k =
     let o : links.Outcome = sending s.links n to (spelling m) in
@@ -158,7 +158,7 @@ AreMild [] = Unit {0}
 AreMild (Tells e ∷ os) = IsMild e × AreMild os
 AreMild (Sends to b ∷ os) = AreMild os
 
-pub outputs_go : (S : Setting) (n : ℕ) (told : Delivered) (v w : Nodes) (p : Pending) (x : Node) (os : List Output) (s : Scene) → AreMild os → Goes S n told v w p x s
+pub outputs_go : (S : View) (n : ℕ) (told : Delivered) (v w : Nodes) (p : Pending) (x : Node) (os : List Output) (s : Scene) → AreMild os → Goes S n told v w p x s
     → Goes S n told v w p x (passing n os s)
 outputs_go S n told v w p x [] s are k = k
 outputs_go S n told v w p x (Tells z ∷ os) s are k = outputs_go S n told v w p x os (telling z s) are.1 (mild_goes S n told v w p x s z are.0 k)

@@ -25,12 +25,14 @@ use Rattle.history.specs.Setting.{Setting, all_to, coordinator}
 use Rattle.history.specs.Trace.{attempt, delivered, device}
 use Rattle.history.specs.UnderWay.{is_under_way}
 use Rattle.run_seizings.proofs.Progress.{if_not, no_truth}
-use Rattle.run_devices.specs.queues.Told.{ToldAsInHistory, brought, is_unsure, joined, leads, leads_for, sought, told_after, told_tasks}
+use Rattle.run_devices.specs.queues.Told.{ToldAsInHistory, leads, leads_for}
+use Rattle.run_devices.specs.queues.Views.{View, brought, joined, leaves_open, sought, told_after, told_tasks}
+use Rattle.run_devices.proofs.queues.Alone.{lines_of, same_told}
 use Rattle.run_devices.proofs.queues.Options.{Kept, Mapped, failed, kept, mapped, passed}
 
 -- what was told before was so
-abbrev Before : Setting → ℕ → List Moment → Option (List Task) → Type 0
-Before S n ms told = (tasks : List Task) → told ≡ Some tasks → tasks_of S n ms ≡ tasks
+abbrev Before : View → ℕ → List Moment → Option (List Task) → Type 0
+Before S n ms told = (tasks : List Task) → told ≡ Some tasks → tasks_of S.setting n ms ≡ tasks
 
 -- ---- tests
 
@@ -70,9 +72,9 @@ attempted S n e false o ms told old tasks off k is = k tasks is
 
 -- ---- an install
 
-joined_so : (S : Setting) (n e : ℕ) (ms : List Moment) (tasks : List Task) → joined S n e ms ≡ Some tasks → joinings S n e ms ≡ tasks
+joined_so : (S : View) (n e : ℕ) (ms : List Moment) (tasks : List Task) → joined S n e ms ≡ Some tasks → joinings S.setting n e ms ≡ tasks
 joined_so S n e ms tasks is =
-    same_some (joinings S n e ms) tasks (failed (list_any (is_unsure S n e ms) (all_to (length S.header.devices))) (Some (joinings S n e ms)) tasks is).told
+    same_some (joinings S.setting n e ms) tasks (failed (list_any (leaves_open S n e ms) (all_to (length S.setting.header.devices))) (Some (joinings S.setting n e ms)) tasks is).told
 
 -- ---- a request
 
@@ -95,19 +97,19 @@ none_requested S n (Some e) l ms tasks ban = by_acts (acts_for n e ms)
     by_acts true = not_asked S n e l.name ms tasks ban
     by_acts false = refl
 
-sought_so : (S : Setting) (n : ℕ) (l : Letter) (ms : List Moment) (called : Name) (told : Option (List Task)) (tasks : List Task) → l.name ≡ called → Before S n ms told
-    → sought S n l ms called told ≡ Some tasks → requested S n (Some l) ms (tasks_of S n ms) ≡ tasks
+sought_so : (S : View) (n : ℕ) (l : Letter) (ms : List Moment) (called : Name) (told : Option (List Task)) (tasks : List Task) → l.name ≡ called → Before S n ms told
+    → sought S n l ms called told ≡ Some tasks → requested S.setting n (Some l) ms (tasks_of S.setting n ms) ≡ tasks
 sought_so S n l ms called told tasks same k is = by_name called same is
   where
-    asked : option_map (requested S n (Some l) ms) told ≡ Some tasks → requested S n (Some l) ms (tasks_of S n ms) ≡ tasks
+    asked : option_map (requested S.setting n (Some l) ms) told ≡ Some tasks → requested S.setting n (Some l) ms (tasks_of S.setting n ms) ≡ tasks
     asked gives =
-        let m : Mapped (requested S n (Some l) ms) told tasks = mapped (requested S n (Some l) ms) told tasks gives in
-        ap (requested S n (Some l) ms) (k m.inside m.found) ∙ m.gives
+        let m : Mapped (requested S.setting n (Some l) ms) told tasks = mapped (requested S.setting n (Some l) ms) told tasks gives in
+        ap (requested S.setting n (Some l) ms) (k m.inside m.found) ∙ m.gives
 
-    other : (z : Name) → l.name ≡ z → (Asks z → ⊥) → told ≡ Some tasks → requested S n (Some l) ms (tasks_of S n ms) ≡ tasks
-    other z at ban found = none_requested S n (number_of l) l ms (tasks_of S n ms) (λ asks. ban (subst Asks at asks)) ∙ k tasks found
+    other : (z : Name) → l.name ≡ z → (Asks z → ⊥) → told ≡ Some tasks → requested S.setting n (Some l) ms (tasks_of S.setting n ms) ≡ tasks
+    other z at ban found = none_requested S.setting n (number_of l) l ms (tasks_of S.setting n ms) (λ asks. ban (subst Asks at asks)) ∙ k tasks found
 
-    by_name : (z : Name) → l.name ≡ z → sought S n l ms z told ≡ Some tasks → requested S n (Some l) ms (tasks_of S n ms) ≡ tasks
+    by_name : (z : Name) → l.name ≡ z → sought S n l ms z told ≡ Some tasks → requested S.setting n (Some l) ms (tasks_of S.setting n ms) ≡ tasks
     by_name (name.SeizeQuorum d) at found = asked (passed _ _ tasks found).told
     by_name (name.SeizeData d) at found = asked (passed _ _ tasks found).told
     by_name name.Heartbeat at found = other name.Heartbeat at (λ z. z) found
@@ -127,71 +129,74 @@ sought_so S n l ms called told tasks same k is = by_name called same is
     by_name (name.Answer d) at found = other (name.Answer d) at (λ z. z) found
     by_name name.Excluded at found = other name.Excluded at (λ z. z) found
 
-brought_so : (S : Setting) (n : ℕ) (o : Option Letter) (ms : List Moment) (told : Option (List Task)) (tasks : List Task) → Before S n ms told → brought S n o ms told ≡ Some tasks
-    → requested S n o ms (tasks_of S n ms) ≡ tasks
+brought_so : (S : View) (n : ℕ) (o : Option Letter) (ms : List Moment) (told : Option (List Task)) (tasks : List Task) → Before S n ms told → brought S n o ms told ≡ Some tasks
+    → requested S.setting n o ms (tasks_of S.setting n ms) ≡ tasks
 brought_so S n None ms told tasks k is = k tasks is
 brought_so S n (Some l) ms told tasks k is = sought_so S n l ms l.name told tasks refl k is
 
 -- ---- each moment
 
-abbrev Goal : Setting → ℕ → Moment → List Moment → List Task → Type 0
-Goal S n x ms tasks = leads n (x ∷ ms) ≡ false → Before S n ms (told_tasks S n ms) → told_after S n x ms (told_tasks S n ms) ≡ Some tasks → tasks_of S n (x ∷ ms) ≡ tasks
+abbrev Goal : View → ℕ → Moment → List Moment → List Task → Type 0
+Goal S n x ms tasks = leads n (x ∷ ms) ≡ false → Before S n ms (told_tasks S n ms) → told_after S n x ms (told_tasks S n ms) ≡ Some tasks → tasks_of S.setting n (x ∷ ms) ≡ tasks
 
-node_so : (S : Setting) (n m : ℕ) (e : NodeEntry) (ms : List Moment) (tasks : List Task) → Goal S n (Told (entry.Node m e)) ms tasks
-node_so S n m note.Up ms tasks off k is = dropped (m == n) (told_tasks S n ms) (tasks_of S n ms) tasks k is
-node_so S n m (note.Down why) ms tasks off k is = dropped (m == n) (told_tasks S n ms) (tasks_of S n ms) tasks k is
-node_so S n m note.Saved ms tasks off k is = dropped ((m == n) && in_collect n ms) (told_tasks S n ms) (tasks_of S n ms) tasks k is
+node_so : (S : View) (n m : ℕ) (e : NodeEntry) (ms : List Moment) (tasks : List Task) → Goal S n (Told (entry.Node m e)) ms tasks
+node_so S n m note.Up ms tasks off k is = dropped (m == n) (told_tasks S n ms) (tasks_of S.setting n ms) tasks k is
+node_so S n m (note.Down why) ms tasks off k is = dropped (m == n) (told_tasks S n ms) (tasks_of S.setting n ms) tasks k is
+node_so S n m note.Saved ms tasks off k is = dropped ((m == n) && in_collect n ms) (told_tasks S n ms) (tasks_of S.setting n ms) tasks k is
 node_so S n m (note.Installed e) ms tasks off k is =
-    by_test (m == n) (joined S n e ms) (told_tasks S n ms) (joinings S n e ms) (tasks_of S n ms) tasks (λ ts found. joined_so S n e ms ts found) k is
+    by_test (m == n) (joined S n e ms) (told_tasks S n ms) (joinings S.setting n e ms) (tasks_of S.setting n ms) tasks (λ ts found. joined_so S n e ms ts found) k is
 node_so S n m (note.Member e) ms tasks off k is = k tasks is
 node_so S n m note.Ticked ms tasks off k is = k tasks is
 
-attempt_so : (S : Setting) (n : ℕ) (e : AttemptEntry) (ms : List Moment) (tasks : List Task) → Goal S n (Told (entry.Attempt e)) ms tasks
+attempt_so : (S : View) (n : ℕ) (e : AttemptEntry) (ms : List Moment) (tasks : List Task) → Goal S n (Told (entry.Attempt e)) ms tasks
 attempt_so S n (tried.Begun e members) ms tasks off k is =
-    attempted S n e (coordinator e == n) (attempt_of n ms) (attempt e members ∷ ms) (told_tasks S n ms) (tasks_of S n ms) tasks off k is
-attempt_so S n (tried.Votes e have need lacking) ms tasks off k is = opened (coordinator e == n) (told_tasks S n ms) (tasks_of S n ms) tasks k is
+    attempted S.setting n e (coordinator e == n) (attempt_of n ms) (attempt e members ∷ ms) (told_tasks S n ms) (tasks_of S.setting n ms) tasks off k is
+attempt_so S n (tried.Votes e have need lacking) ms tasks off k is = opened (coordinator e == n) (told_tasks S n ms) (tasks_of S.setting n ms) tasks k is
 attempt_so S n (tried.Superseded e q) ms tasks off k is = k tasks is
 attempt_so S n (tried.Silent e m) ms tasks off k is = k tasks is
-attempt_so S n (tried.Excluded e m) ms tasks off k is = opened (coordinator e == n) (told_tasks S n ms) (tasks_of S n ms) tasks k is
-attempt_so S n (tried.Foreign e m) ms tasks off k is = opened (coordinator e == n) (told_tasks S n ms) (tasks_of S n ms) tasks k is
+attempt_so S n (tried.Excluded e m) ms tasks off k is = opened (coordinator e == n) (told_tasks S n ms) (tasks_of S.setting n ms) tasks k is
+attempt_so S n (tried.Foreign e m) ms tasks off k is = opened (coordinator e == n) (told_tasks S n ms) (tasks_of S.setting n ms) tasks k is
 
-packet_so : (S : Setting) (n : ℕ) (e : PacketEntry) (ms : List Moment) (tasks : List Task) → Goal S n (Told (entry.Packet e)) ms tasks
+packet_so : (S : View) (n : ℕ) (e : PacketEntry) (ms : List Moment) (tasks : List Task) → Goal S n (Told (entry.Packet e)) ms tasks
 packet_so S n (packet.Delivered p a m) ms tasks off k is =
     by_test (m == n) (brought S n (letter_of p ms) ms (told_tasks S n ms)) (told_tasks S n ms)
-    (with_own S n (attempt_of n ms) (delivered p a m ∷ ms) (requested S n (letter_of p ms) ms (tasks_of S n ms))) (tasks_of S n ms) tasks
+    (with_own S.setting n (attempt_of n ms) (delivered p a m ∷ ms) (requested S.setting n (letter_of p ms) ms (tasks_of S.setting n ms))) (tasks_of S.setting n ms) tasks
     (λ ts found.
-    not_own S n (attempt_of n ms) (delivered p a m ∷ ms) (requested S n (letter_of p ms) ms (tasks_of S n ms)) off
+    not_own S.setting n (attempt_of n ms) (delivered p a m ∷ ms) (requested S.setting n (letter_of p ms) ms (tasks_of S.setting n ms)) off
     ∙ brought_so S n (letter_of p ms) ms (told_tasks S n ms) ts k found) k is
 packet_so S n (packet.Sent p a m called bytes) ms tasks off k is = k tasks is
 packet_so S n (packet.Lost p) ms tasks off k is = k tasks is
 packet_so S n (packet.Repeated p copy) ms tasks off k is = k tasks is
 packet_so S n (packet.Dropped p why) ms tasks off k is = k tasks is
 
-device_so : (S : Setting) (n : ℕ) (e : DeviceEntry) (ms : List Moment) (tasks : List Task) → Goal S n (Told (entry.Device e)) ms tasks
+device_so : (S : View) (n : ℕ) (e : DeviceEntry) (ms : List Moment) (tasks : List Task) → Goal S n (Told (entry.Device e)) ms tasks
 device_so S n (device_entry.Command m d done reply) ms tasks off k is =
     by_test ((m == n) && not (is_write done)) (option_map (moved (answer_told reply)) (told_tasks S n ms)) (told_tasks S n ms)
-    (with_own S n (attempt_of n ms) (device m d done reply ∷ ms) (moved (answer_told reply) (tasks_of S n ms))) (tasks_of S n ms) tasks
+    (with_own S.setting n (attempt_of n ms) (device m d done reply ∷ ms) (moved (answer_told reply) (tasks_of S.setting n ms))) (tasks_of S.setting n ms) tasks
     (λ ts found.
     let z : Mapped (moved (answer_told reply)) (told_tasks S n ms) ts = mapped (moved (answer_told reply)) (told_tasks S n ms) ts found in
-    not_own S n (attempt_of n ms) (device m d done reply ∷ ms) (moved (answer_told reply) (tasks_of S n ms)) off
+    not_own S.setting n (attempt_of n ms) (device m d done reply ∷ ms) (moved (answer_told reply) (tasks_of S.setting n ms)) off
     ∙ (ap (moved (answer_told reply)) (k z.inside z.found) ∙ z.gives)) k is
 device_so S n (device_entry.Accepted e m d value) ms tasks off k is = k tasks is
 device_so S n (device_entry.Refused m d value why) ms tasks off k is = k tasks is
 
-entry_so : (S : Setting) (n : ℕ) (e : Entry) (ms : List Moment) (tasks : List Task) → Goal S n (Told e) ms tasks
+entry_so : (S : View) (n : ℕ) (e : Entry) (ms : List Moment) (tasks : List Task) → Goal S n (Told e) ms tasks
 entry_so S n (entry.Node m e) ms tasks off k is = node_so S n m e ms tasks off k is
 entry_so S n (entry.Attempt e) ms tasks off k is = attempt_so S n e ms tasks off k is
 entry_so S n (entry.Packet e) ms tasks off k is = packet_so S n e ms tasks off k is
 entry_so S n (entry.Device e) ms tasks off k is = device_so S n e ms tasks off k is
 entry_so S n _ ms tasks off k is = k tasks is
 
-moment_so : (S : Setting) (n : ℕ) (x : Moment) (ms : List Moment) (tasks : List Task) → Goal S n x ms tasks
+moment_so : (S : View) (n : ℕ) (x : Moment) (ms : List Moment) (tasks : List Task) → Goal S n x ms tasks
 moment_so S n (Told e) ms tasks off k is = entry_so S n e ms tasks off k is
 moment_so S n (Said l) ms tasks off k is = k tasks is
 moment_so S n (Part e) ms tasks off k is = k tasks is
 
-pub told_as_in_history : ToldAsInHistory
-told_as_in_history S n [] tasks is = same_some [] tasks is
-told_as_in_history S n (x ∷ ms) tasks is =
+pub told_so : (S : View) (n : ℕ) (ms : List Moment) (tasks : List Task) → told_tasks S n ms ≡ Some tasks → tasks_of S.setting n ms ≡ tasks
+told_so S n [] tasks is = same_some [] tasks is
+told_so S n (x ∷ ms) tasks is =
     let k : Kept (leads n (x ∷ ms)) (told_after S n x ms (told_tasks S n ms)) tasks = kept (leads n (x ∷ ms)) (told_after S n x ms (told_tasks S n ms)) tasks is in
-    moment_so S n x ms tasks k.closed (λ ts found. told_as_in_history S n ms ts found) k.told
+    moment_so S n x ms tasks k.closed (λ ts found. told_so S n ms ts found) k.told
+
+pub told_as_in_history : ToldAsInHistory
+told_as_in_history S n ms tasks is = told_so (lines_of S) n ms tasks (same_told S n ms ∙ is)

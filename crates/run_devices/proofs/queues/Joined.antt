@@ -1,5 +1,5 @@
 -- The joinings that an install brings are those that `history` tells.
-use Rattle.std.specs.Prelude.{ℕ, ◌-◌, ◌≡◌, ◌<◌, ◌≤◌, ◌==◌, ◌&&◌, ◌++◌, not, Bool, true, false, List, [], ◌∷◌, filter, length, map, Option, None, Some, is_some, if◌then◌else◌}
+use Rattle.std.specs.Prelude.{ℕ, ◌-◌, ◌≡◌, ◌<◌, ◌≤◌, ◌==◌, ◌&&◌, ◌++◌, not, Bool, true, false, List, [], ◌∷◌, filter, length, map, Option, None, Some, if◌then◌else◌}
 use Rattle.std.specs.List.{AllByRecursion, list_any}
 use Rattle.std.proofs.Common.{refl, sym, ap, subst, ◌∙◌, arith, append-nil}
 use Rattle.cl_base.specs.Sets.{has}
@@ -12,23 +12,22 @@ use Rattle.seize.specs.Joining as joining
 use Rattle.wire.specs.declared.lists.Reading.{Reading}
 use Rattle.history.specs.Moment.{Moment}
 use Rattle.history.specs.Queue as told
-use Rattle.history.specs.Queue.{holds_valid, is_open, joinings, must_join}
+use Rattle.history.specs.Queue.{holds_valid, joinings, must_join, shown_valid}
 use Rattle.history.specs.Seizing.{Seizing as Told, seizing_of}
 use Rattle.history.specs.Setting.{Setting, all_to, key_of, paths_of}
-use Rattle.history.specs.Trace.{installed}
 use Rattle.history.specs.Validated.{Lapsed, Open, Valid, Validity, at_install, validity}
 use Rattle.node_model.specs.Attempts.{is_to_join, joining_from, joining_with}
 use Rattle.node_model.specs.declared.cluster.Cluster.{Cluster}
 use Rattle.run_history.proofs.Lists.{both}
 use Rattle.run_history.specs.WorldLines.{IsDevice}
-use Rattle.run_seizings.proofs.Progress.{if_not, if_so, no_truth, same_is}
+use Rattle.run_seizings.proofs.Progress.{if_not, if_so, same_is}
 use Rattle.run_seizings.specs.Seized.{ReadSo}
 use Rattle.run_devices.specs.installs.Shown.{ReadInOrder}
 use Rattle.run_devices.specs.readings.Laws.{seizing_in, told_in}
 use Rattle.run_devices.specs.validity.Laws.{Agrees}
 use Rattle.run_devices.specs.queues.Kept.{NoJoins, joins_in}
 use Rattle.run_devices.specs.queues.Laws.{Same}
-use Rattle.run_devices.specs.queues.Told.{is_unsure}
+use Rattle.run_devices.specs.queues.Views.{ShownAs}
 use Rattle.run_devices.proofs.queues.Ascending.{contains, numbers_order, picked_has, picked_order, same_lists}
 use Rattle.run_devices.proofs.queues.Read.{read_at, read_has, read_low, read_order, told_each}
 use Rattle.run_devices.proofs.queues.Joinings.{Paths, ReadAgrees, any_to, path_in, up_to}
@@ -116,31 +115,42 @@ same_begun S c n e (d ∷ ds) id = ((refl, ap (λ z. joining.begun e n z) id), s
 -- ---- one device
 
 -- what is told to be valid or not by the install
-joins_or_not : (n d : ℕ) (own seen held : Bool) (v : Validity) (ms : List Moment) → is_open v ≡ false → Agrees (if own then Valid else (if seen then v else Lapsed)) held
-    → (not own && not (seen && holds_valid n d v ms)) ≡ not held
-joins_or_not n d true seen held v ms sure k = sym (ap not k)
-joins_or_not n d false true held Valid ms sure k = sym (ap not k)
-joins_or_not n d false true held Lapsed ms sure k = sym (ap not k)
-joins_or_not n d false true held Open ms sure k = absurd (no_truth (sym sure))
-joins_or_not n d false false held v ms sure k = sym (ap not k)
+as_held : Bool → Validity
+as_held true = Valid
+as_held false = Lapsed
+
+agrees_held : (old : Bool) → Agrees (as_held old) old
+unfolding as_held
+agrees_held true = refl
+agrees_held false = refl
+
+stays_held : (old held : Bool) → Agrees (as_held old) held → old ≡ held
+unfolding as_held
+stays_held true held k = sym k
+stays_held false held k = sym k
+
+joins_or_not : (n d : ℕ) (own seen held old : Bool) (v : Validity) (ms : List Moment) → Agrees v old
+    → ((u : Validity) → Agrees u old → Agrees (if own then Valid else (if seen then u else Lapsed)) held)
+    → (own ≡ false → seen ≡ true → v ≡ Open → has (shown_valid n ms) d ≡ old) → (not own && not (seen && holds_valid n d v ms)) ≡ not held
+joins_or_not n d true seen held old v ms so k known = sym (ap not (k v so))
+joins_or_not n d false true held old Valid ms so k known = sym (ap not (k Valid so))
+joins_or_not n d false true held old Lapsed ms so k known = sym (ap not (k Lapsed so))
+joins_or_not n d false true held old Open ms so k known = ap not (known refl refl refl ∙ stays_held old held (k (as_held old) (agrees_held old)))
+joins_or_not n d false false held old v ms so k known = sym (ap not (k v so))
 
 abbrev must : Setting → ℕ → List Moment → ℕ → Option Told → Bool
 must S n ms d o = has (paths_of S.header d) n && must_join S n d o ms
 
-sure_of : (p s o : Bool) → (p && s && o) ≡ false → p ≡ true → s ≡ true → o ≡ false
-sure_of true true o off path seized = off
-sure_of true false o off path seized = absurd (no_truth seized)
-sure_of false s o off path seized = absurd (no_truth path)
+-- what the node holds valid is as the lines tell, and where they leave it open as its Promise shows it
+pub record Held (S : Setting) (n e H : ℕ) (ms : List Moment) : Type 0 where
+  pub agrees : (d : ℕ) → IsDevice S.header d → Agrees (validity S.header n d ms) (has H d)
+  pub known : ShownAs S n e H ms
 
-any_off : (b : Bool) → (b ≡ true → ⊥) → b ≡ false
-any_off true ban = absurd (ban refl)
-any_off false ban = refl
-
-must_so : (S : Setting) (c : Cluster) (n e J : ℕ) (ms : List Moment) (r : Reading) → Paths S c n → 1 ≤ r.device → seizing_of S.header e r.device ms ≡ Some (seizing_in r)
-    → list_any (is_unsure S n e ms) (all_to (length S.header.devices)) ≡ false
-    → (IsDevice S.header r.device → Agrees (at_install S.header n (seizing_of S.header e r.device ms) (validity S.header n r.device ms)) (has J r.device))
+must_so : (S : Setting) (c : Cluster) (n e H J : ℕ) (ms : List Moment) (r : Reading) → Paths S c n → 1 ≤ r.device → seizing_of S.header e r.device ms ≡ Some (seizing_in r)
+    → Held S n e H ms
+    → (IsDevice S.header r.device → (u : Validity) → Agrees u (has H r.device) → Agrees (at_install S.header n (seizing_of S.header e r.device ms) u) (has J r.device))
     → must S n ms r.device (Some (seizing_in r)) ≡ is_to_join c n J r
-must_so S c n e J ms r paths low told sure agrees = by_path (has (paths_of S.header r.device) n) refl ∙ ap (λ b. b && not (has J r.device)) (sym (paths r.device low))
+must_so S c n e H J ms r paths low told holds agrees = by_path (has (paths_of S.header r.device) n) refl ∙ ap (λ b. b && not (has J r.device)) (sym (paths r.device low))
   where
     k : ℕ
     k = length S.header.devices
@@ -152,10 +162,10 @@ must_so S c n e J ms r paths low told sure agrees = by_path (has (paths_of S.hea
     by_path false is = refl
     by_path true is =
         let high : r.device ≤ k = up_to r.device k low (path_in n S.header.devices (r.device - 1) is) in
-        let unsure : is_unsure S n e ms r.device ≡ false = any_off (is_unsure S n e ms r.device) (λ on. no_truth (sym sure ∙ any_to (is_unsure S n e ms) k r.device low high on)) in
-        joins_or_not n r.device (r.seizer == n) (list_any (λ key. key == key_of S.header n) r.keys) (has J r.device) v ms
-        (sure_of (has (paths_of S.header r.device) n) (is_some (seizing_of S.header e r.device ms)) (is_open v) unsure is (ap is_some told))
-        (subst (λ o. Agrees (at_install S.header n o v) (has J r.device)) told (agrees (low, high)))
+        joins_or_not n r.device (r.seizer == n) (list_any (λ key. key == key_of S.header n) r.keys) (has J r.device) (has H r.device) v ms (holds.agrees r.device (low, high))
+        (λ u old. subst (λ o. Agrees (at_install S.header n o u) (has J r.device)) told (agrees (low, high) u old))
+        (λ other seen stays.
+        holds.known r.device (record { found = seizing_in r; device = (low, high); path = is; seized = told; other = other; seen = seen; stays = stays }))
 
 -- of each device
 must_all : (S : Setting) (n d : ℕ) (ms : List Moment) (Q : Reading → Bool) (rs : List Reading) → AllByRecursion (λ (r : Reading). must S n ms r.device (Some (seizing_in r)) ≡ Q r) rs
@@ -178,25 +188,20 @@ each_low : (S : Setting) (e : ℕ) (ms : List Moment) (rs : List Reading) → Re
 each_low S e ms [] reads = tt
 each_low S e ms (r ∷ rs) reads = (reads.0.0.0, each_low S e ms rs reads.1)
 
-at_line : (S : Setting) (n e d : ℕ) (ms : List Moment) (held : Bool) → Agrees (validity S.header n d (installed n e ∷ ms)) held
-    → Agrees (at_install S.header n (seizing_of S.header e d ms) (validity S.header n d ms)) held
-at_line S n e d ms held k =
-    subst (λ v. Agrees v held) (if_so (n == n) (at_install S.header n (seizing_of S.header e d ms) (validity S.header n d ms)) (validity S.header n d ms) (same_is n)) k
-
-each_must : (S : Setting) (c : Cluster) (n e J : ℕ) (ms : List Moment) (all rs : List Reading) → Paths S c n → ReadSo S.header ms e rs → ReadAgrees S n e J ms rs
-    → list_any (is_unsure S n e ms) (all_to (length S.header.devices)) ≡ false → ((d : ℕ) → told_in all d ≡ seizing_of S.header e d ms)
+each_must : (S : Setting) (c : Cluster) (n e H J : ℕ) (ms : List Moment) (all rs : List Reading) → Paths S c n → ReadSo S.header ms e rs → ReadAgrees S n e H J ms rs
+    → Held S n e H ms → ((d : ℕ) → told_in all d ≡ seizing_of S.header e d ms)
     → AllByRecursion (λ (z : Reading). told_in all z.device ≡ Some (seizing_in z)) rs
     → AllByRecursion (λ (r : Reading). must S n ms r.device (Some (seizing_in r)) ≡ is_to_join c n J r) rs
-each_must S c n e J ms all [] paths reads agrees sure told each = tt
-each_must S c n e J ms all (r ∷ rs) paths reads agrees sure told each = (
-  must_so S c n e J ms r paths reads.0.0.0 (sym (told r.device) ∙ each.0) sure (λ is. at_line S n e r.device ms (has J r.device) (agrees.0 is)),
-  each_must S c n e J ms all rs paths reads.1 agrees.1 sure told each.1,
+each_must S c n e H J ms all [] paths reads agrees holds told each = tt
+each_must S c n e H J ms all (r ∷ rs) paths reads agrees holds told each = (
+  must_so S c n e H J ms r paths reads.0.0.0 (sym (told r.device) ∙ each.0) holds agrees.0,
+  each_must S c n e H J ms all rs paths reads.1 agrees.1 holds told each.1,
 )
 
-same_devices : (S : Setting) (c : Cluster) (n e J : ℕ) (ms : List Moment) (rs : List Reading) → Paths S c n → ReadSo S.header ms e rs → ReadAgrees S n e J ms rs → ReadInOrder rs
-    → list_any (is_unsure S n e ms) (all_to (length S.header.devices)) ≡ false → ((d : ℕ) → told_in rs d ≡ seizing_of S.header e d ms)
+same_devices : (S : Setting) (c : Cluster) (n e H J : ℕ) (ms : List Moment) (rs : List Reading) → Paths S c n → ReadSo S.header ms e rs → ReadAgrees S n e H J ms rs → ReadInOrder rs
+    → Held S n e H ms → ((d : ℕ) → told_in rs d ≡ seizing_of S.header e d ms)
     → read_to_join c n J rs ≡ filter (λ d. must S n ms d (seizing_of S.header e d ms)) (all_to (length S.header.devices))
-same_devices S c n e J ms rs paths reads agrees order sure told =
+same_devices S c n e H J ms rs paths reads agrees order holds told =
     same_lists (read_to_join c n J rs) (filter P (all_to k)) (read_order Q rs order) (picked_order P (all_to k) (numbers_order k)) (λ d.
     read_has Q d rs order ∙ (sym (here d) ∙ (sym (and_so (P d) (contains d (all_to k)) (within d)) ∙ sym (picked_has P d (all_to k)))))
   where
@@ -212,21 +217,21 @@ same_devices S c n e J ms rs paths reads agrees order sure told =
     here : (d : ℕ) → P d ≡ read_at Q rs d
     here d =
         sym (ap (λ o. must S n ms d o) (told d))
-        ∙ must_all S n d ms Q rs (each_must S c n e J ms rs rs paths reads agrees sure told (told_each rs order))
+        ∙ must_all S n d ms Q rs (each_must S c n e H J ms rs rs paths reads agrees holds told (told_each rs order))
 
     within : (d : ℕ) → P d ≡ true → contains d (all_to k) ≡ true
     within d is =
         let low : 1 ≤ d = read_low Q d rs (each_low S e ms rs reads) (sym (here d) ∙ is) in
         any_to (λ x. x == d) k d low (up_to d k low (path_in n S.header.devices (d - 1) (and_cases (has (paths_of S.header d) n) (must_join S n d (seizing_of S.header e d ms) ms) is).0)) (same_is d)
 
-pub joinings_same : (S : Setting) (c : Cluster) (n e J : ℕ) (ms : List Moment) (ts : List Task) (rs : List Reading) → Paths S c n → c.id ≡ S.header.cluster → ReadSo S.header ms e rs
-    → ReadAgrees S n e J ms rs → ReadInOrder rs → list_any (is_unsure S n e ms) (all_to (length S.header.devices)) ≡ false → ((d : ℕ) → told_in rs d ≡ seizing_of S.header e d ms)
+pub joinings_same : (S : Setting) (c : Cluster) (n e H J : ℕ) (ms : List Moment) (ts : List Task) (rs : List Reading) → Paths S c n → c.id ≡ S.header.cluster → ReadSo S.header ms e rs
+    → ReadAgrees S n e H J ms rs → ReadInOrder rs → Held S n e H ms → ((d : ℕ) → told_in rs d ≡ seizing_of S.header e d ms)
     → NoJoins ts → Same (joins_in (joining_from c n e J ts rs)) (joinings S n e ms)
-joinings_same S c n e J ms ts rs paths id reads agrees order sure told none =
+joinings_same S c n e H J ms ts rs paths id reads agrees order holds told none =
     subst (λ us. Same us (joinings S n e ms))
     (sym (ap joins_in (all_begun c n e J ts rs order (free_all rs))
     ∙ (joins_behind ts (map (joining_at c n e) (read_to_join c n J rs)) none ∙ joins_all c n e (read_to_join c n J rs))))
-    (subst (λ ds. Same (map (joining_at c n e) (read_to_join c n J rs)) (map (told_at S n e) ds)) (same_devices S c n e J ms rs paths reads agrees order sure told)
+    (subst (λ ds. Same (map (joining_at c n e) (read_to_join c n J rs)) (map (told_at S n e) ds)) (same_devices S c n e H J ms rs paths reads agrees order holds told)
     (same_begun S c n e (read_to_join c n J rs) id))
   where
     free_all : (xs : List Reading) → AllByRecursion (λ (r : Reading). Free r.device ts) xs

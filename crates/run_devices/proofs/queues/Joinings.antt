@@ -15,15 +15,15 @@ use Rattle.wire.specs.declared.lists.Reading.{Reading}
 use Rattle.wire.specs.declared.message.Install.{Install}
 use Rattle.history.specs.Moment.{Moment}
 use Rattle.history.specs.Setting.{Setting, all_to, paths_in, paths_of}
-use Rattle.history.specs.Trace.{installed}
-use Rattle.history.specs.Validated.{validity}
+use Rattle.history.specs.Seizing.{seizing_of}
+use Rattle.history.specs.Validated.{Validity, at_install}
 use Rattle.node_model.specs.Clusters.{has_path}
 use Rattle.node_model.specs.declared.cluster.Cluster.{Cluster}
 use Rattle.run_history.specs.WorldLines.{IsDevice}
 use Rattle.run_seizings.proofs.Progress.{no_truth, or_left, or_right}
 use Rattle.run_devices.specs.installs.Shown.{InstallSo}
 use Rattle.run_devices.specs.validity.Laws.{Agrees}
-use Rattle.run_devices.proofs.validity.Installs.{few, install_told, less_other, less_same, more_same}
+use Rattle.run_devices.proofs.validity.Installs.{few, install_makes, less_other, less_same, more_same}
 
 -- ---- the devices of the header
 
@@ -95,23 +95,24 @@ all_same me D (r ∷ rs) apart = (
 
 -- ---- as the lines tell
 
--- each device that is read is joined by the install itself where it is valid by it, as the lines tell
-abbrev pub ReadAgrees : Setting → ℕ → ℕ → ℕ → List Moment → List Reading → Type 0
-ReadAgrees S n e joined_set ms rs =
-    AllByRecursion (λ (r : Reading). IsDevice S.header r.device → Agrees (validity S.header n r.device (installed n e ∷ ms)) (has joined_set r.device)) rs
+-- each device that is read is joined by the install itself where it is valid by it, as the seizings tell it of what was held before
+abbrev pub ReadAgrees : Setting → ℕ → ℕ → ℕ → ℕ → List Moment → List Reading → Type 0
+ReadAgrees S n e held joined_set ms rs =
+    AllByRecursion (λ (r : Reading). IsDevice S.header r.device → (v : Validity) → Agrees v (has held r.device)
+    → Agrees (at_install S.header n (seizing_of S.header e r.device ms) v) (has joined_set r.device)) rs
 
 pub read_agrees : (S : Setting) (n : ℕ) (ms : List Moment) (r : NodeState) (i : Install) → length S.header.devices ≤ most_devices → n ≤ 32 → InstallSo S.header ms n r i
-    → ((d : ℕ) → IsDevice S.header d → Agrees (validity S.header n d ms) (has r.saved.valid d)) → ReadAgrees S n i.epoch (devices_after r i).joined ms i.readings
-read_agrees S n ms r i many low so agrees = each i.readings (all_same r.me (record { valid = r.saved.valid; joined = 0 }) i.readings so.apart)
+    → ReadAgrees S n i.epoch r.saved.valid (devices_after r i).joined ms i.readings
+read_agrees S n ms r i many low so = each i.readings (all_same r.me (record { valid = r.saved.valid; joined = 0 }) i.readings so.apart)
   where
     D : Devices
     D = devices_after r i
 
-    each : (rs : List Reading) → AllByRecursion (λ (z : Reading). has D.joined z.device ≡ has D.valid z.device) rs → ReadAgrees S n i.epoch D.joined ms rs
+    each : (rs : List Reading) → AllByRecursion (λ (z : Reading). has D.joined z.device ≡ has D.valid z.device) rs → ReadAgrees S n i.epoch r.saved.valid D.joined ms rs
     each [] k = tt
     each (z ∷ rs) k = (
-      λ is.
-          subst (λ b. Agrees (validity S.header n z.device (installed n i.epoch ∷ ms)) b) (sym k.0)
-          (install_told S.header ms n z.device r.saved.valid r i many is low refl so (agrees z.device is)),
+      λ is v agrees.
+          subst (λ b. Agrees (at_install S.header n (seizing_of S.header i.epoch z.device ms) v) b) (sym k.0)
+          (install_makes S.header ms n z.device r.saved.valid r i v many is low refl so agrees),
       each rs k.1,
     )

@@ -28,11 +28,11 @@ use Rattle.history.specs.Moment.{Moment, Part, Said, Told}
 use Rattle.history.specs.Names as name
 use Rattle.history.specs.Names.{Name, named, same_name}
 use Rattle.history.specs.Queue as told
-use Rattle.history.specs.Setting.{Setting}
+use Rattle.run_devices.specs.queues.Views.{View}
 use Rattle.history.specs.Trace.{delivered}
 use Rattle.history.specs.Validated.{Validity, Valid, Lapsed, Open, is_valid, validity}
 use Rattle.node_model.specs.Members.{is_foreign_seizing, is_strange}
-use Rattle.node_model.specs.Seats.{record_of}
+use Rattle.node_model.specs.Seats.{installed_of, record_of, session_of}
 use Rattle.node_model.specs.declared.cluster.Cluster.{Cluster}
 use Rattle.node_model.specs.declared.input.Input.{Input}
 use Rattle.node_model.specs.declared.input.Input.TheVariants as input
@@ -55,7 +55,8 @@ use Rattle.run_seizings.specs.Seized.{StandsSo}
 use Rattle.run_devices.proofs.validity.Goes.{HandSo, IsCollect}
 use Rattle.run_devices.specs.validity.Laws.{Agrees, InMemory}
 use Rattle.run_devices.specs.queues.Kept.{NodeSo, Pending}
-use Rattle.run_devices.specs.queues.Told.{brought, is_plain, is_spelled, sought, told_tasks}
+use Rattle.run_devices.specs.queues.Told.{is_plain, is_spelled, is_trusted}
+use Rattle.run_devices.specs.queues.Views.{brought, sought, told_tasks, trusts}
 use Rattle.run_devices.proofs.queues.Acts.{AsksBody, AsksIn}
 use Rattle.run_devices.proofs.queues.Options.{passed}
 use Rattle.run_devices.proofs.queues.Requests.{Comes, asked_up, name_for, pending_of}
@@ -64,32 +65,32 @@ use Rattle.run_devices.proofs.queues.Stills.{Still, node_stays, still}
 
 -- ---- what is said and told
 
-moment_strict : (S : Setting) (s : Scene) (l : Links) (x : Moment) → ((n : ℕ) → Still S s.moments n x) → Strict S s → Strict S (adding x (with_links s l))
+moment_strict : (S : View) (s : Scene) (l : Links) (x : Moment) → ((n : ℕ) → Still S s.moments n x) → Strict S s → Strict S (adding x (with_links s l))
 moment_strict S s l x same k n = node_stays S s.moments x n None (s.nodes.node n) (same n) (k n)
 
-pub said_strict : (S : Setting) (s : Scene) (e : Event) → Strict S s → Strict S (adding (Said (line.Event e)) s)
+pub said_strict : (S : View) (s : Scene) (e : Event) → Strict S s → Strict S (adding (Said (line.Event e)) s)
 said_strict S s e k = moment_strict S s s.links (Said (line.Event e)) (λ n. record { told = λ ts is. is; installs = λ q. refl; session = λ z. z }) k
 
-pub part_strict : (S : Setting) (s : Scene) (e : Event) → Strict S s → Strict S (adding (Part e) s)
+pub part_strict : (S : View) (s : Scene) (e : Event) → Strict S s → Strict S (adding (Part e) s)
 part_strict S s e k = moment_strict S s s.links (Part e) (λ n. record { told = λ ts is. is; installs = λ q. refl; session = λ z. z }) k
 
 -- a line that is told of no node's step
-pub told_strict : (S : Setting) (s : Scene) (l : Links) (e : Entry) → ((n : ℕ) → Still S s.moments n (Told e)) → Strict S s → Strict S (telling e (with_links s l))
+pub told_strict : (S : View) (s : Scene) (l : Links) (e : Entry) → ((n : ℕ) → Still S s.moments n (Told e)) → Strict S s → Strict S (telling e (with_links s l))
 told_strict S s l e same k = moment_strict S s l (Told e) same k
 
-dropped_strict : (S : Setting) (s : Scene) (o : Option (ℕ × DropCause)) → Strict S s → Strict S (dropped_so o s)
+dropped_strict : (S : View) (s : Scene) (o : Option (ℕ × DropCause)) → Strict S s → Strict S (dropped_so o s)
 dropped_strict S s None k = k
 dropped_strict S s (Some drop) k =
     let e : Entry = entry.Packet (packet.Dropped drop.0 drop.1) in
     moment_strict S s s.links (Told e) (λ n. still S s.moments n e tt) k
 
-pub repeated_strict : (S : Setting) (s : Scene) (number : ℕ) (x : Packet) → Strict S s → Strict S (copying number (sending s.links x.from x.to x.bytes) s)
+pub repeated_strict : (S : View) (s : Scene) (number : ℕ) (x : Packet) → Strict S s → Strict S (copying number (sending s.links x.from x.to x.bytes) s)
 repeated_strict S s number x k =
     let o : links.Outcome = sending s.links x.from x.to x.bytes in
     let e : Entry = entry.Packet (packet.Repeated number s.links.next) in
     dropped_strict S (telling e (with_links s o.after)) o.sent.dropped (moment_strict S s o.after (Told e) (λ n. still S s.moments n e tt) k)
 
-pub armed_strict : (S : Setting) (c : Cluster) (e : Event) (s : Scene) → Strict S s → Strict S (armed_by c e s)
+pub armed_strict : (S : View) (c : Cluster) (e : Event) (s : Scene) → Strict S s → Strict S (armed_by c e s)
 armed_strict S c (event.CrashAt n calls choice) s k = k
 armed_strict S c (event.Fault n d done) s k = k
 armed_strict S c _ s k = k
@@ -144,11 +145,11 @@ brought_hand h ms n from m b =
 
 -- ---- a packet comes to n
 
-others_still : (S : Setting) (s : Scene) (number from n k : ℕ) → n ≢ k → Still S s.moments k (delivered number from n)
+others_still : (S : View) (s : Scene) (number from n k : ℕ) → n ≢ k → Still S s.moments k (delivered number from n)
 others_still S s number from n k ne = still S s.moments k (entry.Packet (packet.Delivered number from n)) ne
 
 -- what asks for no seizing brings no task
-called_still : (S : Setting) (n : ℕ) (l : Letter) (ms : List Moment) (b : Body) (o : Option (List told.Task)) → (AsksBody b → ⊥) → l.name ≡ named (name_of b)
+called_still : (S : View) (n : ℕ) (l : Letter) (ms : List Moment) (b : Body) (o : Option (List told.Task)) → (AsksBody b → ⊥) → l.name ≡ named (name_of b)
     → sought S n l ms l.name o ≡ o
 called_still S n l ms b o ban called = ap (λ z. sought S n l ms z o) called ∙ by_body b ban
   where
@@ -162,14 +163,14 @@ not_plain true c off = absurd (no_truth (sym off))
 not_plain false c off = refl
 
 -- what holds no message is open, or brings none
-stray_still : (S : Setting) (n : ℕ) (l : Letter) (ms : List Moment) (o : Option (List told.Task)) (us : List told.Task) → says l.bytes ≡ None → sought S n l ms l.name o ≡ Some us → o ≡ Some us
+stray_still : (S : View) (n : ℕ) (l : Letter) (ms : List Moment) (o : Option (List told.Task)) (us : List told.Task) → says l.bytes ≡ None → sought S n l ms l.name o ≡ Some us → o ≡ Some us
 stray_still S n l ms o us none is = by_name l.name is
   where
-    off : is_plain S n l ms ≡ false
-    off = ap (is_spelled S n (number_of l)) none
+    off : is_plain S.setting n l ms ≡ false
+    off = ap (is_spelled S.setting n (number_of l)) none
 
     by_name : (z : Name) → sought S n l ms z o ≡ Some us → o ≡ Some us
-    by_name (name.SeizeQuorum d) found = absurd (no_truth (sym (not_plain (is_plain S n l ms) _ off) ∙ (passed _ _ us found).so))
+    by_name (name.SeizeQuorum d) found = absurd (no_truth (sym (not_plain (is_plain S.setting n l ms) _ off) ∙ (passed _ _ us found).so))
     by_name (name.SeizeData d) found = absurd (no_truth (sym off ∙ (passed _ _ us found).so))
     by_name name.Heartbeat found = found
     by_name name.Collect found = found
@@ -188,10 +189,10 @@ stray_still S n l ms o us none is = by_name l.name is
     by_name (name.Answer d) found = found
     by_name name.Excluded found = found
 
-abbrev brings_none : Setting → ℕ → List Moment → Letter → Type 0
+abbrev brings_none : View → ℕ → List Moment → Letter → Type 0
 brings_none S n ms l = (o : Option (List told.Task)) (us : List told.Task) → sought S n l ms l.name o ≡ Some us → o ≡ Some us
 
-here_still : (S : Setting) (ms : List Moment) (n number from : ℕ) (l : Letter) → letter_of number ms ≡ Some l → brings_none S n ms l → Still S ms n (delivered number from n)
+here_still : (S : View) (ms : List Moment) (n number from : ℕ) (l : Letter) → letter_of number ms ≡ Some l → brings_none S n ms l → Still S ms n (delivered number from n)
 here_still S ms n number from l at none = record {
   told = λ us is.
       none (told_tasks S n ms) us
@@ -209,7 +210,7 @@ pub letter_here : (h : Header) (s : Scene) (number : ℕ) (x : Packet) → (is :
     → letter_of number s.moments ≡ Some k.letter
 letter_here h s number x is k = ap (λ i. letter_of i s.moments) (sym (number_found s.links number x is)) ∙ k.sent_so
 
-quiet_delivery : (S : Setting) (s : Scene) (number : ℕ) (x : Packet) (l : Letter) → letter_of number s.moments ≡ Some l → brings_none S x.to s.moments l → Strict S s
+quiet_delivery : (S : View) (s : Scene) (number : ℕ) (x : Packet) (l : Letter) → letter_of number s.moments ≡ Some l → brings_none S x.to s.moments l → Strict S s
     → Strict S (telling (entry.Packet (packet.Delivered number x.from x.to)) (removed s number))
 quiet_delivery S s number x l at none k =
     moment_strict S s (removing s.links number) (delivered number x.from x.to) (λ n. by_node n (same_or_not x.to n)) k
@@ -219,19 +220,19 @@ quiet_delivery S s number x l at none k =
     by_node n (inr ne) = others_still S s number x.from x.to n ne
 
 -- a packet that holds no message
-pub strays_strict : (S : Setting) (s : Scene) (number : ℕ) (x : Packet) → packet_of s.links.packets number ≡ Some x → whole_of x.bytes ≡ None → IsSeizing S.header s → Strict S s
+pub strays_strict : (S : View) (s : Scene) (number : ℕ) (x : Packet) → packet_of s.links.packets number ≡ Some x → whole_of x.bytes ≡ None → IsSeizing S.setting.header s → Strict S s
     → Strict S (telling (entry.Packet (packet.Delivered number x.from x.to)) (removed s number))
 strays_strict S s number x is whole seizing k =
-    let p : Posted S.header s.moments s.links.next x = posted_at S.header s number x is seizing in
-    quiet_delivery S s number x p.letter (letter_here S.header s number x is p)
+    let p : Posted S.setting.header s.moments s.links.next x = posted_at S.setting.header s number x is seizing in
+    quiet_delivery S s number x p.letter (letter_here S.setting.header s number x is p)
     (λ o us found. stray_still S x.to p.letter s.moments o us (ap says p.bytes ∙ ap (λ o. option_map (λ (z : Message). z.body) o) whole) found) k
 
 -- one that asks for no seizing
-pub calm_strict : (S : Setting) (s : Scene) (number : ℕ) (x : Packet) (m : Message) → packet_of s.links.packets number ≡ Some x → whole_of x.bytes ≡ Some m → (AsksBody m.body → ⊥)
-    → IsSeizing S.header s → Strict S s → Strict S (telling (entry.Packet (packet.Delivered number x.from x.to)) (removed s number))
+pub calm_strict : (S : View) (s : Scene) (number : ℕ) (x : Packet) (m : Message) → packet_of s.links.packets number ≡ Some x → whole_of x.bytes ≡ Some m → (AsksBody m.body → ⊥)
+    → IsSeizing S.setting.header s → Strict S s → Strict S (telling (entry.Packet (packet.Delivered number x.from x.to)) (removed s number))
 calm_strict S s number x m is whole ban seizing k =
-    let p : Posted S.header s.moments s.links.next x = posted_at S.header s number x is seizing in
-    quiet_delivery S s number x p.letter (letter_here S.header s number x is p)
+    let p : Posted S.setting.header s.moments s.links.next x = posted_at S.setting.header s number x is seizing in
+    quiet_delivery S s number x p.letter (letter_here S.setting.header s number x is p)
     (λ o us found. sym (called_still S x.to p.letter s.moments m.body o ban (p.says m whole).0) ∙ found) k
 
 -- ---- a request to seize comes
@@ -261,16 +262,16 @@ stands_of : (h : Header) (ms : List Moment) (from e members d : ℕ) (kind : Sei
 stands_of h ms from e members d Vote k = k.1
 stands_of h ms from e members d Plain k = k.1
 
-comes_of : (S : Setting) (s : Scene) (number : ℕ) (x : Packet) (m : Message) (r : IsRequest m.body) → packet_of s.links.packets number ≡ Some x → whole_of x.bytes ≡ Some m
-    → IsSeizing S.header s → Comes S s.moments x.to number r.kind r.epoch r.members r.device
+comes_of : (S : View) (s : Scene) (number : ℕ) (x : Packet) (m : Message) (r : IsRequest m.body) → packet_of s.links.packets number ≡ Some x → whole_of x.bytes ≡ Some m
+    → IsSeizing S.setting.header s → Comes S s.moments x.to number r.kind r.epoch r.members r.device
 comes_of S s number x m r is whole seizing =
-    let p : Posted S.header s.moments s.links.next x = posted_at S.header s number x is seizing in
+    let p : Posted S.setting.header s.moments s.links.next x = posted_at S.setting.header s number x is seizing in
     record {
       letter = p.letter;
-      here = letter_here S.header s number x is p;
+      here = letter_here S.setting.header s number x is p;
       called = (p.says m whole).0 ∙ (ap (λ b. named (name_of b)) r.is ∙ called_for r.kind r.epoch r.members r.device);
       reads = ap says p.bytes ∙ (ap (λ o. option_map (λ (z : Message). z.body) o) whole ∙ ap Some r.is);
-      of = stands_of S.header s.moments x.from r.epoch r.members r.device r.kind (subst (λ b. StandsSo S.header s.moments x.from b) r.is (p.says m whole).2);
+      of = stands_of S.setting.header s.moments x.from r.epoch r.members r.device r.kind (subst (λ b. StandsSo S.setting.header s.moments x.from b) r.is (p.says m whole).2);
     }
 
 trusted_valid : (v : Validity) (held : Bool) → is_valid v ≡ true → Agrees v held → held ≡ true
@@ -299,22 +300,38 @@ native_device h n members d many native =
     high : (k j : ℕ) → nat_le k j ≡ true → k ≤ j
     high k j is = grind arith
 
-asked_node : (S : Setting) (s : Scene) (number : ℕ) (x : Packet) (m : Message) (r : IsRequest m.body) (node : Node) → length S.header.devices ≤ most_devices
-    → Comes S s.moments x.to number r.kind r.epoch r.members r.device → ((d : ℕ) → IsDevice S.header d → InMemory (validity S.header x.to d s.moments) d node)
-    → UpIn S.header s.moments x.to node → NodeSo S s.moments x.to None node
-    → NodeSo S (delivered number x.from x.to ∷ s.moments) x.to (pending_in (first_cluster S.header) x.to node r.kind r.epoch r.members r.device) node
+-- what is asked for the node's session, which it has not installed, it holds valid, where that is trusted
+abbrev pub TrustedAt : View → List Moment → ℕ → Body → Node → Type 0
+TrustedAt S ms n b Down = Unit {0}
+TrustedAt S ms n b (Up y) =
+    (e members d : ℕ) → b ≡ body.SeizeQuorum e members d → is_foreign_seizing (first_cluster S.setting.header) n members d ≡ false → trusts S n d ms ≡ true → session_of y ≡ e
+    → installed_of y ≢ session_of y → has (record_of y).valid d ≡ true
+
+trusted_in : (S : View) (n d : ℕ) (ms : List Moment) → S.alone ≡ true → trusts S n d ms ≡ true → is_trusted S.setting n d ms ≡ true
+trusted_in S n d ms lines is = sym (ap (λ b. not b || is_trusted S.setting n d ms) lines) ∙ is
+
+-- by the lines alone
+pub trusted_at : (S : View) (ms : List Moment) (n : ℕ) (b : Body) (node : Node) → length S.setting.header.devices ≤ most_devices → S.alone ≡ true
+    → ((d : ℕ) → IsDevice S.setting.header d → InMemory (validity S.setting.header n d ms) d node) → TrustedAt S ms n b node
+trusted_at S ms n b Down many lines valid = tt
+trusted_at S ms n b (Up y) many lines valid = λ e members d is native trusted at other.
+    trusted_valid (validity S.setting.header n d ms) (has (record_of y).valid d) (trusted_in S n d ms lines trusted)
+    (valid d (native_device S.setting.header n members d many native))
+
+asked_node : (S : View) (s : Scene) (number : ℕ) (x : Packet) (m : Message) (r : IsRequest m.body) (node : Node) → length S.setting.header.devices ≤ most_devices
+    → Comes S s.moments x.to number r.kind r.epoch r.members r.device → TrustedAt S s.moments x.to m.body node
+    → UpIn S.setting.header s.moments x.to node → NodeSo S s.moments x.to None node
+    → NodeSo S (delivered number x.from x.to ∷ s.moments) x.to (pending_in (first_cluster S.setting.header) x.to node r.kind r.epoch r.members r.device) node
 asked_node S s number x m r Down many comes valid beside k = tt
 asked_node S s number x m r (Up y) many comes valid beside k =
-    asked_up S (first_cluster S.header) s.moments x.to number x.from r.epoch r.members r.device r.kind y refl comes
-    (λ vote native trusted.
-    trusted_valid (validity S.header x.to r.device s.moments) (has (record_of y).valid r.device) trusted
-    (valid r.device (native_device S.header x.to r.members r.device many native))) beside k
+    asked_up S (first_cluster S.setting.header) s.moments x.to number x.from r.epoch r.members r.device r.kind y refl comes
+    (λ vote. valid r.epoch r.members r.device (r.is ∙ ap (λ z. request_as z r.epoch r.members r.device) vote)) beside k
 
-pub asked_around : (S : Setting) (s : Scene) (number : ℕ) (x : Packet) (m : Message) (r : IsRequest m.body) → length S.header.devices ≤ most_devices
-    → packet_of s.links.packets number ≡ Some x → whole_of x.bytes ≡ Some m → ((d : ℕ) → IsDevice S.header d → InMemory (validity S.header x.to d s.moments) d (s.nodes.node x.to))
-    → IsSeizing S.header s → Strict S s
+pub asked_around : (S : View) (s : Scene) (number : ℕ) (x : Packet) (m : Message) (r : IsRequest m.body) → length S.setting.header.devices ≤ most_devices
+    → packet_of s.links.packets number ≡ Some x → whole_of x.bytes ≡ Some m → TrustedAt S s.moments x.to m.body (s.nodes.node x.to)
+    → IsSeizing S.setting.header s → Strict S s
     → Around S (telling (entry.Packet (packet.Delivered number x.from x.to)) (removed s number)) x.to
-    (pending_in (first_cluster S.header) x.to (s.nodes.node x.to) r.kind r.epoch r.members r.device)
+    (pending_in (first_cluster S.setting.header) x.to (s.nodes.node x.to) r.kind r.epoch r.members r.device)
 asked_around S s number x m r many is whole valid seizing k = record {
   here = asked_node S s number x m r (s.nodes.node x.to) many (comes_of S s number x m r is whole seizing) valid (seizing.sites x.to).up (k x.to);
   there = λ j ne. node_stays S s.moments (delivered number x.from x.to) j None (s.nodes.node j) (others_still S s number x.from x.to j (λ z. ne (sym z))) (k j);

@@ -13,7 +13,7 @@ use Rattle.status_report.specs.declared.device_entry.DeviceEntry.TheVariants as 
 use Rattle.status_report.specs.declared.entry.Entry.{Entry}
 use Rattle.status_report.specs.declared.entry.Entry.TheVariants as entry
 use Rattle.status_report.specs.declared.node_entry.NodeEntry.TheVariants as note
-use Rattle.history.specs.Setting.{Setting}
+use Rattle.run_devices.specs.queues.Views.{View}
 use Rattle.node_model.specs.Attempts.{base_lines, starting_as}
 use Rattle.node_model.specs.Devices.{answer_told}
 use Rattle.node_model.specs.Seats.{installed_of, record_of, session_of, state_of, with_state}
@@ -109,7 +109,7 @@ plain_lines c n x (Counts a k s i) is = absurd is
 plain_lines c n x (Installs s i) is = absurd is
 plain_lines c n x (Admits on command a d) is = absurd is
 
-pub plain_goes : (S : Setting) (c : Cluster) (n : ℕ) (told : Delivered) (v w : Nodes) (x : UpNode) (ch : Change) (b : Bool) (s : Scene) → MayChange c n told x ch → IsPlain ch
+pub plain_goes : (S : View) (c : Cluster) (n : ℕ) (told : Delivered) (v w : Nodes) (x : UpNode) (ch : Change) (b : Bool) (s : Scene) → MayChange c n told x ch → IsPlain ch
     → (b ≡ true → NoCollect told) → Goes S n told v w None (Up x) s
     → Goes S n told v w None (Up (changed c n x ch)) (passing n (first_lines n ch ++ (mid b n ++ last_lines c n x ch)) s)
 plain_goes S c n told v w x ch b s may is calm k =
@@ -126,7 +126,7 @@ plain_goes S c n told v w x ch b s may is calm k =
     (goes_at S n told v w None None (Up x) (Up y) z (up_same S z.moments n None x y state.session state.installed (plain_tasks c n x ch is) all.here) all)
 
 -- the answer by which it has joined a device
-pub admits_goes : (S : Setting) (c : Cluster) (n : ℕ) (told : Delivered) (v w : Nodes) (x : UpNode) (at : ℕ) (k : PrCommand) (a : Answer) (d : ℕ) (b : Bool) (s : Scene)
+pub admits_goes : (S : View) (c : Cluster) (n : ℕ) (told : Delivered) (v w : Nodes) (x : UpNode) (at : ℕ) (k : PrCommand) (a : Answer) (d : ℕ) (b : Bool) (s : Scene)
     → (b ≡ true → NoCollect told) → next_of x.tasks ≡ Some k → JoinsFirst x → Goes S n told v w None (Up x) s
     → Goes S n told v w None (Up (changed c n x (Admits at k a d))) (passing n (first_lines n (Admits at k a d) ++ (mid b n ++ last_lines c n x (Admits at k a d))) s)
 admits_goes S c n told v w x at k a d b s calm due first l =

@@ -20,7 +20,7 @@ use Rattle.history.specs.Names.{Name}
 use Rattle.history.specs.Queue as told
 use Rattle.history.specs.Queue.{requested, requested_in, seizing_for, with_task}
 use Rattle.history.specs.Seizing.{acts_for, is_number}
-use Rattle.history.specs.Setting.{Setting}
+use Rattle.run_devices.specs.queues.Views.{View}
 use Rattle.history.specs.Trace.{delivered}
 use Rattle.node_model.specs.Members.{is_foreign_seizing}
 use Rattle.node_model.specs.Seats.{installed_of, is_in, record_of, session_of}
@@ -34,7 +34,8 @@ use Rattle.run_seizings.specs.Sites as seizings
 use Rattle.world_model.specs.First.{first_cluster}
 use Rattle.run_devices.specs.queues.Kept.{Pending, Tells, UpSo}
 use Rattle.run_devices.specs.queues.Laws.{Same, SameWork}
-use Rattle.run_devices.specs.queues.Told.{acts_in, brought, is_plain, is_spelled, is_trusted, leads, sought, told_after, told_tasks}
+use Rattle.run_devices.specs.queues.Told.{acts_in, is_plain, is_spelled, leads}
+use Rattle.run_devices.specs.queues.Views.{brought, sought, told_after, told_tasks, trusts}
 use Rattle.run_devices.proofs.queues.Changes.{tells_by}
 use Rattle.run_devices.proofs.queues.Options.{Kept, Mapped, Passed, kept, mapped, passed}
 use Rattle.run_devices.proofs.queues.Tasks.{same_begun}
@@ -59,7 +60,7 @@ name_for Vote d = name.SeizeQuorum d
 name_for Plain d = name.SeizeData d
 
 -- it is this request, in the letter of its packet
-pub record Comes (S : Setting) (ms : List Moment) (n p : ℕ) (kind : SeizeKind) (e members d : ℕ) : Type 0 where
+pub record Comes (S : View) (ms : List Moment) (n p : ℕ) (kind : SeizeKind) (e members d : ℕ) : Type 0 where
   pub letter : Letter
   pub here : letter_of p ms ≡ Some letter
   pub called : letter.name ≡ name_for kind d
@@ -67,13 +68,13 @@ pub record Comes (S : Setting) (ms : List Moment) (n p : ℕ) (kind : SeizeKind)
   pub of : members_of e ms ≡ members
 
 -- what follows where it is told
-record Asked (S : Setting) (ms : List Moment) (n e members d : ℕ) (kind : SeizeKind) (l : Letter) (o : Option (List told.Task)) (us : List told.Task) : Type 0 where
+record Asked (S : View) (ms : List Moment) (n e members d : ℕ) (kind : SeizeKind) (l : Letter) (o : Option (List told.Task)) (us : List told.Task) : Type 0 where
   old : List told.Task
   found : o ≡ Some old
-  gives : requested S n (Some l) ms old ≡ us
+  gives : requested S.setting n (Some l) ms old ≡ us
   number : number_of l ≡ Some e
-  native : is_foreign_seizing (first_cluster S.header) n members d ≡ false
-  trusted : kind ≡ Vote → acts_for n e ms ≡ true → is_trusted S n d ms ≡ true
+  native : is_foreign_seizing (first_cluster S.setting.header) n members d ≡ false
+  trusted : kind ≡ Vote → acts_for n e ms ≡ true → trusts S n d ms ≡ true
 
 not_true : (b : Bool) → not b ≡ true → b ≡ false
 not_true true is = absurd (no_truth is)
@@ -83,8 +84,8 @@ number_so : (e : ℕ) (o : Option ℕ) → is_number e o ≡ true → o ≡ Some
 number_so e None is = absurd (no_truth is)
 number_so e (Some f) is = ap Some (same_number f e is)
 
-spelled_as : (S : Setting) (n : ℕ) (o : Option ℕ) (kind : SeizeKind) (e members d : ℕ) → is_spelled S n o (Some (request_as kind e members d))
-    ≡ (is_number e o && not (is_foreign_seizing (first_cluster S.header) n members d))
+spelled_as : (S : View) (n : ℕ) (o : Option ℕ) (kind : SeizeKind) (e members d : ℕ) → is_spelled S.setting n o (Some (request_as kind e members d))
+    ≡ (is_number e o && not (is_foreign_seizing (first_cluster S.setting.header) n members d))
 spelled_as S n o Vote e members d = refl
 spelled_as S n o Plain e members d = refl
 
@@ -93,37 +94,37 @@ or_else true b c is acts = refl
 or_else false true c is acts = absurd (no_truth is)
 or_else false false c is acts = absurd (no_truth acts)
 
-asked_of : (S : Setting) (ms : List Moment) (n e members d : ℕ) (kind : SeizeKind) (l : Letter) (o : Option (List told.Task)) (us : List told.Task)
+asked_of : (S : View) (ms : List Moment) (n e members d : ℕ) (kind : SeizeKind) (l : Letter) (o : Option (List told.Task)) (us : List told.Task)
     → says l.bytes ≡ Some (request_as kind e members d) → sought S n l ms (name_for kind d) o ≡ Some us → Asked S ms n e members d kind l o us
 asked_of S ms n e members d kind l o us reads is = by_kind kind reads is
   where
-    spelled : (k : SeizeKind) → says l.bytes ≡ Some (request_as k e members d) → is_plain S n l ms ≡ true
-        → (number_of l ≡ Some e) × (is_foreign_seizing (first_cluster S.header) n members d ≡ false)
+    spelled : (k : SeizeKind) → says l.bytes ≡ Some (request_as k e members d) → is_plain S.setting n l ms ≡ true
+        → (number_of l ≡ Some e) × (is_foreign_seizing (first_cluster S.setting.header) n members d ≡ false)
     spelled k at plain =
-        let two : (is_number e (number_of l) ≡ true) × (not (is_foreign_seizing (first_cluster S.header) n members d) ≡ true) =
-        and_cases (is_number e (number_of l)) (not (is_foreign_seizing (first_cluster S.header) n members d))
-        (sym (spelled_as S n (number_of l) k e members d) ∙ (ap (is_spelled S n (number_of l)) (sym at) ∙ plain)) in
-        (number_so e (number_of l) two.0, not_true (is_foreign_seizing (first_cluster S.header) n members d) two.1)
+        let two : (is_number e (number_of l) ≡ true) × (not (is_foreign_seizing (first_cluster S.setting.header) n members d) ≡ true) =
+        and_cases (is_number e (number_of l)) (not (is_foreign_seizing (first_cluster S.setting.header) n members d))
+        (sym (spelled_as S n (number_of l) k e members d) ∙ (ap (is_spelled S.setting n (number_of l)) (sym at) ∙ plain)) in
+        (number_so e (number_of l) two.0, not_true (is_foreign_seizing (first_cluster S.setting.header) n members d) two.1)
 
     by_kind : (k : SeizeKind) → says l.bytes ≡ Some (request_as k e members d) → sought S n l ms (name_for k d) o ≡ Some us → Asked S ms n e members d k l o us
     by_kind Vote at found =
-        let p : Passed (is_plain S n l ms && (is_trusted S n d ms || not (acts_in n (number_of l) ms))) (option_map (requested S n (Some l) ms) o) us = passed _ _ us found in
-        let m : Mapped (requested S n (Some l) ms) o us = mapped (requested S n (Some l) ms) o us p.told in
-        let two : (is_plain S n l ms ≡ true) × ((is_trusted S n d ms || not (acts_in n (number_of l) ms)) ≡ true) =
-        and_cases (is_plain S n l ms) (is_trusted S n d ms || not (acts_in n (number_of l) ms)) p.so in
-        let so : (number_of l ≡ Some e) × (is_foreign_seizing (first_cluster S.header) n members d ≡ false) = spelled Vote at two.0 in
+        let p : Passed (is_plain S.setting n l ms && (trusts S n d ms || not (acts_in n (number_of l) ms))) (option_map (requested S.setting n (Some l) ms) o) us = passed _ _ us found in
+        let m : Mapped (requested S.setting n (Some l) ms) o us = mapped (requested S.setting n (Some l) ms) o us p.told in
+        let two : (is_plain S.setting n l ms ≡ true) × ((trusts S n d ms || not (acts_in n (number_of l) ms)) ≡ true) =
+        and_cases (is_plain S.setting n l ms) (trusts S n d ms || not (acts_in n (number_of l) ms)) p.so in
+        let so : (number_of l ≡ Some e) × (is_foreign_seizing (first_cluster S.setting.header) n members d ≡ false) = spelled Vote at two.0 in
         record {
           old = m.inside;
           found = m.found;
           gives = m.gives;
           number = so.0;
           native = so.1;
-          trusted = λ is acts. or_else (is_trusted S n d ms) (acts_in n (number_of l) ms) true two.1 (ap (λ z. acts_in n z ms) so.0 ∙ acts);
+          trusted = λ is acts. or_else (trusts S n d ms) (acts_in n (number_of l) ms) true two.1 (ap (λ z. acts_in n z ms) so.0 ∙ acts);
         }
     by_kind Plain at found =
-        let p : Passed (is_plain S n l ms) (option_map (requested S n (Some l) ms) o) us = passed _ _ us found in
-        let m : Mapped (requested S n (Some l) ms) o us = mapped (requested S n (Some l) ms) o us p.told in
-        let so : (number_of l ≡ Some e) × (is_foreign_seizing (first_cluster S.header) n members d ≡ false) = spelled Plain at p.so in
+        let p : Passed (is_plain S.setting n l ms) (option_map (requested S.setting n (Some l) ms) o) us = passed _ _ us found in
+        let m : Mapped (requested S.setting n (Some l) ms) o us = mapped (requested S.setting n (Some l) ms) o us p.told in
+        let so : (number_of l ≡ Some e) × (is_foreign_seizing (first_cluster S.setting.header) n members d ≡ false) = spelled Plain at p.so in
         record { old = m.inside; found = m.found; gives = m.gives; number = so.0; native = so.1; trusted = λ is acts. absurd (no_vote is) }
       where
         no_vote : Plain ≡ Vote → ⊥
@@ -131,26 +132,26 @@ asked_of S ms n e members d kind l o us reads is = by_kind kind reads is
 
 -- ---- what it makes of the tasks that are told
 
-sought_as : (S : Setting) (n e : ℕ) (kind : SeizeKind) (d : ℕ) (ms : List Moment) (ts : List told.Task)
-    → told.sought S n e (name_for kind d) ms ts ≡ with_task d (seizing_for S n e kind ms) ts
+sought_as : (S : View) (n e : ℕ) (kind : SeizeKind) (d : ℕ) (ms : List Moment) (ts : List told.Task)
+    → told.sought S.setting n e (name_for kind d) ms ts ≡ with_task d (seizing_for S.setting n e kind ms) ts
 sought_as S n e Vote d ms ts = refl
 sought_as S n e Plain d ms ts = refl
 
-requested_so : (S : Setting) (n e : ℕ) (kind : SeizeKind) (d : ℕ) (ms : List Moment) (l : Letter) (ts : List told.Task) → l.name ≡ name_for kind d → number_of l ≡ Some e
-    → acts_for n e ms ≡ true → requested S n (Some l) ms ts ≡ with_task d (seizing_for S n e kind ms) ts
+requested_so : (S : View) (n e : ℕ) (kind : SeizeKind) (d : ℕ) (ms : List Moment) (l : Letter) (ts : List told.Task) → l.name ≡ name_for kind d → number_of l ≡ Some e
+    → acts_for n e ms ≡ true → requested S.setting n (Some l) ms ts ≡ with_task d (seizing_for S.setting n e kind ms) ts
 requested_so S n e kind d ms l ts called number acts =
-    ap (λ o. requested_in S n o l ms ts) number
-    ∙ (if_so (acts_for n e ms) (told.sought S n e l.name ms ts) ts acts ∙ (ap (λ z. told.sought S n e z ms ts) called ∙ sought_as S n e kind d ms ts))
+    ap (λ o. requested_in S.setting n o l ms ts) number
+    ∙ (if_so (acts_for n e ms) (told.sought S.setting n e l.name ms ts) ts acts ∙ (ap (λ z. told.sought S.setting n e z ms ts) called ∙ sought_as S n e kind d ms ts))
 
-none_requested : (S : Setting) (n e : ℕ) (ms : List Moment) (l : Letter) (ts : List told.Task) → number_of l ≡ Some e → acts_for n e ms ≡ false → requested S n (Some l) ms ts ≡ ts
-none_requested S n e ms l ts number off = ap (λ o. requested_in S n o l ms ts) number ∙ if_not (acts_for n e ms) (told.sought S n e l.name ms ts) ts off
+none_requested : (S : View) (n e : ℕ) (ms : List Moment) (l : Letter) (ts : List told.Task) → number_of l ≡ Some e → acts_for n e ms ≡ false → requested S.setting n (Some l) ms ts ≡ ts
+none_requested S n e ms l ts number off = ap (λ o. requested_in S.setting n o l ms ts) number ∙ if_not (acts_for n e ms) (told.sought S.setting n e l.name ms ts) ts off
 
 no_check : (v : Bool) → step.Register ≡ step.Check → v ≡ true
 no_check v e = cc
 
 -- what is begun is what is told
-begun_same : (S : Setting) (c : Cluster) (n e members d : ℕ) (kind : SeizeKind) (ms : List Moment) (v : Bool) → c.id ≡ S.header.cluster → members_of e ms ≡ members
-    → (kind ≡ Vote → v ≡ true) → SameWork (Seizing (seizing.begun kind e members n c.id v)) (seizing_for S n e kind ms)
+begun_same : (S : View) (c : Cluster) (n e members d : ℕ) (kind : SeizeKind) (ms : List Moment) (v : Bool) → c.id ≡ S.setting.header.cluster → members_of e ms ≡ members
+    → (kind ≡ Vote → v ≡ true) → SameWork (Seizing (seizing.begun kind e members n c.id v)) (seizing_for S.setting n e kind ms)
 begun_same S c n e members d kind ms v id of valid = (
   ap (λ m. seizing.begun kind e m n c.id true) (sym of) ∙ ap (λ k. seizing.begun kind e (members_of e ms) n k true) id,
   by_kind kind valid,
@@ -191,7 +192,7 @@ zero_or k = by_same (same_or_not k 0)
     by_same (inr ne) = inr (more k ne)
 
 -- outside of its session it acts for nothing
-outside_acts : (S : Setting) (ms : List Moment) (n e : ℕ) (x : UpNode) → is_in x e ≡ false → seizings.UpSo S.header ms n x → UpSo S ms n None x → acts_for n e ms ≡ false
+outside_acts : (S : View) (ms : List Moment) (n e : ℕ) (x : UpNode) → is_in x e ≡ false → seizings.UpSo S.setting.header ms n x → UpSo S ms n None x → acts_for n e ms ≡ false
 outside_acts S ms n e x outside beside up = and_first (is_number e (member.session_of n ms)) (not (has_installed n e ms)) (by_session (zero_or (session_of x)))
   where
     above : (k e : ℕ) → 0 < k → k ≡ e → nat_le 1 e ≡ true
@@ -207,8 +208,8 @@ outside_acts S ms n e x outside beside up = and_first (is_number e (member.sessi
     by_session (inr some) = ap (is_number e) (beside.session some) ∙ by_test (session_of x == e) refl some
 
 -- where it is told, the node has these, with the one that it is to begin
-pub asked_tells : (S : Setting) (c : Cluster) (ms : List Moment) (n p a e members d : ℕ) (kind : SeizeKind) (x : UpNode) → c ≡ first_cluster S.header
-    → Comes S ms n p kind e members d → (kind ≡ Vote → is_foreign_seizing (first_cluster S.header) n members d ≡ false → is_trusted S n d ms ≡ true → has (record_of x).valid d ≡ true) → seizings.UpSo S.header ms n x → UpSo S ms n None x
+pub asked_tells : (S : View) (c : Cluster) (ms : List Moment) (n p a e members d : ℕ) (kind : SeizeKind) (x : UpNode) → c ≡ first_cluster S.setting.header
+    → Comes S ms n p kind e members d → (kind ≡ Vote → is_foreign_seizing (first_cluster S.setting.header) n members d ≡ false → trusts S n d ms ≡ true → session_of x ≡ e → installed_of x ≢ session_of x → has (record_of x).valid d ≡ true) → seizings.UpSo S.setting.header ms n x → UpSo S ms n None x
     → Tells (told_tasks S n (delivered p a n ∷ ms)) (pending_of c n x kind e members d) x
 asked_tells S c ms n p a e members d kind x is comes valid beside up =
     tells_by (told_tasks S n (delivered p a n ∷ ms)) (pending_of c n x kind e members d) x (λ us found.
@@ -234,7 +235,7 @@ asked_tells S c ms n p a e members d kind x is comes valid beside up =
     begun : (us : List told.Task) (asked : Asked S ms n e members d kind comes.letter (told_tasks S n ms) us) → Tells (Some asked.old) None x → is_in x e ≡ true
         → (installed_of x == e) ≡ false → Tells (Some us) (Some (d, s)) x
     begun us asked old inside over =
-        let two : (0 < session_of x) × (is_number e (member.session_of n ms) ≡ true) = session_acts S.header ms n e x inside beside in
+        let two : (0 < session_of x) × (is_number e (member.session_of n ms) ≡ true) = session_acts S.setting.header ms n e x inside beside in
         let same : session_of x ≡ e = same_number (session_of x) e (and_cases (nat_le 1 e) (session_of x == e) inside).1 in
         let other : installed_of x ≢ session_of x = λ z. no_truth (sym over ∙ same_so (installed_of x) e (z ∙ same)) in
         let acts : acts_for n e ms ≡ true =
@@ -242,15 +243,15 @@ asked_tells S c ms n p a e members d kind x is comes valid beside up =
           (λ z. absurd (other z)),
           (λ z.
               subst (λ ts. Same (after_seize x.tasks d s) ts) (sym (requested_so S n e kind d ms comes.letter asked.old comes.called asked.number acts) ∙ asked.gives)
-              (same_begun d x.tasks asked.old s (seizing.begun kind e (members_of e ms) n S.header.cluster true) (up.plain other) (old.1 other)
-              (begun_same S c n e members d kind ms (has (record_of x).valid d) (ap (λ (k : Cluster). k.id) is) comes.of (λ vote. valid vote asked.native (asked.trusted vote acts))))),
+              (same_begun d x.tasks asked.old s (seizing.begun kind e (members_of e ms) n S.setting.header.cluster true) (up.plain other) (old.1 other)
+              (begun_same S c n e members d kind ms (has (record_of x).valid d) (ap (λ (k : Cluster). k.id) is) comes.of (λ vote. valid vote asked.native (asked.trusted vote acts) same other)))),
         )
 
     by_inside : (us : List told.Task) (asked : Asked S ms n e members d kind comes.letter (told_tasks S n ms) us) → Tells (Some asked.old) None x → (b o : Bool) → is_in x e ≡ b
         → (installed_of x == e) ≡ o → Tells (Some us) (pending_by false b o d s) x
     by_inside us asked old true false inside over = begun us asked old inside over
     by_inside us asked old true true inside over =
-        let two : (0 < session_of x) × (is_number e (member.session_of n ms) ≡ true) = session_acts S.header ms n e x inside beside in
+        let two : (0 < session_of x) × (is_number e (member.session_of n ms) ≡ true) = session_acts S.setting.header ms n e x inside beside in
         let same : session_of x ≡ e = same_number (session_of x) e (and_cases (nat_le 1 e) (session_of x == e) inside).1 in
         let at : installed_of x ≡ session_of x = same_number (installed_of x) e over ∙ sym same in
         unmoved us asked old (and_last (is_number e (member.session_of n ms)) (not (has_installed n e ms)) (ap not (ap (λ q. has_installed n q ms) (sym same) ∙ up.done two.0 at)))
@@ -258,8 +259,8 @@ asked_tells S c ms n p a e members d kind x is comes valid beside up =
     by_inside us asked old false false inside over = unmoved us asked old (outside_acts S ms n e x inside beside up)
 
 -- so it is of all that is known of the node
-pub asked_up : (S : Setting) (c : Cluster) (ms : List Moment) (n p a e members d : ℕ) (kind : SeizeKind) (x : UpNode) → c ≡ first_cluster S.header
-    → Comes S ms n p kind e members d → (kind ≡ Vote → is_foreign_seizing (first_cluster S.header) n members d ≡ false → is_trusted S n d ms ≡ true → has (record_of x).valid d ≡ true) → seizings.UpSo S.header ms n x → UpSo S ms n None x
+pub asked_up : (S : View) (c : Cluster) (ms : List Moment) (n p a e members d : ℕ) (kind : SeizeKind) (x : UpNode) → c ≡ first_cluster S.setting.header
+    → Comes S ms n p kind e members d → (kind ≡ Vote → is_foreign_seizing (first_cluster S.setting.header) n members d ≡ false → trusts S n d ms ≡ true → session_of x ≡ e → installed_of x ≢ session_of x → has (record_of x).valid d ≡ true) → seizings.UpSo S.setting.header ms n x → UpSo S ms n None x
     → UpSo S (delivered p a n ∷ ms) n (pending_of c n x kind e members d) x
 asked_up S c ms n p a e members d kind x is comes valid beside up = record {
   none = up.none;

@@ -5,7 +5,7 @@ use Rattle.cl_base.specs.declared.method.Outcome as method
 use Rattle.machine_base.proofs.Puts.{same_or_not}
 use Rattle.record_disk.specs.Disks.{DiskState}
 use Rattle.history.specs.Contact.{AttemptsDiffer}
-use Rattle.history.specs.Setting.{Setting}
+use Rattle.run_devices.specs.queues.Views.{View}
 use Rattle.node_model.specs.Steps.{Outcome, stepped}
 use Rattle.node_model.specs.declared.cluster.Cluster.{Cluster}
 use Rattle.node_model.specs.declared.input.Input.{Input}
@@ -36,7 +36,7 @@ use Rattle.run_devices.proofs.validity.Downs.{Small, all_lost}
 use Rattle.run_devices.proofs.validity.Goes.{HandSo}
 use Rattle.run_devices.specs.validity.Kept.{AllAgree}
 use Rattle.run_devices.proofs.validity.Steps.{StepAgrees, ready_of}
-use Rattle.run_devices.specs.queues.Kept.{NodeSo, Pending}
+use Rattle.run_devices.specs.queues.Kept.{AllShow, NodeSo, Pending}
 use Rattle.run_devices.proofs.queues.Acts.{AsksIn}
 use Rattle.run_devices.proofs.queues.Changes.{Placed}
 use Rattle.run_devices.proofs.queues.Doings.{all_go}
@@ -44,17 +44,17 @@ use Rattle.run_devices.proofs.queues.Goes.{Goes}
 
 -- ---- all nodes, with what one is to begin yet
 
-pub record Around (S : Setting) (s : Scene) (n : ℕ) (p : Pending) : Type 0 where
+pub record Around (S : View) (s : Scene) (n : ℕ) (p : Pending) : Type 0 where
   pub here : NodeSo S s.moments n p (s.nodes.node n)
   pub there : (k : ℕ) → k ≢ n → NodeSo S s.moments k None (s.nodes.node k)
 
-abbrev pub Strict : Setting → Scene → Type 0
+abbrev pub Strict : View → Scene → Type 0
 Strict S s = (n : ℕ) → NodeSo S s.moments n None (s.nodes.node n)
 
-pub around : (S : Setting) (s : Scene) (n : ℕ) → Strict S s → Around S s n None
+pub around : (S : View) (s : Scene) (n : ℕ) → Strict S s → Around S s n None
 around S s n k = record { here = k n; there = λ j ne. k j }
 
-all_around : (S : Setting) (s : Scene) (n : ℕ) → Around S s n None → Strict S s
+all_around : (S : View) (s : Scene) (n : ℕ) → Around S s n None → Strict S s
 all_around S s n k j = go (same_or_not j n)
   where
     go : (j ≡ n) ⊎ (j ≢ n) → NodeSo S s.moments j None (s.nodes.node j)
@@ -64,26 +64,29 @@ all_around S s n k j = go (same_or_not j n)
 -- ---- a step
 
 -- what goes beside: its seizings, and that attempts differ
-pub record Beside (S : Setting) (c : Cluster) (n now : ℕ) (ends : method.Outcome) (i : Input) (s : Scene) : Type 0 where
+pub record Beside (S : View) (c : Cluster) (n now : ℕ) (ends : method.Outcome) (i : Input) (s : Scene) : Type 0 where
   pub placed : Placed S c n
-  pub seizing : IsSeizing S.header s
-  pub hand : InHand S.header s.moments n (delivered_by i)
+  pub seizing : IsSeizing S.setting.header s
+  pub hand : InHand S.setting.header s.moments n (delivered_by i)
   pub differ : AttemptsDiffer (taking c n now ends i s).moments
-  pub agrees : StepAgrees S.header c n now ends i s
+  pub agrees : StepAgrees S.setting.header c n now ends i s
+  pub shows : (replies : List Reply) (w : Nodes)
+      → AllShow S c n (delivered_by i) (site_of s.nodes n) (doings c n now ends replies i (s.nodes.node n)) (record s { nodes = w })
 
 -- the walk through the small steps of it
-abbrev pub Walk : Setting → Cluster → ℕ → ℕ → method.Outcome → Input → Nodes → Pending → Type 0
+abbrev pub Walk : View → Cluster → ℕ → ℕ → method.Outcome → Input → Nodes → Pending → Type 0
 Walk S c n now ends i v p = (replies : List Reply) (w : Nodes) (t : Scene)
-    → Small S.header c n (delivered_by i) None (site_of v n) (doings c n now ends replies i (v.node n))
+    → Small S.setting.header c n (delivered_by i) None (site_of v n) (doings c n now ends replies i (v.node n))
     → AttemptsDiffer (passing n (given_all c n (site_of v n) (doings c n now ends replies i (v.node n))) t).moments
-    → AllAgree S.header c n (site_of v n) (doings c n now ends replies i (v.node n)) t
-    → seizings.Goes S.header n (delivered_by i) v w (site_of v n) None t → Goes S n (delivered_by i) v w p (v.node n) t
+    → AllAgree S.setting.header c n (site_of v n) (doings c n now ends replies i (v.node n)) t
+    → AllShow S c n (delivered_by i) (site_of v n) (doings c n now ends replies i (v.node n)) t
+    → seizings.Goes S.setting.header n (delivered_by i) v w (site_of v n) None t → Goes S n (delivered_by i) v w p (v.node n) t
     → Goes S n (delivered_by i) v w None (after_all c n (site_of v n) (doings c n now ends replies i (v.node n))).node
     (passing n (given_all c n (site_of v n) (doings c n now ends replies i (v.node n))) t)
 
-pub step_around : (S : Setting) (c : Cluster) (n now : ℕ) (ends : method.Outcome) (i : Input) (s : Scene) (p : Pending) → Sized c → Ground c s.nodes → IsNode n → now < 2 ^ 64
+pub step_around : (S : View) (c : Cluster) (n now : ℕ) (ends : method.Outcome) (i : Input) (s : Scene) (p : Pending) → Sized c → Ground c s.nodes → IsNode n → now < 2 ^ 64
     → WasSent s.nodes i → AnswersFit i → HandSo s.moments n (delivered_by i)
-    → ((replies : List Reply) → AllMay S.header c n (delivered_by i) None (site_of s.nodes n) (doings c n now ends replies i (s.nodes.node n)))
+    → ((replies : List Reply) → AllMay S.setting.header c n (delivered_by i) None (site_of s.nodes n) (doings c n now ends replies i (s.nodes.node n)))
     → Beside S c n now ends i s → Walk S c n now ends i s.nodes p → Around S s n p → Strict S (taking c n now ends i s)
 step_around S c n now ends i s p sized b is time was answer hand guard beside walk k =
     let v : Nodes = s.nodes in
@@ -105,7 +108,7 @@ step_around S c n now ends i s p sized b is time was answer hand guard beside wa
       fit = subst (λ os. AllFit n os) (sym cut.comes.given) (all_spelled n o.given is widths.given);
     })
     (subst (λ os. AttemptsDiffer (passing n os t).moments) (sym cut.comes.given) beside.differ)
-    beside.agrees
+    beside.agrees (beside.shows cut.replies w)
     (record {
       here = beside.seizing.sites n;
       there = λ j ne. beside.seizing.sites j;
@@ -124,12 +127,12 @@ step_around S c n now ends i s p sized b is time was answer hand guard beside wa
     (put_all (λ j node kept. NodeSo S r.moments j None node) v n o.after o.disk after.here after.there)
 
 -- of what is no request to seize
-pub plain_step : (S : Setting) (c : Cluster) (n now : ℕ) (ends : method.Outcome) (i : Input) (s : Scene) → Sized c → Ground c s.nodes → IsNode n → now < 2 ^ 64 → WasSent s.nodes i
+pub plain_step : (S : View) (c : Cluster) (n now : ℕ) (ends : method.Outcome) (i : Input) (s : Scene) → Sized c → Ground c s.nodes → IsNode n → now < 2 ^ 64 → WasSent s.nodes i
     → AnswersFit i → HandSo s.moments n (delivered_by i) → (AsksIn (delivered_by i) → ⊥)
-    → ((replies : List Reply) → AllMay S.header c n (delivered_by i) None (site_of s.nodes n) (doings c n now ends replies i (s.nodes.node n)))
+    → ((replies : List Reply) → AllMay S.setting.header c n (delivered_by i) None (site_of s.nodes n) (doings c n now ends replies i (s.nodes.node n)))
     → Beside S c n now ends i s → Strict S s → Strict S (taking c n now ends i s)
 plain_step S c n now ends i s sized b is time was answer hand calm guard beside k =
     step_around S c n now ends i s None sized b is time was answer hand guard beside
-    (λ replies w t small differ agrees z l.
+    (λ replies w t small differ agrees shows z l.
     all_go S c b.machine n (delivered_by i) s.nodes w (site_of s.nodes n) None (doings c n now ends replies i (s.nodes.node n)) t beside.placed calm (ready_of c s.nodes n i sized b was)
-    small differ agrees z l) (around S s n k)
+    small differ agrees shows z l) (around S s n k)

@@ -21,7 +21,8 @@ use Rattle.history.specs.Moment.{Moment, Told}
 use Rattle.history.specs.Queue as told
 use Rattle.history.specs.Queue.{answer_told, is_write, moved}
 use Rattle.history.specs.Seizing.{is_install}
-use Rattle.history.specs.Setting.{Setting, coordinator}
+use Rattle.run_devices.specs.queues.Views.{View}
+use Rattle.history.specs.Setting.{coordinator}
 use Rattle.node_model.specs.Seats.{session_of}
 use Rattle.node_model.specs.declared.node.Node.{Node}
 use Rattle.node_model.specs.declared.node.Node.TheVariants.{Down, Up}
@@ -29,10 +30,11 @@ use Rattle.node_model.specs.declared.node.UpNode.{UpNode}
 use Rattle.run_seizings.proofs.Progress.{if_not, no_truth, not_same}
 use Rattle.run_seizings.specs.Seized.{has_installed}
 use Rattle.run_devices.specs.queues.Kept.{NodeSo, Pending, Tells, UpSo}
-use Rattle.run_devices.specs.queues.Told.{brought, joined, leads, told_after, told_tasks}
+use Rattle.run_devices.specs.queues.Told.{leads}
+use Rattle.run_devices.specs.queues.Views.{brought, joined, told_after, told_tasks}
 use Rattle.run_devices.proofs.queues.Options.{Kept, kept, told_else}
 
-pub record Still (S : Setting) (ms : List Moment) (n : ℕ) (x : Moment) : Type 0 where
+pub record Still (S : View) (ms : List Moment) (n : ℕ) (x : Moment) : Type 0 where
   pub told : (tasks : List told.Task) → told_after S n x ms (told_tasks S n ms) ≡ Some tasks → told_tasks S n ms ≡ Some tasks
   pub installs : (e : ℕ) → is_install n e x ≡ false
   pub session : member.session_of n ms ≡ None → member.session_of n (x ∷ ms) ≡ None
@@ -75,7 +77,7 @@ none_if : {A : Type 0} (b : Bool) (o : Option A) → o ≡ None → (if b then N
 none_if true o k = refl
 none_if false o k = k
 
-aside_node : (S : Setting) (ms : List Moment) (n m : ℕ) (e : NodeEntry) → (m == n) ≡ false → Still S ms n (Told (entry.Node m e))
+aside_node : (S : View) (ms : List Moment) (n m : ℕ) (e : NodeEntry) → (m == n) ≡ false → Still S ms n (Told (entry.Node m e))
 aside_node S ms n m note.Up ne = record {
   told = λ ts is. sym (if_not (m == n) (Some []) (told_tasks S n ms) ne) ∙ is;
   installs = λ e. refl;
@@ -99,7 +101,7 @@ aside_node S ms n m (note.Installed q) ne = record {
 aside_node S ms n m (note.Member q) ne = record { told = λ ts is. is; installs = λ e. refl; session = λ k. k }
 aside_node S ms n m note.Ticked ne = record { told = λ ts is. is; installs = λ e. refl; session = λ k. k }
 
-still_node : (S : Setting) (ms : List Moment) (n m : ℕ) (e : NodeEntry) → StillNode n m e → Still S ms n (Told (entry.Node m e))
+still_node : (S : View) (ms : List Moment) (n m : ℕ) (e : NodeEntry) → StillNode n m e → Still S ms n (Told (entry.Node m e))
 still_node S ms n m note.Up is = aside_node S ms n m note.Up (not_same m n is)
 still_node S ms n m (note.Down why) is = aside_node S ms n m (note.Down why) (not_same m n is)
 still_node S ms n m note.Saved is = aside_node S ms n m note.Saved (not_same m n is)
@@ -126,7 +128,7 @@ is_aside n m command.Holder is = and_not (m == n) true (not_same m n is)
 is_aside n m command.Read is = and_not (m == n) true (not_same m n is)
 is_aside n m (command.Swap expect new) is = and_not (m == n) true (not_same m n is)
 
-still_device : (S : Setting) (ms : List Moment) (n : ℕ) (e : DeviceEntry) → StillDevice n e → Still S ms n (Told (entry.Device e))
+still_device : (S : View) (ms : List Moment) (n : ℕ) (e : DeviceEntry) → StillDevice n e → Still S ms n (Told (entry.Device e))
 still_device S ms n (device_entry.Command m d done reply) is = record {
   told = λ ts k.
       sym (if_not ((m == n) && not (is_write done)) (option_map (moved (answer_told reply)) (told_tasks S n ms)) (told_tasks S n ms) (is_aside n m done is)) ∙ k;
@@ -136,7 +138,7 @@ still_device S ms n (device_entry.Command m d done reply) is = record {
 still_device S ms n (device_entry.Accepted e m d value) is = record { told = λ ts k. k; installs = λ e. refl; session = λ k. k }
 still_device S ms n (device_entry.Refused m d value why) is = record { told = λ ts k. k; installs = λ e. refl; session = λ k. k }
 
-still_attempt : (S : Setting) (ms : List Moment) (n : ℕ) (e : AttemptEntry) → StillAttempt n e → Still S ms n (Told (entry.Attempt e))
+still_attempt : (S : View) (ms : List Moment) (n : ℕ) (e : AttemptEntry) → StillAttempt n e → Still S ms n (Told (entry.Attempt e))
 still_attempt S ms n (tried.Begun e members) is = record {
   told = λ ts k. sym (if_not (coordinator e == n) (Some []) (told_tasks S n ms) (not_same (coordinator e) n is)) ∙ k;
   installs = λ e. refl;
@@ -149,7 +151,7 @@ still_attempt S ms n (tried.Silent e m) is = record { told = λ ts k. k; install
 still_attempt S ms n (tried.Excluded e m) is = record { told = λ ts k. told_else (coordinator e == n) (told_tasks S n ms) ts k; installs = λ e. refl; session = λ k. k }
 still_attempt S ms n (tried.Foreign e m) is = record { told = λ ts k. told_else (coordinator e == n) (told_tasks S n ms) ts k; installs = λ e. refl; session = λ k. k }
 
-still_packet : (S : Setting) (ms : List Moment) (n : ℕ) (e : PacketEntry) → StillPacket n e → Still S ms n (Told (entry.Packet e))
+still_packet : (S : View) (ms : List Moment) (n : ℕ) (e : PacketEntry) → StillPacket n e → Still S ms n (Told (entry.Packet e))
 still_packet S ms n (packet.Delivered p a m) is = record {
   told = λ ts k. sym (if_not (m == n) (brought S n (letter_of p ms) ms (told_tasks S n ms)) (told_tasks S n ms) (not_same m n is)) ∙ k;
   installs = λ e. refl;
@@ -160,7 +162,7 @@ still_packet S ms n (packet.Lost p) is = record { told = λ ts k. k; installs = 
 still_packet S ms n (packet.Repeated p copy) is = record { told = λ ts k. k; installs = λ e. refl; session = λ k. k }
 still_packet S ms n (packet.Dropped p why) is = record { told = λ ts k. k; installs = λ e. refl; session = λ k. k }
 
-pub still : (S : Setting) (ms : List Moment) (n : ℕ) (e : Entry) → StillFor n e → Still S ms n (Told e)
+pub still : (S : View) (ms : List Moment) (n : ℕ) (e : Entry) → StillFor n e → Still S ms n (Told e)
 still S ms n (entry.Node m e) is = still_node S ms n m e is
 still S ms n (entry.Device e) is = still_device S ms n e is
 still S ms n (entry.Attempt e) is = still_attempt S ms n e is
@@ -173,19 +175,19 @@ or_second : (a b : Bool) → a ≡ false → (a || b) ≡ b
 or_second true b off = absurd (no_truth (sym off))
 or_second false b off = refl
 
-pub installs_same : (S : Setting) (ms : List Moment) (n e : ℕ) (x : Moment) → Still S ms n x → has_installed n e (x ∷ ms) ≡ has_installed n e ms
+pub installs_same : (S : View) (ms : List Moment) (n e : ℕ) (x : Moment) → Still S ms n x → has_installed n e (x ∷ ms) ≡ has_installed n e ms
 installs_same S ms n e x same = or_second (is_install n e x) (list_any (is_install n e) ms) (same.installs e)
 
 tells_in : (o p : Option (List told.Task)) (q : Pending) (y : UpNode) → ((tasks : List told.Task) → p ≡ Some tasks → o ≡ Some tasks) → Tells o q y → Tells p q y
 tells_in o None q y f k = tt
 tells_in o (Some tasks) q y f k = subst (λ z. Tells z q y) (f tasks refl) k
 
-told_before : (S : Setting) (ms : List Moment) (n : ℕ) (x : Moment) (tasks : List told.Task) → Still S ms n x → told_tasks S n (x ∷ ms) ≡ Some tasks → told_tasks S n ms ≡ Some tasks
+told_before : (S : View) (ms : List Moment) (n : ℕ) (x : Moment) (tasks : List told.Task) → Still S ms n x → told_tasks S n (x ∷ ms) ≡ Some tasks → told_tasks S n ms ≡ Some tasks
 told_before S ms n x tasks same is =
     let k : Kept (leads n (x ∷ ms)) (told_after S n x ms (told_tasks S n ms)) tasks = kept (leads n (x ∷ ms)) (told_after S n x ms (told_tasks S n ms)) tasks is in
     same.told tasks k.told
 
-pub up_stays : (S : Setting) (ms : List Moment) (x : Moment) (n : ℕ) (p : Pending) (y : UpNode) → Still S ms n x → UpSo S ms n p y → UpSo S (x ∷ ms) n p y
+pub up_stays : (S : View) (ms : List Moment) (x : Moment) (n : ℕ) (p : Pending) (y : UpNode) → Still S ms n x → UpSo S ms n p y → UpSo S (x ∷ ms) n p y
 up_stays S ms x n p y same k = record {
   none = λ is. same.session (k.none is);
   fresh = λ some ne. installs_same S ms n (session_of y) x same ∙ k.fresh some ne;
@@ -194,6 +196,6 @@ up_stays S ms x n p y same k = record {
   tells = tells_in (told_tasks S n ms) (told_tasks S n (x ∷ ms)) p y (λ ts is. told_before S ms n x ts same is) k.tells;
 }
 
-pub node_stays : (S : Setting) (ms : List Moment) (x : Moment) (n : ℕ) (p : Pending) (node : Node) → Still S ms n x → NodeSo S ms n p node → NodeSo S (x ∷ ms) n p node
+pub node_stays : (S : View) (ms : List Moment) (x : Moment) (n : ℕ) (p : Pending) (node : Node) → Still S ms n x → NodeSo S ms n p node → NodeSo S (x ∷ ms) n p node
 node_stays S ms x n p Down same k = tt
 node_stays S ms x n p (Up y) same k = up_stays S ms x n p y same k

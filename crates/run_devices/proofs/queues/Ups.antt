@@ -13,7 +13,7 @@ use Rattle.history.specs.Member as member
 use Rattle.history.specs.Moment.{Moment}
 use Rattle.history.specs.Queue as told
 use Rattle.history.specs.Seizing.{is_number}
-use Rattle.history.specs.Setting.{Setting}
+use Rattle.run_devices.specs.queues.Views.{View}
 use Rattle.node_model.specs.Seats.{installed_of, session_of}
 use Rattle.node_model.specs.declared.node.UpNode.{UpNode}
 use Rattle.run_history.specs.Guards.{Hand, InHand, IsStep}
@@ -24,7 +24,8 @@ use Rattle.run_seizings.specs.Seized.{AttemptSo, has_installed}
 use Rattle.run_seizings.specs.Sites as seizings
 use Rattle.run_devices.specs.queues.Kept.{NoJoins, Pending, Tells, UpSo, begun_with, joins_in}
 use Rattle.run_devices.specs.queues.Laws.{Same}
-use Rattle.run_devices.specs.queues.Told.{leads, leads_for, told_after, told_tasks, unless}
+use Rattle.run_devices.specs.queues.Told.{leads, leads_for, unless}
+use Rattle.run_devices.specs.queues.Views.{told_after, told_tasks}
 use Rattle.run_devices.proofs.queues.Tasks.{none_begun}
 
 -- with the same session, installed epoch and tasks
@@ -35,7 +36,7 @@ tells_same (Some ts) p x y session installed tasks k = (
   λ ne. subst (λ (z : List Task). Same (begun_with p z) ts) (sym tasks) (k.1 (λ is. ne (installed ∙ (is ∙ sym session)))),
 )
 
-pub up_same : (S : Setting) (ms : List Moment) (n : ℕ) (p : Pending) (x y : UpNode) → session_of y ≡ session_of x → installed_of y ≡ installed_of x → y.tasks ≡ x.tasks
+pub up_same : (S : View) (ms : List Moment) (n : ℕ) (p : Pending) (x y : UpNode) → session_of y ≡ session_of x → installed_of y ≡ installed_of x → y.tasks ≡ x.tasks
     → UpSo S ms n p x → UpSo S ms n p y
 up_same S ms n p x y session installed tasks k = record {
   none = λ is. k.none (sym session ∙ is);
@@ -48,7 +49,7 @@ up_same S ms n p x y session installed tasks k = record {
 
 -- ---- while it leads, its tasks are not told
 
-pub open_here : (S : Setting) (n : ℕ) (ms : List Moment) → leads n ms ≡ true → told_tasks S n ms ≡ None
+pub open_here : (S : View) (n : ℕ) (ms : List Moment) → leads n ms ≡ true → told_tasks S n ms ≡ None
 open_here S n [] is = absurd (no_truth is)
 open_here S n (x ∷ ms) is = ap (λ b. unless b (told_after S n x ms (told_tasks S n ms))) is
 
@@ -75,7 +76,7 @@ leads_so h n ms x a is before up =
 -- ---- a task more
 
 -- it begins one that is not told
-pub queued_up : (S : Setting) (ms : List Moment) (n d : ℕ) (x : UpNode) (s : SeizeState) → told_tasks S n ms ≡ None → UpSo S ms n None x
+pub queued_up : (S : View) (ms : List Moment) (n d : ℕ) (x : UpNode) (s : SeizeState) → told_tasks S n ms ≡ None → UpSo S ms n None x
     → UpSo S ms n None (record x { tasks = after_seize x.tasks d s })
 queued_up S ms n d x s untold k = record {
   none = k.none;

@@ -167,21 +167,19 @@ some_set : Bool → ℕ
 some_set true = 65535
 some_set false = 0
 
-pub install_told : (h : Header) (ms : List Moment) (n d : ℕ) (old : ℕ) (r : NodeState) (i : Install) → length h.devices ≤ most_devices → IsDevice h d → n ≤ 32 → r.saved.valid ≡ old
-    → InstallSo h ms n r i → Agrees (validity h n d ms) (has old d) → Agrees (validity h n d (installed n i.epoch ∷ ms)) (has (devices_after r i).valid d)
+-- whatever was told of the device before
+pub install_makes : (h : Header) (ms : List Moment) (n d : ℕ) (old : ℕ) (r : NodeState) (i : Install) (v : Validity) → length h.devices ≤ most_devices → IsDevice h d → n ≤ 32
+    → r.saved.valid ≡ old → InstallSo h ms n r i → Agrees v (has old d) → Agrees (at_install h n (seizing_of h i.epoch d ms) v) (has (devices_after r i).valid d)
 unfolding some_set
-install_told h ms n d old r i many is low same so k =
+install_makes h ms n d old r i v many is low same so k =
     let b : Bool = has r.saved.valid d in
     let s : NodeState = record r { saved = record r.saved { valid = some_set b } } in
-    subst (λ v. Agrees v (has (devices_after r i).valid d))
-    (sym (if_so (n == n) (at_install h n (seizing_of h i.epoch d ms) (validity h n d ms)) (validity h n d ms) (same_is n)))
-    (subst (λ o. Agrees (at_install h n o (validity h n d ms)) (has (devices_after r i).valid d)) (so.told d)
-    (agrees_so _ _ (subst (λ z. IsSo (at_install h n (told_in i.readings d) (validity h n d ms)) z)
+    subst (λ o. Agrees (at_install h n o v) (has (devices_after r i).valid d)) (so.told d)
+    (agrees_so _ _ (subst (λ z. IsSo (at_install h n (told_in i.readings d) v) z)
     (all_same r.me d (record { valid = some_set b; joined = 0 }) (record { valid = r.saved.valid; joined = 0 }) i.readings is.0 high so.apart (some_has b))
-    (subst (λ z. IsSo (at_install h z (told_in i.readings d) (validity h n d ms)) (has (devices_after s i).valid d)) so.me
-    (installs_as_read h ms s i d (validity h n d ms) (some_narrow b) so.apart (subst (λ z. z ≤ 32) (sym so.me) low) so.read
-    (subst (λ z. IsSo (validity h n d ms) z) (sym (some_has b))
-    (so_agrees (validity h n d ms) b (subst (λ z. Agrees (validity h n d ms) (has z d)) (sym same) k))))))))
+    (subst (λ z. IsSo (at_install h z (told_in i.readings d) v) (has (devices_after s i).valid d)) so.me
+    (installs_as_read h ms s i d v (some_narrow b) so.apart (subst (λ z. z ≤ 32) (sym so.me) low) so.read
+    (subst (λ z. IsSo v z) (sym (some_has b)) (so_agrees v b (subst (λ z. Agrees v (has z d)) (sym same) k)))))))
   where
     high : d ≤ 32
     high = within (length h.devices) is.1 many
@@ -202,6 +200,13 @@ install_told h ms n d old r i many is low same so k =
     some_has : (b : Bool) → has (some_set b) d ≡ b
     some_has true = full d is.0 top
     some_has false = none_of_zero d
+
+pub install_told : (h : Header) (ms : List Moment) (n d : ℕ) (old : ℕ) (r : NodeState) (i : Install) → length h.devices ≤ most_devices → IsDevice h d → n ≤ 32 → r.saved.valid ≡ old
+    → InstallSo h ms n r i → Agrees (validity h n d ms) (has old d) → Agrees (validity h n d (installed n i.epoch ∷ ms)) (has (devices_after r i).valid d)
+install_told h ms n d old r i many is low same so k =
+    subst (λ v. Agrees v (has (devices_after r i).valid d))
+    (sym (if_so (n == n) (at_install h n (seizing_of h i.epoch d ms) (validity h n d ms)) (validity h n d ms) (same_is n)))
+    (install_makes h ms n d old r i (validity h n d ms) many is low same so k)
 
 -- ---- what it brings was seized for it
 

@@ -33,6 +33,7 @@ use Rattle.run_history.specs.Shapes.{Due, ShapedFrom, due_after, nothing}
 use Rattle.run_packets.proofs.native.Runs.{whole_at}
 use Rattle.run_devices.specs.queues.Kept as queue
 use Rattle.run_devices.specs.queues.Kept.{NoJoins, NodeSo}
+use Rattle.run_devices.proofs.queues.Alone.{lines_of}
 use Rattle.run_devices.proofs.queues.Runs.{Comes_to, comes_more, first_comes}
 use Rattle.run_seizings.specs.Seized.{AttemptIn, AttemptSo, Either, Fresh, TasksSo, WorkSo, has_installed}
 use Rattle.run_seizings.specs.Sites.{UpIn, UpSo}
@@ -73,11 +74,11 @@ collects_none W a at h d = (subst (HasIn (W.device d) a.plan a.promises a.device
 -- ---- at each point of a run
 
 run_on : (h : Header) (cells : ℕ) → length h.devices ≤ most_devices → h.cluster < 2 ^ 32 → (hs : List Happening) (s : Scene) (d last : Due) → MayAllHappen (first_cluster h) s hs → ShapedFrom (first_cluster h) s d hs last
-    → Comes_to (setting_of h) cells s d.wants → Comes_to (setting_of h) cells (all_happened (first_cluster h) s hs) last.wants
-run_on h cells few small [] s d last may shaped k = subst (λ (z : Due). Comes_to (setting_of h) cells s z.wants) shaped k
+    → Comes_to (lines_of (setting_of h)) cells s d.wants → Comes_to (lines_of (setting_of h)) cells (all_happened (first_cluster h) s hs) last.wants
+run_on h cells few small [] s d last may shaped k = subst (λ (z : Due). Comes_to (lines_of (setting_of h)) cells s z.wants) shaped k
 run_on h cells few small (x ∷ hs) s d last may shaped k =
     let c : Cluster = first_cluster h in
-    run_on h cells few small hs (happened c s x) (due_after c (happened c s x) d x) last may.1 shaped.1 (comes_more (setting_of h) cells few small s d x may.0 shaped.0 k)
+    run_on h cells few small hs (happened c s x) (due_after c (happened c s x) d x) last may.1 shaped.1 (comes_more (lines_of (setting_of h)) cells refl few small s d x may.0 shaped.0 k)
 
 due_none : (x : UpNode) → first_of x.tasks ≡ None → due_of x ≡ None
 due_none x none = ap (λ (o : Option Task). option_and_then (λ d. option_and_then (λ k. Some (d, k)) (option_and_then (λ (t : Task). command_in t.work) (first_of x.tasks))) (option_map (λ (t : Task). t.device) o)) none
@@ -107,8 +108,8 @@ collectors_have_nothing_due h cells hs last few small disks may shaped n a at co
     so : AttemptSo h s.moments n (session_of it.x) a
     so = subst (AttemptIn h s.moments n (session_of it.x)) it.has up.attempt
 
-    queued : queue.UpSo (setting_of h) s.moments n None it.x
-    queued = subst (NodeSo (setting_of h) s.moments n None) it.up ((run_on h cells few small hs (first_scene h cells) nothing last may shaped (first_comes (setting_of h) cells few disks)).so n)
+    queued : queue.UpSo (lines_of (setting_of h)) s.moments n None it.x
+    queued = subst (NodeSo (lines_of (setting_of h)) s.moments n None) it.up ((run_on h cells few small hs (first_scene h cells) nothing last may shaped (first_comes (lines_of (setting_of h)) cells few disks)).so n)
 
     fresh : has_installed n (session_of it.x) s.moments ≡ false
     fresh = ap (λ q. has_installed n q s.moments) (sym so.epoch) ∙ so.before (subst IsBefore (sym collects) tt)

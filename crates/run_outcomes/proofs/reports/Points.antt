@@ -13,6 +13,7 @@ use Rattle.node_model.specs.declared.node.UpNode.{UpNode}
 use Rattle.refinement.specs.Doings.{site}
 use Rattle.refinement.specs.Ties.{setting_of as cluster_setting}
 use Rattle.run_devices.proofs.queues.Ends.{only_joins}
+use Rattle.run_devices.proofs.queues.Alone.{lines_of}
 use Rattle.run_devices.proofs.queues.Runs.{Comes_to, comes_more, first_comes}
 use Rattle.run_devices.specs.queues.Kept.{NodeSo, joins_in}
 use Rattle.run_packets.proofs.native.Runs.{whole_at}
@@ -91,11 +92,11 @@ module _ (P : Header → Scene → Type 0) (law : OfEachPoint P) (h : Header) (c
 -- ---- the kinds of tasks
 
 comes_on : (h : Header) (cells : ℕ) → length h.devices ≤ most_devices → h.cluster < 2 ^ 32 → (hs : List Happening) (s : Scene) (d last : Due) → MayAllHappen (first_cluster h) s hs → ShapedFrom (first_cluster h) s d hs last
-    → Comes_to (setting_of h) cells s d.wants → Comes_to (setting_of h) cells (all_happened (first_cluster h) s hs) last.wants
-comes_on h cells few small [] s d last may shaped k = subst (λ (z : Due). Comes_to (setting_of h) cells s z.wants) shaped k
+    → Comes_to (lines_of (setting_of h)) cells s d.wants → Comes_to (lines_of (setting_of h)) cells (all_happened (first_cluster h) s hs) last.wants
+comes_on h cells few small [] s d last may shaped k = subst (λ (z : Due). Comes_to (lines_of (setting_of h)) cells s z.wants) shaped k
 comes_on h cells few small (x ∷ hs) s d last may shaped k =
     let c : Cluster = first_cluster h in
-    comes_on h cells few small hs (happened c s x) (due_after c (happened c s x) d x) last may.1 shaped.1 (comes_more (setting_of h) cells few small s d x may.0 shaped.0 k)
+    comes_on h cells few small hs (happened c s x) (due_after c (happened c s x) d x) last may.1 shaped.1 (comes_more (lines_of (setting_of h)) cells refl few small s d x may.0 shaped.0 k)
 
 only_so : (h : Header) (cells : ℕ) (s : Scene) (n : ℕ) (x : UpNode) → IsSmall h → IsReached h cells s → s.nodes.node n ≡ Up x → installed_of x ≡ session_of x → filter is_queued x.tasks ≡ filter is_queued (joins_in x.tasks)
 only_so h cells s n x size r at same =
@@ -113,7 +114,7 @@ at_points queues asks ready h cells hs last few small disks may shaped native = 
   few = results_are_few h cells hs last few small disks may shaped native;
   ready = ready h cells hs last few small disks may shaped native;
   reading = (run_reads h cells hs few small may).reading;
-  plain = λ n x at. (subst (NodeSo (setting_of h) s.moments n None) at ((comes_on h cells few small hs (first_scene h cells) nothing last may shaped (first_comes (setting_of h) cells few disks)).so n)).plain;
+  plain = λ n x at. (subst (NodeSo (lines_of (setting_of h)) s.moments n None) at ((comes_on h cells few small hs (first_scene h cells) nothing last may shaped (first_comes (lines_of (setting_of h)) cells few disks)).so n)).plain;
   joins = λ n x at. only_so h cells s n x (record { few = few; small = small }) (record { happenings = hs; may = may; is = refl }) at;
 }
 

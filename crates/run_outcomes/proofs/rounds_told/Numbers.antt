@@ -64,7 +64,7 @@ armed_next c (event.Fault n d done) s = same s.links.next
 armed_next c (event.CrashAt n calls choice) s = same s.links.next
 armed_next c _ s = same s.links.next
 
-happened_next : (c : Cluster) (s : Scene) (x : Happening) → s.links.next ≤ (happened c s x).links.next
+pub happened_next : (c : Cluster) (s : Scene) (x : Happening) → s.links.next ≤ (happened c s x).links.next
 happened_next c s (Speaks e) = armed_next c e (adding (Said (line.Event e)) s)
 happened_next c s (Begins e) = same s.links.next
 happened_next c s (Notes e) = same s.links.next
