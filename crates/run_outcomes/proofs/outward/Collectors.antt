@@ -7,6 +7,7 @@ use Rattle.history.specs.Setting.{Setting}
 use Rattle.history_setting.specs.Settings.{setting_of}
 use Rattle.node_model.specs.Seats.{installed_of, session_of}
 use Rattle.refinement.specs.Guards.{OfUp}
+use Rattle.run_devices.proofs.queues.Alone.{lines_of}
 use Rattle.run_devices.proofs.queues.Runs.{Comes_to}
 use Rattle.run_devices.specs.queues.Kept as queues
 use Rattle.run_devices.specs.queues.Kept.{NodeSo}
@@ -57,11 +58,11 @@ collectors_have_none h cells hs last few small disks may shaped native n x a up 
     some : 0 < session_of x
     some = subst (λ q. 0 < q) so.epoch so.some
 
-    k : Comes_to S cells s last.wants
+    k : Comes_to (lines_of S) cells s last.wants
     k = comes_to S cells hs last few small disks may shaped
 
-    queue : queues.UpSo S s.moments n None x
-    queue = subst (NodeSo S s.moments n None) up (k.so n)
+    queue : queues.UpSo (lines_of S) s.moments n None x
+    queue = subst (NodeSo (lines_of S) s.moments n None) up (k.so n)
 
     moves : validity.UpSo s.moments n x
     moves = subst (validity.UpIn s.moments n) up (up_kept h s n last.wants k.valid.so)
