@@ -1,6 +1,6 @@
 -- What a call leaves of an attempt that seizes devices, and where it seized already before the call.
 use Rattle.std.specs.Prelude.{ℕ, ◌≡◌, Bool, true, false, List, [], Option, None, Some}
-use Rattle.std.proofs.Common.{refl, sym, ap, subst, ◌∙◌, inl, inr}
+use Rattle.std.proofs.Common.{refl, sym, ap, ◌∙◌, inl, inr}
 use Rattle.attempt_laws.proofs.Walk.{IsSeizing, Walk, awaits_collecting, walks, walks_asked_votes}
 use Rattle.cmm_attempt.proofs.Basics.{false_true}
 use Rattle.cmm_attempt.specs.Attempts.{AttemptState, Turn, admitted, asked_next, asked_votes, in_phase, installing, known, knowing, own_readying, own_readying_in, possible, seizing_votes, shortage, vote_entries, voting}

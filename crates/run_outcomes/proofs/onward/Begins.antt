@@ -1,6 +1,6 @@
 -- A coordinator that is alone has come to its tasks by the votes, where its attempt begins in a tick.
 use Rattle.std.specs.Prelude.{ℕ, ◌≡◌, ◌==◌, ◌++◌, true, false, Bool, List, [], ◌∷◌, None, Some, if◌then◌else◌}
-use Rattle.std.proofs.Common.{arith, refl, sym, ap, subst, ◌∙◌}
+use Rattle.std.proofs.Common.{arith, refl, sym, ap, ◌∙◌}
 use Rattle.attempt_laws.proofs.Stays.{plan_begins, plan_stays}
 use Rattle.cmm_attempt.specs.Attempts.{AttemptState}
 use Rattle.cmm_attempt.specs.Calls.{IsReached, With_votes}

@@ -5,9 +5,9 @@ use Rattle.std.specs.Option.{unwrap_or}
 use Rattle.std.proofs.Common.{refl, sym, ap, subst, ◌∙◌, append_assoc, append-nil, inl, inr}
 use Rattle.attempt_laws.specs.Staying.{IsFinal}
 use Rattle.cl_base.specs.Sets.{has}
-use Rattle.cmm_attempt.proofs.Basics.{false_true, if_either}
+use Rattle.cmm_attempt.proofs.Basics.{if_either}
 use Rattle.cmm_attempt.specs.Attempts.{AttemptState, newest_installed}
-use Rattle.cmm_attempt.specs.Calls.{Call, May, With_votes, starts_in, turn}
+use Rattle.cmm_attempt.specs.Calls.{Call, With_votes, starts_in, turn}
 use Rattle.cmm_attempt.specs.declared.step.AttemptEnd.{AttemptEnd}
 use Rattle.cmm_attempt.specs.declared.step.Step.{Step}
 use Rattle.cmm_attempt.specs.declared.step.Step.TheVariants as step
@@ -35,13 +35,12 @@ use Rattle.seize.specs.Seizing.{SeizeState}
 use Rattle.seize.specs.declared.kind.SeizeKind.{SeizeKind}
 use Rattle.run_downs.proofs.Courses.{by_test}
 use Rattle.run_outcomes.specs.phases.Kept.{In}
-use Rattle.run_outcomes.specs.phases.Laws.{is_seizing}
 use Rattle.run_outcomes.specs.saves.Courses.{LeadsTo}
 use Rattle.run_outcomes.specs.tasks.Onward.{AreStill, ByEither, ByTurn, GoesOut, IsBegun, IsStill, Onward, OnwardOf}
 use Rattle.run_outcomes.specs.tasks.Own.{IsFinalWhere}
 use Rattle.run_outcomes.proofs.saves.Rests.{leads_joined}
 use Rattle.run_outcomes.proofs.own_tasks.Beside.{AreLeft}
-use Rattle.run_outcomes.proofs.phases.Leading.{Has, IsLed, called_has, excluded_l, leaves_has, steps_has}
+use Rattle.run_outcomes.proofs.phases.Leading.{Has, called_has, excluded_l, leaves_has, steps_has}
 use Rattle.run_outcomes.proofs.onward.Beside.{left_out}
 use Rattle.run_outcomes.proofs.onward.Finals.{Finished, final_seizes_not, final_where, finished_led}
 use Rattle.run_outcomes.proofs.onward.Given.{out_by, out_joined, out_leads}

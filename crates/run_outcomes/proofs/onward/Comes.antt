@@ -1,7 +1,7 @@
 -- How a coordinator has come to its tasks, where its attempt took a call, or was given its votes.
-use Rattle.std.specs.Prelude.{ℕ, ◌≡◌, ◌≢◌, ◌⊎◌, ◌++◌, true, false, List, [], ◌∷◌, None, Some}
+use Rattle.std.specs.Prelude.{ℕ, ◌≡◌, ◌≢◌, ◌++◌, true, List, [], None, Some}
 use Rattle.std.specs.List.{AllByRecursion}
-use Rattle.std.proofs.Common.{refl, sym, ap, subst, ◌∙◌, append-nil, inl, inr}
+use Rattle.std.proofs.Common.{sym, ap, subst, ◌∙◌, append-nil, inl, inr}
 use Rattle.attempt_laws.proofs.Stays.{plan_stays}
 use Rattle.attempt_laws.proofs.Walk.{TellsResult}
 use Rattle.cl_base.specs.Seizings.{SeizeResult}
@@ -22,13 +22,13 @@ use Rattle.run_devices.specs.queues.Laws.{Same}
 use Rattle.run_outcomes.specs.phases.Laws.{is_seizing}
 use Rattle.run_outcomes.specs.tasks.Entries.{EntriesSo}
 use Rattle.run_outcomes.specs.tasks.Laws.{AsksTold, own_result}
-use Rattle.run_outcomes.specs.tasks.Onward.{ByEither, ByTurn}
+use Rattle.run_outcomes.specs.tasks.Onward.{ByTurn}
 use Rattle.run_outcomes.specs.tasks.Quiet.{AreQuiet}
 use Rattle.run_outcomes.proofs.phases.Leading.{is_choice}
 use Rattle.run_outcomes.proofs.onward.Asked.{HoldsOwn, all_asked}
 use Rattle.run_outcomes.proofs.onward.Befores.{own_ready_same, seized_before, seizing_keeps, votes_given}
 use Rattle.run_outcomes.proofs.onward.Messages.{Took}
-use Rattle.run_outcomes.proofs.told_tasks.Led.{ByCall, ByVotes, IsAsked, LedOn}
+use Rattle.run_outcomes.proofs.told_tasks.Led.{IsAsked, LedOn}
 
 -- ---- what is known beside
 

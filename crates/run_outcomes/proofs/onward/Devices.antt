@@ -1,6 +1,6 @@
 -- What a command of a coordinator at a device makes of its attempt and its tasks: its own task moves on, and no line behind that of the command changes these.
-use Rattle.std.specs.Prelude.{ℕ, ◌≡◌, ◌++◌, ◌==◌, ◌&&◌, map, Bool, true, false, List, [], ◌∷◌, Option, None, Some, if◌then◌else◌}
-use Rattle.std.proofs.Common.{refl, sym, subst, ◌∙◌, inl, inr}
+use Rattle.std.specs.Prelude.{ℕ, ◌≡◌, ◌++◌, ◌==◌, ◌&&◌, map, true, false, List, [], ◌∷◌, Option, None, Some}
+use Rattle.std.proofs.Common.{refl, sym, subst, ◌∙◌}
 use Rattle.cl_base.specs.Seizings.{SeizeResult}
 use Rattle.cmm_attempt.proofs.Basics.{false_true, if_either}
 use Rattle.cmm_attempt.specs.Attempts.{AttemptState, Turn, all_ready, own_readying, own_readying_in, starting, waits, with_steps}
@@ -22,12 +22,10 @@ use Rattle.node_model.specs.declared.node.UpNode.{UpNode}
 use Rattle.node_model.specs.declared.output.Output.{Output}
 use Rattle.node_model.specs.declared.output.Output.TheVariants.{Sends}
 use Rattle.pgr_device.specs.declared.command.PrCommand.{PrCommand}
-use Rattle.refinement.specs.Courses.{Course}
 use Rattle.refinement.specs.Courses.Course.{Stops}
 use Rattle.refinement.specs.Cuts as cuts
 use Rattle.refinement.specs.Cuts.{writing}
 use Rattle.refinement.specs.Doings.{answered_so, command_line}
-use Rattle.run_history.proofs.Lists.{both}
 use Rattle.seize.specs.Answers.{Answer}
 use Rattle.seize.specs.declared.kind.JoinResult.{JoinResult}
 use Rattle.seize.specs.declared.kind.JoinResult.TheVariants as join
@@ -35,7 +33,7 @@ use Rattle.wire.specs.declared.message.Body.TheVariants as body
 use Rattle.run_outcomes.specs.phases.Kept.{In}
 use Rattle.run_outcomes.specs.phases.Laws.{is_seizing}
 use Rattle.run_outcomes.specs.saves.Courses.{LeadsTo}
-use Rattle.run_outcomes.specs.tasks.Onward.{AreStill, GoesOut, IsStill, Onward, OnwardOf}
+use Rattle.run_outcomes.specs.tasks.Onward.{AreStill, GoesOut, Onward, OnwardOf}
 use Rattle.run_outcomes.proofs.phases.Leading.{Has, turned_all_has}
 use Rattle.run_outcomes.proofs.onward.Given.{Behind, out_behind, out_by, out_leads}
 use Rattle.run_outcomes.proofs.onward.Messages.{Took, call_out, onward_start}

@@ -1,14 +1,14 @@
 -- A turn that installs or starts here leaves an attempt that seizes devices no more, and no call makes it seize again.
-use Rattle.std.specs.Prelude.{ℕ, ◌≡◌, ◌⊎◌, ◌==◌, Bool, true, false, List, [], ◌∷◌, map, Option, None, Some}
+use Rattle.std.specs.Prelude.{ℕ, ◌≡◌, ◌==◌, true, List, [], ◌∷◌, map, Option, None, Some}
 use Rattle.std.specs.List.{cons_option, filter_map}
-use Rattle.std.proofs.Common.{refl, subst, inl, inr}
+use Rattle.std.proofs.Common.{subst, inl, inr}
 use Rattle.attempt_laws.proofs.Steady.{Steady, call_keeps}
 use Rattle.attempt_laws.proofs.Walk.{IsSeizing, Walk, awaits_collecting, walks}
 use Rattle.attempt_laws.specs.Staying.{IsFinal}
 use Rattle.cl_base.specs.Seizings.{SeizeResult}
 use Rattle.cmm_attempt.proofs.Basics.{false_true, if_either}
-use Rattle.cmm_attempt.specs.Attempts.{AttemptState, Turn, again_in, asked_next, collects, installing, later, plain_devices, silent_others}
-use Rattle.cmm_attempt.specs.Calls.{Call, May, turn}
+use Rattle.cmm_attempt.specs.Attempts.{AttemptState, Turn, again_in, asked_next, installing, later, plain_devices, silent_others}
+use Rattle.cmm_attempt.specs.Calls.{Call, turn}
 use Rattle.cmm_attempt.specs.Installs.{send_collect, send_install}
 use Rattle.cmm_attempt.specs.Seizings.{again_by, again_for, request, request_body, request_by, request_for}
 use Rattle.cmm_attempt.specs.declared.phase.Phase.{Phase}

@@ -1,6 +1,6 @@
 -- What holds along a course holds of the step of the node, and of what it gives.
-use Rattle.std.specs.Prelude.{ℕ, ◌≡◌, ◌++◌, Bool, true, false, List, [], ◌∷◌, Option, None, Some, if◌then◌else◌}
-use Rattle.std.proofs.Common.{refl, sym, ap, subst, ◌∙◌, append_assoc}
+use Rattle.std.specs.Prelude.{ℕ, ◌≡◌, ◌++◌, List, [], ◌∷◌, Option, None, Some}
+use Rattle.std.proofs.Common.{refl, sym, subst, append_assoc}
 use Rattle.cl_base.specs.declared.method.Outcome as method
 use Rattle.cmm_member.specs.Records.{NodeRecord}
 use Rattle.node_model.specs.Plans.{Plan}
@@ -24,7 +24,7 @@ use Rattle.refinement.specs.Doings.{acted, changed, first_lines, said, saved_lin
 use Rattle.refinement.specs.Steps.{disk_rules}
 use Rattle.run_downs.proofs.Courses.{says_all}
 use Rattle.run_history.proofs.Courses.{doings_so}
-use Rattle.run_history.specs.Marks.{ActSo, AllSo}
+use Rattle.run_history.specs.Marks.{AllSo}
 use Rattle.run_outcomes.specs.saves.Courses.{LeadsTo}
 use Rattle.run_outcomes.specs.saves.Kept.{IsAt}
 use Rattle.run_outcomes.specs.tasks.Onward.{GoesOut}

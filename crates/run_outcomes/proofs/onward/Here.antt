@@ -1,15 +1,12 @@
 -- What comes to a node beside messages, answers of devices and ticks leaves its tasks as those of the lines.
-use Rattle.std.specs.Prelude.{ℕ, ◌≡◌, ◌++◌, Bool, true, false, List, [], Option, None, Some}
-use Rattle.std.proofs.Common.{refl, sym, ap, subst, ◌∙◌}
+use Rattle.std.specs.Prelude.{ℕ, ◌≡◌, true, false, List, [], Some}
+use Rattle.std.proofs.Common.{sym, ap, subst, ◌∙◌}
 use Rattle.cl_base.specs.declared.method.Outcome as method
 use Rattle.cmm_attempt.specs.Attempts.{AttemptState}
-use Rattle.device_queue.specs.declared.task.Task.{Task}
 use Rattle.history.specs.Member.{in_collect}
-use Rattle.history.specs.Moment.{Moment}
 use Rattle.history.specs.Queue as told
 use Rattle.history.specs.Setting.{Setting}
 use Rattle.machine_base.proofs.Puts.{put_here}
-use Rattle.machine_base.specs.Put.{put}
 use Rattle.node_model.specs.Steps.{Outcome, stepped}
 use Rattle.node_model.specs.declared.cluster.Cluster.{Cluster}
 use Rattle.node_model.specs.declared.input.Input.{Input}
@@ -25,7 +22,7 @@ use Rattle.refinement.specs.Steps.{disk_rules}
 use Rattle.run_devices.specs.queues.Laws.{Same}
 use Rattle.run_history.proofs.Idle.{passing_nodes}
 use Rattle.run_history.specs.Happenings.{given_by, taking}
-use Rattle.run_history.specs.Scenes.{Scene, passing}
+use Rattle.run_history.specs.Scenes.{Scene}
 use Rattle.run_outcomes.specs.phases.Kept.{In}
 use Rattle.run_outcomes.specs.phases.Laws.{is_seizing}
 use Rattle.run_outcomes.specs.saves.Kept.{IsAt}

@@ -1,5 +1,5 @@
 -- What comes to a node beside messages, answers of devices and ticks leaves its attempt and its tasks, and gives no line that changes them.
-use Rattle.std.specs.Prelude.{ℕ, ◌≡◌, ◌++◌, true, List, [], ◌∷◌, Option, None, Some, Ok}
+use Rattle.std.specs.Prelude.{ℕ, ◌≡◌, List, [], Option, None, Some, Ok}
 use Rattle.std.proofs.Common.{refl}
 use Rattle.ccr_tables.specs.State.{ConfigState}
 use Rattle.ccr_tables.specs.declared.address.Address.{Address}
@@ -16,10 +16,8 @@ use Rattle.node_model.specs.declared.cluster.Cluster.{Cluster}
 use Rattle.node_model.specs.declared.input.Input.{Input}
 use Rattle.node_model.specs.declared.input.Input.TheVariants.{Answered, Boot, Client, CommandDue, Commanded, Crash, Packet, Reported, Tick, Wrote}
 use Rattle.node_model.specs.declared.node.UpNode.{UpNode}
-use Rattle.node_model.specs.declared.output.Output.{Output}
 use Rattle.node_model.specs.declared.presidency.Presidency.{Presidency}
 use Rattle.pgr_device.specs.declared.command.PrAnswer.TheVariants as given
-use Rattle.refinement.specs.Courses.{Course}
 use Rattle.refinement.specs.Courses.Course.{Keeps, Stops}
 use Rattle.refinement.specs.Cuts as cuts
 use Rattle.refinement.specs.Cuts.{course_at, course_of}
@@ -27,8 +25,7 @@ use Rattle.refinement.specs.Doings.Change.{Distrusts}
 use Rattle.rg_props.specs.Lookups.{named}
 use Rattle.seize.specs.Answers.{Answer}
 use Rattle.run_outcomes.specs.phases.Kept.{In}
-use Rattle.run_outcomes.specs.phases.Laws.{is_seizing}
-use Rattle.run_outcomes.specs.tasks.Onward.{AreStill, GoesOut, Onward, OnwardOf}
+use Rattle.run_outcomes.specs.tasks.Onward.{GoesOut, Onward, OnwardOf}
 use Rattle.run_outcomes.proofs.own_tasks.Beside.{AreLeft, command_left, report_left}
 use Rattle.run_outcomes.proofs.onward.Beside.{left_out}
 

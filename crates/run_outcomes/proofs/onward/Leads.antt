@@ -1,11 +1,11 @@
 -- A coordinator whose attempt seizes devices has come to its tasks so, where a packet came that asks for no seizing, or a command at a device is answered.
-use Rattle.std.specs.Prelude.{ℕ, ◌≡◌, ◌++◌, Bool, true, false, List, [], ◌∷◌, Option, None, Some}
-use Rattle.std.proofs.Common.{refl, sym, ap, subst, ◌∙◌}
+use Rattle.std.specs.Prelude.{ℕ, ◌≡◌, ◌++◌, true, false, List, [], ◌∷◌, None, Some}
+use Rattle.std.proofs.Common.{sym, ap, subst, ◌∙◌}
 use Rattle.attempt_laws.proofs.Walk.{TellsResult}
 use Rattle.cl_base.specs.Seizings.{SeizeResult}
 use Rattle.cl_base.specs.declared.method.Outcome as method
 use Rattle.cmm_attempt.specs.Attempts.{AttemptState}
-use Rattle.cmm_attempt.specs.Calls.{Call, IsReached, May, Own_ready, Own_seized, Take, With_votes, turn}
+use Rattle.cmm_attempt.specs.Calls.{Call, IsReached, May, Take, With_votes, turn}
 use Rattle.cmm_attempt.specs.declared.counting.BothVotes.{BothVotes}
 use Rattle.device_queue.specs.Queue.{due_device, next_of, progress_after}
 use Rattle.device_queue.specs.declared.progress.Progress.{Progress}
@@ -50,7 +50,7 @@ use Rattle.run_outcomes.specs.tasks.Onward.{AreStill, GoesOut, Onward, OnwardOf}
 use Rattle.run_outcomes.specs.tasks.Quiet.{AreQuiet}
 use Rattle.run_outcomes.proofs.phases.Leading.{Has}
 use Rattle.run_outcomes.proofs.onward.Asked.{HoldsOwn}
-use Rattle.run_outcomes.proofs.onward.Comes.{CallSo, MarkedSo, took_led}
+use Rattle.run_outcomes.proofs.onward.Comes.{took_led}
 use Rattle.run_outcomes.proofs.onward.Devices.{IsQuietly, OnwardFrom, answered_out, call_by}
 use Rattle.run_outcomes.proofs.onward.Here.{given_passed, taken_here}
 use Rattle.run_outcomes.proofs.onward.Marks.{AsksForNone, came_own, command_asks, command_own, delivered_asks, take_tells}

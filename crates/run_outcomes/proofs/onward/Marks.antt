@@ -1,5 +1,5 @@
 -- What a packet's line, and that of a command at a device, add to the tasks of a coordinator by the lines, and what they leave.
-use Rattle.std.specs.Prelude.{ℕ, ◌≡◌, ◌==◌, ◌&&◌, not, Bool, true, false, List, [], ◌∷◌, Option, None, Some, Ok, Err, if◌then◌else◌}
+use Rattle.std.specs.Prelude.{ℕ, ◌≡◌, ◌==◌, ◌&&◌, not, Bool, true, false, List, ◌∷◌, Option, None, Some, Ok, Err, if◌then◌else◌}
 use Rattle.std.proofs.Common.{arith, refl, sym, ap, subst, ◌∙◌}
 use Rattle.attempt_laws.proofs.Walk.{TellsResult}
 use Rattle.cl_base.specs.Seizings.{SeizeResult}

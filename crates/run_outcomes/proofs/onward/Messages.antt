@@ -1,11 +1,10 @@
 -- What a message that comes to a coordinator makes of its attempt and its tasks, and that no line changes these.
-use Rattle.std.specs.Prelude.{ℕ, ◌≡◌, ◌⊎◌, ◌++◌, ◌==◌, Bool, true, false, List, [], ◌∷◌, Option, None, Some, if◌then◌else◌}
-use Rattle.std.proofs.Common.{refl, sym, ap, subst, ◌∙◌, inl, inr}
-use Rattle.attempt_laws.specs.Staying.{IsFinal}
+use Rattle.std.specs.Prelude.{ℕ, ◌≡◌, ◌⊎◌, ◌++◌, ◌==◌, Bool, true, false, List, [], Option, None, Some, if◌then◌else◌}
+use Rattle.std.proofs.Common.{refl, inl, inr}
 use Rattle.cl_base.specs.Seizings.{SeizeResult}
 use Rattle.cl_base.specs.declared.method.Outcome as method
 use Rattle.cl_base.specs.declared.seizing.SeizeEnd.TheVariants as seized
-use Rattle.cmm_attempt.proofs.Basics.{false_true, if_either}
+use Rattle.cmm_attempt.proofs.Basics.{if_either}
 use Rattle.cmm_attempt.specs.Attempts.{AttemptState}
 use Rattle.cmm_attempt.specs.Calls.{Call, Take}
 use Rattle.device_queue.specs.Queue.{joins, kept_of}

@@ -1,5 +1,5 @@
 -- The lines of what a node gives, where nothing of that changes its tasks.
-use Rattle.std.specs.Prelude.{ℕ, ◌≡◌, ◌++◌, Bool, true, false, List, [], ◌∷◌, Option, None, Some, if◌then◌else◌}
+use Rattle.std.specs.Prelude.{ℕ, ◌≡◌, ◌++◌, false, List, [], ◌∷◌, Option, None, Some}
 use Rattle.std.proofs.Common.{refl, sym, ap, subst, ◌∙◌, append_assoc, inr}
 use Rattle.cl_base.specs.declared.packet.DropCause.{DropCause}
 use Rattle.history.specs.Member.{in_collect}
@@ -18,7 +18,7 @@ use Rattle.wire.specs.declared.message.Message.{Message}
 use Rattle.wire.specs.Spelling.{spelling}
 use Rattle.world_model.specs.Sends.{is_sent, name_of}
 use Rattle.run_outcomes.specs.tasks.Onward.{AreStill, IsStill, StillEntry, StillNode}
-use Rattle.run_outcomes.specs.tasks.Quiet.{AreQuiet, IsQuiet, QuietNode}
+use Rattle.run_outcomes.specs.tasks.Quiet.{AreQuiet, IsQuiet}
 
 -- these lines came, and none of them is a Collect
 pub record Passed (n : ℕ) (before after : List Moment) : Type 0 where

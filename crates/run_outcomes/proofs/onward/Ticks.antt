@@ -1,13 +1,13 @@
 -- What a tick makes of the attempt of a node: it sends again, or ends; or an attempt of the coordinator alone begins, and is given its votes.
-use Rattle.std.specs.Prelude.{ℕ, ◌≡◌, ◌⊎◌, ◌++◌, ◌&&◌, ◌==◌, nat_le, nat_lt, Bool, true, false, List, [], ◌∷◌, Option, None, Some, is_none, if◌then◌else◌}
+use Rattle.std.specs.Prelude.{ℕ, ◌≡◌, ◌⊎◌, ◌++◌, ◌&&◌, ◌==◌, nat_le, nat_lt, Bool, true, false, List, [], ◌∷◌, Option, None, Some, if◌then◌else◌}
 use Rattle.std.specs.List.{find}
 use Rattle.std.proofs.Common.{refl, sym, ap, subst, ◌∙◌, append_assoc, inl, inr}
 use Rattle.cl_base.specs.Seizings.{SeizeResult}
 use Rattle.cl_base.specs.declared.method.Outcome as method
-use Rattle.cmm_attempt.proofs.Basics.{false_true, if_either, none_some, same_some}
+use Rattle.cmm_attempt.proofs.Basics.{false_true, if_either}
 use Rattle.cmm_attempt.specs.Attempts.{AttemptState, Turn, again_in, all_promised, answering_in, beginning, choosing, chosen_by, collects, first_state, is_missing, promises_of, later as later_ticks, own_answering, own_readying, silenced, ticked, ticking, waits, with_steps}
 use Rattle.cmm_attempt.specs.Attempts as attempts
-use Rattle.cmm_attempt.specs.Calls.{Call, May, Own_ready, Own_seized, Take, Tick as Call_tick, With_votes, turn}
+use Rattle.cmm_attempt.specs.Calls.{Call, Own_ready, Own_seized, Take, Tick as Call_tick, With_votes, turn}
 use Rattle.cmm_attempt.specs.Promises.{newest_shown, promised_by, shown_by}
 use Rattle.cmm_attempt.specs.declared.attached.AttachedDevice.{AttachedDevice}
 use Rattle.cmm_attempt.specs.declared.phase.Phase.{Phase}
@@ -27,22 +27,21 @@ use Rattle.refinement.specs.Courses.Course.{Acts, Falls, Keeps, Stops}
 use Rattle.refinement.specs.Cuts as cuts
 use Rattle.refinement.specs.Cuts.{steps_course}
 use Rattle.refinement.specs.Doings.{Act, Change, acted, changed, going, of_node, first_lines, said, saved_lines}
-use Rattle.refinement.specs.Doings.Act.{Accepts, Goes_on, Makes, Queues, Takes, Ticks, Waits}
-use Rattle.refinement.specs.Doings.Change.{Admits, Counts, Installs, Leads}
+use Rattle.refinement.specs.Doings.Act.{Goes_on, Makes, Ticks, Waits}
+use Rattle.refinement.specs.Doings.Change.{Counts, Leads}
 use Rattle.run_downs.proofs.Courses.{by_test}
-use Rattle.run_history.proofs.Lists.{both}
 use Rattle.status_report.specs.declared.attempt_entry.AttemptEntry.TheVariants as attempt
 use Rattle.status_report.specs.declared.entry.Entry.TheVariants as entry
 use Rattle.status_report.specs.declared.node_entry.NodeEntry.TheVariants as note
 use Rattle.wire.specs.declared.message.Message.{Message}
-use Rattle.run_outcomes.specs.phases.Kept.{In, IsOwnCall}
+use Rattle.run_outcomes.specs.phases.Kept.{In}
 use Rattle.run_outcomes.specs.phases.Laws.{is_seizing}
 use Rattle.run_outcomes.specs.saves.Courses.{LeadsTo, Leaves, LeavesAct, LeavesChange}
-use Rattle.run_outcomes.specs.tasks.Onward.{AreStill, ByEither, ByTurn, GoesOut, IsStill, Onward, OnwardOf}
+use Rattle.run_outcomes.specs.tasks.Onward.{AreStill, ByEither, ByTurn, GoesOut, Onward, OnwardOf}
 use Rattle.run_outcomes.proofs.own_tasks.Beside.{AreLeft, LeftAct, LeftChange, governing_left}
-use Rattle.run_outcomes.proofs.phases.Leading.{Has, IsLed, called_has, is_choice, leaves_has, steps_has}
+use Rattle.run_outcomes.proofs.phases.Leading.{Has, IsLed, called_has, leaves_has, steps_has}
 use Rattle.run_outcomes.proofs.onward.Beside.{left_out, ticked_still, unknown_still}
-use Rattle.run_outcomes.proofs.onward.Calls.{called_out, going_out, onward_by}
+use Rattle.run_outcomes.proofs.onward.Calls.{called_out, going_out}
 use Rattle.run_outcomes.proofs.onward.Given.{Behind, out_behind, out_by, out_joined, out_leads}
 
 -- ---- an attempt that neither seizes devices nor is to be given votes

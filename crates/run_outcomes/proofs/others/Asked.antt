@@ -1,12 +1,12 @@
 -- A request to seize that comes is of the attempt of its sender, as it was sent.
 use Rattle.std.specs.Prelude.{ℕ, ◌≡◌, ◌==◌, ◌&&◌, not, Bool, true, false, List, [], ◌∷◌, Option, None, Some, option_map, if◌then◌else◌}
-use Rattle.std.proofs.Common.{refl, sym, ap, subst, ◌∙◌}
+use Rattle.std.proofs.Common.{refl, ap, subst, ◌∙◌}
 use Rattle.cmm_attempt.proofs.Basics.{none_some, same_some}
 use Rattle.status_report.specs.declared.entry.Entry.{Entry}
 use Rattle.status_report.specs.declared.entry.Entry.TheVariants as entry
 use Rattle.status_report.specs.declared.packet_entry.PacketEntry.{PacketEntry}
 use Rattle.status_report.specs.declared.packet_entry.PacketEntry.TheVariants as packet
-use Rattle.history.specs.Letters.{Letter, letter_of, says}
+use Rattle.history.specs.Letters.{Letter, letter_of}
 use Rattle.history.specs.Member.{number_of}
 use Rattle.history.specs.Moment.{Moment, Part, Said, Told}
 use Rattle.history.specs.Names.{named}
@@ -15,7 +15,7 @@ use Rattle.history.specs.Seizing.{is_number}
 use Rattle.history.specs.Setting.{Setting}
 use Rattle.history_setting.specs.Settings.{setting_of}
 use Rattle.node_model.specs.Members.{is_foreign_seizing}
-use Rattle.run_devices.specs.queues.Told.{is_plain, is_spelled}
+use Rattle.run_devices.specs.queues.Told.{is_spelled}
 use Rattle.run_history.specs.Happenings.{all_happened}
 use Rattle.run_history.specs.Scenes.{first_scene}
 use Rattle.run_seizings.proofs.Promising.{and_both, same_so}
@@ -25,7 +25,7 @@ use Rattle.wire.specs.declared.message.Body.TheVariants as body
 use Rattle.wire.specs.declared.message.Message.{Message}
 use Rattle.world_model.specs.First.{first_cluster}
 use Rattle.run_outcomes.specs.reports.Laws.{AsksFor, AsksSo, RequestsAreOfAttempts}
-use Rattle.run_outcomes.specs.tasks.Others.{AsksNatively, AsksPlainly, IsNative, IsNativeIn, IsPlainly, RequestsAreNative, RequestsArePlain, is_asking}
+use Rattle.run_outcomes.specs.tasks.Others.{AsksNatively, AsksPlainly, IsNative, IsNativeIn, IsPlainly, RequestsAreNative, RequestsArePlain}
 
 -- ---- as it was sent
 

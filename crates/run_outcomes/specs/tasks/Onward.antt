@@ -1,5 +1,5 @@
 -- What a node gives along its courses, while an attempt of its own seizes devices: lines that change none of its tasks, and what its attempt asks it for.
-use Rattle.std.specs.Prelude.{ℕ, ◌≡◌, ◌≢◌, ◌⊎◌, ◌++◌, true, false, List, [], None, Some}
+use Rattle.std.specs.Prelude.{ℕ, ◌≡◌, ◌⊎◌, ◌++◌, true, false, List}
 use Rattle.std.specs.List.{AllByRecursion}
 use Rattle.cl_base.specs.Sets.{has}
 use Rattle.cmm_attempt.specs.Attempts.{AttemptState}
