@@ -281,10 +281,12 @@ seize_questions (d ∷ others) = name.SeizeQuorum d ∷ name.SeizeData d ∷ sei
 abbrev pub questions : ℕ → List Name
 questions devices = name.Collect ∷ name.Install ∷ seize_questions (all_to devices)
 
+-- a Ready for e
 abbrev pub readies : ℕ → Option Body → Bool
 readies e (Some (body.Ready epoch joined report)) = epoch == e
 readies e _ = false
 
+-- .. of m, to its coordinator
 abbrev pub is_ready_of : ℕ → ℕ → Letter → Bool
 is_ready_of e m l = is_letter name.Ready m (coordinator e) l && readies e (says l.bytes)
 
@@ -328,7 +330,7 @@ abbrev pub asks_first : ℕ → List Moment → Moment → Bool
 asks_first c before (sent p a b called bytes) = (a == c) && is_question (named called) && not (list_any (sends c b (named called)) before)
 asks_first c before _ = false
 
--- where its tasks are told
+-- it gets a task, where its tasks are told
 abbrev pub gets_task : Setting → ℕ → List Moment → Moment → Bool
 gets_task S c before x = not (queue_is_open S c (x ∷ before)) && list_any (λ d. not (is_queued S c d before)) (queue_of S c (x ∷ before))
 

@@ -66,30 +66,30 @@ use Rattle.replay.specs.Replays.{OfCluster, OfDevice, Schedule, entries, schedul
 -- the device answers; the parts of rounds come in their order; a `disk` line at a node whose tasks are told does the
 -- command that is due; a client's request is served by a president, or skipped; the entries of an event are one node's;
 -- a proposal has its Prepares, which go again, an Order, a Collect and a Prepare are answered, a command goes to the
--- president as it becomes the oldest that waits, and an Install to each other member as its coordinator installs, or the
--- membership starts where there is none; the
--- links and the devices do what their lines say, each start has its base, what was acknowledged is kept, no device
--- takes a write of a node that a greater membership left out, a node installs, is ready, is a member and has prepared
--- by the messages that tell of it, and a membership starts with a majority of the votes under its base and with devices
--- that were seized for it, as its coordinator knew. The bytes of each message spell it: a Promise and an Install show
--- the record of their sender, a Promise the devices that are valid to it (where no stop left that open), the newest in
--- hand is installed and is the base, a Seized and an Install bring what was read by the one node that seized the
--- device, an Install tells no other, and a Heartbeat says who is a member, is sent in a tick and to whom it is due. An
--- attempt begins in a tick of its coordinator, exactly with the nodes that it sees and for a reason, not alone where
--- its coordinator is not configured, and its Installs bring its members; it ends, and starts, while it is under way, is
--- superseded by what stands against it, ends for want of an answer at its eighth tick at the earliest and for want of
--- votes once all have promised, by what the newest record in hand counts and with obstacles that are shown, for keys
--- that are not registered of each attached member, for the least member that is foreign by that record, or for one that
--- an earlier attempt left out, and names a member; where it starts, each device is held, no member is attached to it, or
--- it is shown why it is not held (of a device without votes at least that some attached member may not seize it). A node comes up, crashes and saves in the event that makes it do so, panics for
--- a fence where a write of its own was refused and for an exclusion where it was told so, and stops exactly where an
--- armed stop falls in a save that the rules let it make (but for commands at a device, where the rules are not proved).
--- While there are fewer than 2^63 lines, which number the commands, all holds that a trace has to keep at each prefix
--- (`Holds` of `history`): with what stands above, a Prepare has the words that were proposed, a Request those of its
--- command, a member answers what the president's Answer says, each update was asked for by a request of its own, and is
--- answered `ok` behind its acknowledgement alone. Then, too, each command is numbered and is answered once at most, by
--- its node itself exactly where that is due, and with an answer that fits. While there are fewer than 2^63 moments,
--- which number the saves of a record, no local disk fails but by a stop.
+-- president as it becomes the oldest that waits, and an Install to each other member as its coordinator installs, or
+-- the membership starts where there is none; the links and the devices do what their lines say, each start has its
+-- base, what was acknowledged is kept, no device takes a write of a node that a greater membership left out, a node
+-- installs, is ready, is a member and has prepared by the messages that tell of it, and a membership starts with a
+-- majority of the votes under its base and with devices that were seized for it, as its coordinator knew. The bytes of
+-- each message spell it: a Promise and an Install show the record of their sender, a Promise the devices that are valid
+-- to it (where no stop left that open), the newest in hand is installed and is the base, a Seized and an Install bring
+-- what was read by the one node that seized the device, an Install tells no other, and a Heartbeat says who is a
+-- member, is sent in a tick and to whom it is due. An attempt begins in a tick of its coordinator, exactly with the
+-- nodes that it sees and for a reason, not alone where its coordinator is not configured, and its Installs bring its
+-- members; it ends, and starts, while it is under way, is superseded by what stands against it, ends for want of an
+-- answer at its eighth tick at the earliest and for want of votes once all have promised, by what the newest record in
+-- hand counts and with obstacles that are shown, for keys that are not registered of each attached member, for the
+-- least member that is foreign by that record, or for one that an earlier attempt left out, and names a member; where
+-- it starts, each device is held, no member is attached to it, or it is shown why it is not held (of a device without
+-- votes at least that some attached member may not seize it). A node comes up, crashes and saves in the event that
+-- makes it do so, panics for a fence where a write of its own was refused and for an exclusion where it was told so,
+-- and stops exactly where an armed stop falls in a save that the rules let it make (but for commands at a device, where
+-- the rules are not proved). While there are fewer than 2^63 lines, which number the commands, all holds that a trace
+-- has to keep at each prefix (`Holds` of `history`): with what stands above, a Prepare has the words that were
+-- proposed, a Request those of its command, a member answers what the president's Answer says, each update was asked
+-- for by a request of its own, and is answered `ok` behind its acknowledgement alone. Then, too, each command is
+-- numbered and is answered once at most, by its node itself exactly where that is due, and with an answer that fits.
+-- While there are fewer than 2^63 moments, which number the saves of a record, no local disk fails but by a stop.
 pub record IsTrace (h : Header) (events : List Event) (text : List ℕ) : Type 0 where
   pub moments : List Moment
   pub said : lines_of moments ≡ lines_upon [] events

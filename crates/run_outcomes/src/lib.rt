@@ -161,12 +161,13 @@ pub fn seizeds_are_told_in_each_run()
 {}
 
 /// Before an attempt installs, it has a device as shown valid by a member whose Promise it took exactly where a Promise of its epoch that shows the device as
-/// valid was delivered to its coordinator since it began.
+/// valid was delivered to its coordinator since it began. No packet is foreign to its receiver there.
 pub fn shows_are_told_in_each_run()
     ensures { ShowsAreTold }
 {}
 
-/// A node that seizes a device at a request of its attempt acts for that attempt, and was asked to seize it in this session.
+/// A node to which a request to seize a quorum device is under way, and which is in the session of that attempt and has not installed it, holds the device
+/// valid in its record. No packet is foreign to its receiver there.
 pub fn asked_may_seize_in_each_run()
     ensures { AskedMaySeize }
 {}
