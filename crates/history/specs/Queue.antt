@@ -26,7 +26,7 @@ use Rattle.status_report.specs.declared.device_entry.DeviceAnswer.TheVariants.{G
 use Rattle.history.specs.Moment.{Moment}
 use Rattle.history.specs.Names as name
 use Rattle.history.specs.Names.{Name, named}
-use Rattle.history.specs.Trace.{up, down, saved, installed, attempt, ended_votes, ended_excluded, ended_foreign, sent, delivered, device}
+use Rattle.history.specs.Trace.{up, down, saved, installed, member, attempt, ended_votes, ended_excluded, ended_foreign, sent, delivered, device}
 use Rattle.history.specs.Order.{since}
 use Rattle.history.specs.Setting.{Setting, coordinator, nodes_of, all_to, key_of, paths_of}
 use Rattle.history.specs.Letters.{Letter, letter_of, arriving, is_letter, sends, says}
@@ -309,7 +309,7 @@ is_untold S n (Some e) moments =
     && ((acts_for n e moments && not (is_some (own_record e moments)))
     || list_any (λ d. has (paths_of S.header d) n && is_open (validity S.header n d moments)) (all_to (length S.header.devices)))
 
--- with this moment the tasks of n are dropped, or are others
+-- with this moment the tasks of n are dropped, or are others; what an install brought is over where the node is a member
 abbrev pub clears : ℕ → List Moment → Moment → Bool
 clears n before (up m) = m == n
 clears n before (down m why) = m == n
@@ -319,6 +319,7 @@ clears n before (ended_votes e have need lacking) = coordinator e == n
 clears n before (ended_excluded e m) = coordinator e == n
 clears n before (ended_foreign e m) = coordinator e == n
 clears n before (installed m e) = m == n
+clears n before (member m e) = m == n
 clears n before _ = false
 
 -- from then on, until they are dropped

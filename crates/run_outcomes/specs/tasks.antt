@@ -16,3 +16,4 @@ pub mod Left
 pub mod Outward
 pub mod Onward
 pub mod Others
+pub mod Lasting

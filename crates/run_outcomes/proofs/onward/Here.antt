@@ -32,6 +32,7 @@ use Rattle.run_outcomes.proofs.onward.Inputs.{IsBesides, IsSame, besides_out}
 use Rattle.run_outcomes.proofs.onward.Passing.{Passed, still_passed}
 use Rattle.run_outcomes.proofs.told_tasks.Closed.{closed_all}
 use Rattle.run_outcomes.proofs.told_tasks.Quiet.{same_tasks}
+use Rattle.run_outcomes.specs.tasks.Lasting.{lasts_open}
 
 -- what holds along the course of the step holds of the node after it
 pub taken_here : (c : Cluster) (n now : ℕ) (ends : method.Outcome) (i : Input) (t : Scene) (J : UpNode → List Output → Type 0) (x y : UpNode) → t.nodes.node n ≡ Up x → (taking c n now ends i t).nodes.node n ≡ Up y
@@ -53,12 +54,12 @@ given_passed c n now ends i t calm still = still_passed n (given_by c n now ends
 
 pub besides_same : (S : Setting) (c : Cluster) (n now : ℕ) (ends : method.Outcome) (i : Input) (t : Scene) (x y : UpNode) (b : AttemptState) → IsBesides i → in_collect n t.moments ≡ false
     → t.nodes.node n ≡ Up x → (taking c n now ends i t).nodes.node n ≡ Up y → y.attempt ≡ Some b → is_seizing b.phase ≡ true
-    → told.queue_is_open S n (taking c n now ends i t).moments ≡ false
-    → (x.attempt ≡ Some b → told.queue_is_open S n t.moments ≡ false → Same x.tasks (told.tasks_of S n t.moments)) → Same y.tasks (told.tasks_of S n (taking c n now ends i t).moments)
+    → lasts_open S n (taking c n now ends i t).moments ≡ false
+    → (x.attempt ≡ Some b → lasts_open S n t.moments ≡ false → Same x.tasks (told.tasks_of S n t.moments)) → Same y.tasks (told.tasks_of S n (taking c n now ends i t).moments)
 besides_same S c n now ends i t x y b is calm was up at seizing closed before =
     let h : AreStill n (given_by c n now ends i t.nodes) × IsSame x b y.tasks =
     subst (In (OnwardOf n (IsSame x) y.tasks (given_by c n now ends i t.nodes))) at (taken_here c n now ends i t (Onward n (IsSame x)) x y was up (besides_out c n now ends x i is)) seizing in
     let z : Passed n t.moments (taking c n now ends i t).moments = given_passed c n now ends i t calm h.0 in
     subst (λ ms. Same y.tasks (told.tasks_of S n ms)) (sym z.parts)
     (subst (Same y.tasks) (sym (same_tasks S n t.moments z.newer z.quiet))
-    (subst (λ ts. Same ts (told.tasks_of S n t.moments)) (sym h.1.1) (before h.1.0 (closed_all S n t.moments z.newer z.quiet (subst (λ ms. told.queue_is_open S n ms ≡ false) z.parts closed)))))
+    (subst (λ ts. Same ts (told.tasks_of S n t.moments)) (sym h.1.1) (before h.1.0 (closed_all S n t.moments z.newer z.quiet (subst (λ ms. lasts_open S n ms ≡ false) z.parts closed)))))

@@ -36,6 +36,7 @@ use Rattle.run_outcomes.specs.tasks.Others.{InstallsUnderWay, IsPlainly, LeadsOw
 use Rattle.run_outcomes.specs.tasks.Quiet.{IsQuiet}
 use Rattle.run_outcomes.proofs.told_tasks.Closed.{closed_before, quiet_clears, same_acts}
 use Rattle.run_outcomes.proofs.told_tasks.Quiet.{same_number_of}
+use Rattle.run_outcomes.specs.tasks.Lasting.{drops, lasts_open}
 
 -- ---- a moment that tells nothing of it leaves whether it leads
 
@@ -138,7 +139,7 @@ not_all true true false d f g h k = false_true (sym k ∙ h)
 not_all true false c d f g h k = false_true g
 not_all false b c d f g h k = false_true f
 
-installed_some : (S : Setting) (n e : ℕ) (ms : List Moment) → InstallsUnderWay ms (installed n e) → told.queue_is_open S n (installed n e ∷ ms) ≡ false
+installed_some : (S : Setting) (n e : ℕ) (ms : List Moment) → InstallsUnderWay ms (installed n e) → lasts_open S n (installed n e ∷ ms) ≡ false
     → is_some (joined (besides_of S) n e ms) ≡ true
 installed_some S n e ms own closed = by_any (list_any (leaves_open (besides_of S) n e ms) xs) (by_own (coordinator e == n) refl)
   where
@@ -172,10 +173,10 @@ installed_some S n e ms own closed = by_any (list_any (leaves_open (besides_of S
 
 -- what was told before is told, where it did not lead and this leaves its tasks
 abbrev Before : Setting → ℕ → Moment → List Moment → Option (List Task) → Type 0
-Before S n x ms o = told.clears n ms x ≡ false → leads n ms ≡ false → is_some o ≡ true
+Before S n x ms o = drops n ms x ≡ false → leads n ms ≡ false → is_some o ≡ true
 
 abbrev Goal : Setting → ℕ → Moment → List Moment → Option (List Task) → Type 0
-Goal S n x ms o = Before S n x ms o → leads n (x ∷ ms) ≡ false → LeadsOwn S ms x → told.queue_is_open S n (x ∷ ms) ≡ false → is_some (told_after (besides_of S) n x ms o) ≡ true
+Goal S n x ms o = Before S n x ms o → leads n (x ∷ ms) ≡ false → LeadsOwn S ms x → lasts_open S n (x ∷ ms) ≡ false → is_some (told_after (besides_of S) n x ms o) ≡ true
 
 quiet : (S : Setting) (n : ℕ) (x : Moment) (ms : List Moment) (o : Option (List Task)) → IsQuiet n ms x → Before S n x ms o → leads n (x ∷ ms) ≡ false → is_some o ≡ true
 quiet S n x ms o k before off = before (quiet_clears n ms x k) (sym (quiet_leads n ms x k) ∙ off)
@@ -194,7 +195,7 @@ node_some S n m (note.Installed e) ms o before off own closed = by_test (m == n)
     by_test : (b : Bool) → (m == n) ≡ b → is_some (if b then joined (besides_of S) n e ms else o) ≡ true
     by_test true is =
         let same : m ≡ n = same_number m n is in
-        installed_some S n e ms (subst (λ z. InstallsUnderWay ms (installed z e)) same own.1) (subst (λ z. told.queue_is_open S n (installed z e ∷ ms) ≡ false) same closed)
+        installed_some S n e ms (subst (λ z. InstallsUnderWay ms (installed z e)) same own.1) (subst (λ z. lasts_open S n (installed z e ∷ ms) ≡ false) same closed)
     by_test false is = quiet S n (Told (entry.Node m (note.Installed e))) ms o (unlike m n is) before off
 node_some S n m (note.Member e) ms o before off own closed = quiet S n (Told (entry.Node m (note.Member e))) ms o tt before off
 node_some S n m note.Ticked ms o before off own closed = quiet S n (Told (entry.Node m note.Ticked)) ms o tt before off
@@ -255,7 +256,7 @@ moment_some S n (Told e) ms o before off own closed = entry_some S n e ms o befo
 moment_some S n (Said l) ms o before off own closed = before refl (off_before n (Said l) ms refl (λ f. refl) off)
 moment_some S n (Part e) ms o before off own closed = before refl (off_before n (Part e) ms refl (λ f. refl) off)
 
-pub told_some : (S : Setting) (n : ℕ) (ms : List Moment) → Always (LeadsOwn S) ms → leads n ms ≡ false → told.queue_is_open S n ms ≡ false → is_some (told_tasks (besides_of S) n ms) ≡ true
+pub told_some : (S : Setting) (n : ℕ) (ms : List Moment) → Always (LeadsOwn S) ms → leads n ms ≡ false → lasts_open S n ms ≡ false → is_some (told_tasks (besides_of S) n ms) ≡ true
 told_some S n [] own off closed = refl
 told_some S n (x ∷ ms) own off closed =
     subst (λ b. is_some (unless b (told_after (besides_of S) n x ms (told_tasks (besides_of S) n ms))) ≡ true) (sym off)

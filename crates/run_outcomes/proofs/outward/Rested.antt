@@ -50,6 +50,7 @@ use Rattle.run_seizings.proofs.Runs.{run_seizes}
 use Rattle.run_seizings.specs.Seized.{AttemptIn, AttemptSo}
 use Rattle.run_seizings.specs.Sites.{UpIn}
 use Rattle.world_model.specs.First.{first_cluster}
+use Rattle.run_outcomes.specs.tasks.Lasting.{lasts_open}
 
 -- ---- those that lead
 
@@ -132,7 +133,7 @@ simple_rested h c s x is k n y up at first closed =
     subst (λ ms. IsRested y (told.tasks_of (setting_of h) n ms)) (sym z.parts)
     (subst (IsRested y) (sym (same_tasks (setting_of h) n s.moments z.newer (z.quiet n)))
     (k n y (sym (z.nodes n) ∙ up) at (sym (leads_quiet n s.moments z.newer (z.quiet n)) ∙ subst (λ ms. leads n ms ≡ true) z.parts first)
-    (closed_all (setting_of h) n s.moments z.newer (z.quiet n) (subst (λ ms. told.queue_is_open (setting_of h) n ms ≡ false) z.parts closed))))
+    (closed_all (setting_of h) n s.moments z.newer (z.quiet n) (subst (λ ms. lasts_open (setting_of h) n ms ≡ false) z.parts closed))))
   where
     z : Simply s (happened c s x)
     z = simply c s x is

@@ -29,6 +29,7 @@ use Rattle.history.specs.Setting.{Setting, coordinator}
 use Rattle.run_outcomes.specs.tasks.Quiet.{AreQuiet, IsQuiet, QuietAttempt, QuietCommand, QuietDevice, QuietNode}
 use Rattle.cmm_attempt.proofs.Basics.{false_true}
 use Rattle.run_outcomes.proofs.told_tasks.Quiet.{differs, if_off, off_first, quiet_attempt, saved_off}
+use Rattle.run_outcomes.specs.tasks.Lasting.{drops, lasts_open}
 
 -- ---- which devices are valid to the node
 
@@ -67,7 +68,7 @@ same_validity h n d ms (x ∷ newer) k = validity_one h n d (newer ++ ms) x k.0 
 
 -- ---- whether the queue is open
 
-clears_node : (n m : ℕ) (ms : List Moment) (e : NodeEntry) → QuietNode n ms m e → told.clears n ms (Told (entry.Node m e)) ≡ false
+clears_node : (n m : ℕ) (ms : List Moment) (e : NodeEntry) → QuietNode n ms m e → drops n ms (Told (entry.Node m e)) ≡ false
 clears_node n m ms note.Up k = differs m n k
 clears_node n m ms (note.Down why) k = differs m n k
 clears_node n m ms note.Saved k = saved_off n m ms k
@@ -75,7 +76,7 @@ clears_node n m ms (note.Installed q) k = differs m n k
 clears_node n m ms (note.Member q) k = refl
 clears_node n m ms note.Ticked k = refl
 
-clears_attempt : (n : ℕ) (ms : List Moment) (e : AttemptEntry) → QuietAttempt n e → told.clears n ms (Told (entry.Attempt e)) ≡ false
+clears_attempt : (n : ℕ) (ms : List Moment) (e : AttemptEntry) → QuietAttempt n e → drops n ms (Told (entry.Attempt e)) ≡ false
 clears_attempt n ms (tried.Begun e members) k = differs (coordinator e) n k
 clears_attempt n ms (tried.Votes e have need lacking) k = differs (coordinator e) n k
 clears_attempt n ms (tried.Excluded e m) k = differs (coordinator e) n k
@@ -83,7 +84,7 @@ clears_attempt n ms (tried.Foreign e m) k = differs (coordinator e) n k
 clears_attempt n ms (tried.Superseded e q) k = refl
 clears_attempt n ms (tried.Silent e m) k = refl
 
-pub quiet_clears : (n : ℕ) (ms : List Moment) (x : Moment) → IsQuiet n ms x → told.clears n ms x ≡ false
+pub quiet_clears : (n : ℕ) (ms : List Moment) (x : Moment) → IsQuiet n ms x → drops n ms x ≡ false
 quiet_clears n ms (Told (entry.Node m e)) k = clears_node n m ms e k
 quiet_clears n ms (Told (entry.Attempt e)) k = clears_attempt n ms e k
 quiet_clears n ms _ k = refl
@@ -93,16 +94,16 @@ neither true b k = absurd (false_true (sym k))
 neither false b k = (refl, k)
 
 -- it is not open before, where it is not after a moment that drops no tasks
-pub closed_before : (S : Setting) (n : ℕ) (ms : List Moment) (x : Moment) → told.clears n ms x ≡ false → told.queue_is_open S n (x ∷ ms) ≡ false → told.queue_is_open S n ms ≡ false
+pub closed_before : (S : Setting) (n : ℕ) (ms : List Moment) (x : Moment) → drops n ms x ≡ false → lasts_open S n (x ∷ ms) ≡ false → lasts_open S n ms ≡ false
 closed_before S n ms x calm closed =
-    as_it (told.queue_is_open S n ms) (told.clears n ms x) calm
-    (neither (told.is_untold S n (attempt_of n (x ∷ ms)) (x ∷ ms)) (told.queue_is_open S n ms && not (told.clears n ms x)) closed).1
+    as_it (lasts_open S n ms) (drops n ms x) calm
+    (neither (told.is_untold S n (attempt_of n (x ∷ ms)) (x ∷ ms)) (lasts_open S n ms && not (drops n ms x)) closed).1
   where
     as_it : (a b : Bool) → b ≡ false → (a && not b) ≡ false → a ≡ false
     as_it true b off k = absurd (false_true (sym k ∙ ap not off))
     as_it false b off k = refl
 
-pub closed_all : (S : Setting) (n : ℕ) (ms newer : List Moment) → AreQuiet n ms newer → told.queue_is_open S n (newer ++ ms) ≡ false → told.queue_is_open S n ms ≡ false
+pub closed_all : (S : Setting) (n : ℕ) (ms newer : List Moment) → AreQuiet n ms newer → lasts_open S n (newer ++ ms) ≡ false → lasts_open S n ms ≡ false
 closed_all S n ms [] k closed = closed
 closed_all S n ms (x ∷ newer) k closed = closed_all S n ms newer k.1 (closed_before S n (newer ++ ms) x (quiet_clears n (newer ++ ms) x k.0) closed)
 

@@ -56,6 +56,7 @@ use Rattle.run_outcomes.proofs.phases.Promised.{Facts, HasIt, facts, has_it}
 use Rattle.run_outcomes.proofs.phases.Runs.{run_takes}
 use Rattle.run_outcomes.proofs.phases.Seizes.{seizings_are_told}
 use Rattle.run_outcomes.proofs.phases.Votes.{votes_are_told}
+use Rattle.run_outcomes.specs.tasks.Lasting.{drops, lasts_open}
 
 -- ---- where the queue is told
 
@@ -63,16 +64,16 @@ neither : (a b : Bool) → (a || b) ≡ false → (a ≡ false) × (b ≡ false)
 neither true b k = absurd (false_true (sym k))
 neither false b k = (refl, k)
 
-pub untold_off : (S : Setting) (n : ℕ) (ms : List Moment) → told.queue_is_open S n ms ≡ false → told.is_untold S n (attempt_of n ms) ms ≡ false
+pub untold_off : (S : Setting) (n : ℕ) (ms : List Moment) → lasts_open S n ms ≡ false → told.is_untold S n (attempt_of n ms) ms ≡ false
 untold_off S n [] closed = refl
-untold_off S n (x ∷ ms) closed = (neither (told.is_untold S n (attempt_of n (x ∷ ms)) (x ∷ ms)) (told.queue_is_open S n ms && not (told.clears n ms x)) closed).0
+untold_off S n (x ∷ ms) closed = (neither (told.is_untold S n (attempt_of n (x ∷ ms)) (x ∷ ms)) (lasts_open S n ms && not (drops n ms x)) closed).0
 
 -- the own record is told, and which devices are valid
 pub record Closed (S : Setting) (n e : ℕ) (ms : List Moment) : Type 0 where
   pub own : is_some (own_record e ms) ≡ true
   pub sure : list_any (λ d. has (paths_of S.header d) n && told.is_open (validity S.header n d ms)) (all_to (length S.header.devices)) ≡ false
 
-closed_by : (S : Setting) (n e : ℕ) (ms : List Moment) → coordinator e ≡ n → acts_for (coordinator e) e ms ≡ true → is_under_way e ms ≡ true → told.queue_is_open S n ms ≡ false → Closed S n e ms
+closed_by : (S : Setting) (n e : ℕ) (ms : List Moment) → coordinator e ≡ n → acts_for (coordinator e) e ms ≡ true → is_under_way e ms ≡ true → lasts_open S n ms ≡ false → Closed S n e ms
 closed_by S n e ms own acts way closed = by_parts (subst (λ o. told.is_untold S n o ms ≡ false) last (untold_off S n ms closed))
   where
     number_so : (o : Option ℕ) → is_number e o ≡ true → o ≡ Some e
@@ -182,7 +183,7 @@ pub shown_at : OwnTasksAreAsked → ShowsAreTold → OwnIsShown → (h : Header)
     → NoneForeign (first_cluster h) (first_scene h cells) hs → (n : ℕ) (b : AttemptState)
     → HasAttempt (all_happened (first_cluster h) (first_scene h cells) hs) n b → is_seizing b.phase ≡ true → (marked newer : List Moment)
     → (all_happened (first_cluster h) (first_scene h cells) hs).moments ≡ newer ++ marked → AreQuiet n marked newer
-    → told.queue_is_open (setting_of h) n (all_happened (first_cluster h) (first_scene h cells) hs).moments ≡ false → Shown_at (setting_of h) n b marked
+    → lasts_open (setting_of h) n (all_happened (first_cluster h) (first_scene h cells) hs).moments ≡ false → Shown_at (setting_of h) n b marked
 shown_at own shown mine h cells hs last few small disks may shaped native n b at seizing marked newer parts quiet closed =
     record { newest = f.r; both = counts.both; found = found; given = counts.given; shows = shows; coordinates = known.coordinates; own = known.own; reached = known.reached; members = members ∙ known.members; goes = goes }
   where

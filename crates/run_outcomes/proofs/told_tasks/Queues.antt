@@ -34,8 +34,8 @@ use Rattle.run_outcomes.proofs.told_tasks.Quiet.{same_tasks}
 use Rattle.run_outcomes.proofs.told_tasks.Closed.{closed_all}
 use Rattle.run_outcomes.proofs.told_tasks.Simple.{IsSimple, Simply, simple_or, simply}
 use Rattle.run_outcomes.proofs.told_tasks.Prefixes.{ShapedBefore, by_last, happened_last, may_before, native_before, shaped_before}
-use Rattle.run_outcomes.specs.tasks.Laws.{NodeQueue, OfEachPoint, OwnTasksAreAsked, QueuesAreTold, SeizedsAreTold, ShowsAreTold}
-use Rattle.run_outcomes.specs.tasks.Left.{CollectorsHaveNone, HasQueue, IsClosed, OthersHave, RestedHave}
+use Rattle.run_outcomes.specs.tasks.Laws.{NodeQueue, OfEachPoint, OwnTasksAreAsked, SeizedsAreTold, ShowsAreTold}
+use Rattle.run_outcomes.specs.tasks.Left.{CollectorsHaveNone, HasQueue, IsClosed, OthersHave, RestedHave, LastingQueuesAreTold}
 use Rattle.run_outcomes.specs.tasks.Showing.{OwnIsShown}
 use Rattle.run_outcomes.proofs.told_tasks.Led.{LedOn}
 use Rattle.run_outcomes.proofs.told_tasks.Seizers.{led_on_same}
@@ -50,6 +50,7 @@ use Rattle.run_seizings.proofs.Runs.{run_seizes}
 use Rattle.run_outcomes.proofs.phases.LiveRuns.{none_is_over}
 use Rattle.run_outcomes.proofs.phases.Seizes.{seizings_are_told}
 use Rattle.run_outcomes.proofs.phases.Votes.{votes_are_told}
+use Rattle.run_outcomes.specs.tasks.Lasting.{lasts_open}
 
 -- ---- coordinators whose attempts seize devices
 
@@ -86,7 +87,7 @@ simple_same h c s x is k n y a both up at seizing given closed =
     subst (λ ms. Same y.tasks (told.tasks_of (setting_of h) n ms)) (sym z.parts)
     (subst (Same y.tasks) (sym (same_tasks (setting_of h) n s.moments z.newer (z.quiet n)))
     (k n y a both (sym (z.nodes n) ∙ up) at seizing given
-    (closed_all (setting_of h) n s.moments z.newer (z.quiet n) (subst (λ ms. told.queue_is_open (setting_of h) n ms ≡ false) z.parts closed))))
+    (closed_all (setting_of h) n s.moments z.newer (z.quiet n) (subst (λ ms. lasts_open (setting_of h) n ms ≡ false) z.parts closed))))
   where
     z : Simply s (happened c s x)
     z = simply c s x is
@@ -154,7 +155,7 @@ same_none xs us one other =
 
 -- ---- a node that leads
 
-pub queues_from : OwnTasksAreAsked → ShowsAreTold → SeizedsAreTold → OwnIsShown → EachStepLeadsOn → CollectorsHaveNone → RestedHave → OthersHave → QueuesAreTold
+pub queues_from : OwnTasksAreAsked → ShowsAreTold → SeizedsAreTold → OwnIsShown → EachStepLeadsOn → CollectorsHaveNone → RestedHave → OthersHave → LastingQueuesAreTold
 queues_from own shown answers mine led none rested others h cells hs last few small disks may shaped native left n closed = by_node (s.nodes.node n) refl
   where
     S : Setting

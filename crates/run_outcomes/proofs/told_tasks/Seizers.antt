@@ -52,6 +52,7 @@ use Rattle.run_outcomes.proofs.told_tasks.Points.{Shown_at, shown_at}
 use Rattle.run_outcomes.proofs.told_tasks.Quiet.{same_seized, same_tasks}
 use Rattle.run_outcomes.proofs.told_tasks.Turned.{IsTurned}
 use Rattle.run_outcomes.proofs.told_tasks.Led.{ByCall, ByVotes, LedOn, all_begun}
+use Rattle.run_outcomes.specs.tasks.Lasting.{lasts_open}
 
 -- ---- each entry is as far as the lines show it
 
@@ -135,7 +136,7 @@ pub led_on_same : OwnTasksAreAsked → ShowsAreTold → SeizedsAreTold → OwnIs
     → AreDisks h → MayAllHappen (first_cluster h) (first_scene h cells) hs → ShapedFrom (first_cluster h) (first_scene h cells) nothing hs last
     → NoneForeign (first_cluster h) (first_scene h cells) hs → (n : ℕ) (y : UpNode) (b : AttemptState) (both : BothVotes)
     → (all_happened (first_cluster h) (first_scene h cells) hs).nodes.node n ≡ Up y → y.attempt ≡ Some b → HasAttempt (all_happened (first_cluster h) (first_scene h cells) hs) n b
-    → is_seizing b.phase ≡ true → told.queue_is_open (setting_of h) n (all_happened (first_cluster h) (first_scene h cells) hs).moments ≡ false
+    → is_seizing b.phase ≡ true → lasts_open (setting_of h) n (all_happened (first_cluster h) (first_scene h cells) hs).moments ≡ false
     → LedOn (setting_of h) n y b both (all_happened (first_cluster h) (first_scene h cells) hs).moments
     → Same y.tasks (told.tasks_of (setting_of h) n (all_happened (first_cluster h) (first_scene h cells) hs).moments)
 led_on_same own shown answers mine h cells hs last few small disks may shaped native n y b both up held at seizing closed k =

@@ -1,5 +1,5 @@
 -- What the walk over runs is to show of each node, apart from what its attempt shows while it seizes devices.
-use Rattle.std.specs.Prelude.{ℕ, ◌≡◌, false, true, [], filter, None, Some}
+use Rattle.std.specs.Prelude.{ℕ, ◌≡◌, ◌^◌, nat_lt, false, true, [], filter, None, Some}
 use Rattle.cl_base.specs.declared.header.Header.{Header}
 use Rattle.cmm_attempt.specs.Attempts.{AttemptState}
 use Rattle.cmm_attempt.specs.declared.phase.Phase.TheVariants.{Collecting}
@@ -11,14 +11,15 @@ use Rattle.node_model.specs.declared.node.UpNode.{UpNode}
 use Rattle.run_devices.specs.queues.Laws.{Same}
 use Rattle.run_devices.specs.queues.Told.{leads, told_tasks}
 use Rattle.run_history.specs.Scenes.{Scene}
-use Rattle.run_outcomes.specs.tasks.Laws.{OfEachPoint}
+use Rattle.run_outcomes.specs.tasks.Laws.{NodeQueue, OfEachPoint}
+use Rattle.run_outcomes.specs.tasks.Lasting.{lasts_open}
 
 -- the tasks that the node has queued are those of `history`
 abbrev pub HasQueue : Header → Scene → ℕ → UpNode → Type 0
 HasQueue h s n x = Same (filter is_queued x.tasks) (told.queued_of (setting_of h) n s.moments)
 
 abbrev pub IsClosed : Header → Scene → ℕ → Type 0
-IsClosed h s n = told.queue_is_open (setting_of h) n s.moments ≡ false
+IsClosed h s n = lasts_open (setting_of h) n s.moments ≡ false
 
 -- By the lines a coordinator has no task while its attempt collects.
 abbrev pub CollectorsHaveNone : Type 0
@@ -33,3 +34,8 @@ RestedHave = OfEachPoint (λ h s. (n : ℕ) (x : UpNode) → s.nodes.node n ≡ 
 abbrev pub OthersHave : Type 0
 OthersHave = OfEachPoint (λ h s. (n : ℕ) (x : UpNode) → s.nodes.node n ≡ Up x → leads n s.moments ≡ false → told_tasks (setting_of h) n s.moments ≡ None
     → IsClosed h s n → HasQueue h s n x)
+
+-- While a packet number is left, each node has the queue of `history`, but where what is untold lasts. Behind a `member` line of such a coordinator, where `history` has its queue told again, it is
+-- to be shown that it has no task left.
+abbrev pub LastingQueuesAreTold : Type 0
+LastingQueuesAreTold = OfEachPoint (λ h s. nat_lt s.links.next (2 ^ 63) ≡ true → (n : ℕ) → IsClosed h s n → NodeQueue (s.nodes.node n) (told.queued_of (setting_of h) n s.moments))
