@@ -30,7 +30,7 @@ use Rattle.history.specs.Trace.{up, down, saved, installed, member, attempt, end
 use Rattle.history.specs.Order.{since}
 use Rattle.history.specs.Setting.{Setting, coordinator, nodes_of, all_to, key_of, paths_of}
 use Rattle.history.specs.Letters.{Letter, letter_of, arriving, is_letter, sends, says}
-use Rattle.history.specs.Member.{members_of, attempt_of, number_of, session_of, in_collect}
+use Rattle.history.specs.Member.{member_of, members_of, attempt_of, number_of, session_of, in_collect}
 use Rattle.history.specs.Seizing.{Seizing, is_attempt, is_number, or_else, acts_for, seizing_of}
 use Rattle.history.specs.Validated.{Validity, Valid, Lapsed, Open, validity, is_valid}
 use Rattle.history.specs.Contact.{others}
@@ -271,8 +271,12 @@ tasks_of S n (_ ∷ before) = tasks_of S n before
 -- ---- the queue
 
 -- the tasks that are not over
+abbrev pub unfinished : List Task → List Task
+unfinished tasks = filter (λ (t : Task). not (is_over t.work)) tasks
+
+-- A member has none: it was ready before, so its tasks were over.
 abbrev pub queued_of : Setting → ℕ → List Moment → List Task
-queued_of S n moments = filter (λ (t : Task). not (is_over t.work)) (tasks_of S n moments)
+queued_of S n moments = if is_some (member_of n moments) then [] else unfinished (tasks_of S n moments)
 
 -- the devices of these, the first task first
 abbrev pub queue_of : Setting → ℕ → List Moment → List ℕ

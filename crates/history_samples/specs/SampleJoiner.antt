@@ -12,7 +12,7 @@ use Rattle.schedule_text.specs.declared.event.Event.TheVariants as event
 use Rattle.status_report.specs.declared.device_entry.DeviceAnswer.TheVariants.{Given}
 use Rattle.history.specs.Moment.{Moment}
 use Rattle.history_samples.specs.SampleNames as name
-use Rattle.history.specs.Trace.{up, saved, installed, sent, delivered, device, attempt, start}
+use Rattle.history.specs.Trace.{attempt, delivered, device, installed, member, saved, sent, start, up}
 use Rattle.history.specs.Setting.{Setting}
 use Rattle.history_samples.specs.SampleOneNode.{line_of, key_1}
 use Rattle.history_samples.specs.SampleSplit.{key_2, pair}
@@ -89,6 +89,10 @@ installed_by_2 =
     ∷ installed 1 129
     ∷ saved 1
     ∷ seized_by_1
+
+-- before it has joined the device
+abbrev pub a_member : List Moment
+a_member = member 2 129 ∷ installed_by_2
 
 abbrev pub registered : List Moment
 registered = device 2 1 (command.Ignore key_2) (Given answer.Good) ∷ line_of (event.Disk 2) ∷ installed_by_2

@@ -211,7 +211,7 @@ pub fn contents()
 {}
 
 /// Device queue: a coordinator's own seizing comes with its last Promise, a member's joining with its install; they move on by device
-/// lines, and a promise of another number drops them.
+/// lines, a promise of another number drops them, and a member has none.
 #[tactic(auto, unfolding(cl_base::specs::Sets::has, quorum_votes::specs::Sums::sum_to))]
 pub fn queue()
     ensures not_promised_yet { queue_of joining.sharing 1 (joining.promising joining.read_before) ≡ [] }
@@ -220,6 +220,7 @@ pub fn queue()
     ensures to_join { queue_of joining.sharing 2 joining.installed_by_2 ≡ 1 ∷ [] }
     ensures joining { queue_of joining.sharing 2 joining.registered ≡ 1 ∷ [] }
     ensures joined { queue_of joining.sharing 2 joining.joined ≡ [] }
+    ensures a_member { queue_of joining.sharing 2 joining.a_member ≡ [] }
     ensures own_quorum { queue_of pair 1 split.begun_129 ≡ 1 ∷ [] }
     ensures preempting { queue_of pair 1 split.reserving_129 ≡ 1 ∷ [] }
     ensures own_quorum_over { queue_of pair 1 split.seizing_129 ≡ [] }

@@ -2,9 +2,7 @@ pub mod Again
 pub mod Governing
 pub mod Handed
 pub mod Hearing
-pub mod Heartbeats
 pub mod Known
 pub mod Left
-pub mod Memory
 pub mod Moving
 pub mod Ticking

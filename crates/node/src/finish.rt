@@ -17,7 +17,7 @@ use cl_base::{Name, NodeId, Outcome};
 use node_addresses::on_client;
 use node_devices::{before_command, take_device_answer, take_write_answer};
 use node_groups::take_report;
-use node_model::{Cluster, Input, Node, Output, Stop, UpNode};
+use node_model::{Cluster, Input, Node, Output, Stop, UpNode, hand_over};
 use node_updates::take_command;
 use record_disk::RecordDisk;
 use status_report::{DownCause, Entry, NodeEntry};
@@ -104,7 +104,7 @@ fn step_up<K: RecordDisk>(
 {
     match input {
         Input::Boot | Input::Tick => Ok(up),
-        Input::Crash => Err(Stop::Down(DownCause::Crash)),
+        Input::Crash => hand_over(up, Err(Stop::Down(DownCause::Crash))),
         Input::Packet { from, message } => {
             take_packet(alloc, cluster, me, outcome, disk, up, *from, message, out)
         }

@@ -3,6 +3,7 @@ ghost use Rattle.std.specs.Prelude.{◌≡◌, ◌++◌, Ok, OnOk};
 ghost use Rattle.node_model.specs.Plans.{Follows, Gives};
 ghost use Rattle.node.specs.Due.{again_of, governed, presided, sent_and_decided};
 
+use crate::handing::hand_back;
 use crate::tick::{attempt_due, tick_attempt};
 use cl_base::{NodeId, Outcome};
 use node_decisions::decide;
@@ -28,8 +29,10 @@ pub(crate) fn govern<K: RecordDisk>(
     ensures { Follows K.saving (governed cluster.now me outcome again up) out.old.items disk.old result out.new.items disk.new }
 {
     let mut up = preside(alloc, cluster, me, outcome, disk, up, again, out)?;
-    let due = attempt_due(alloc, cluster, me, &mut up)?;
-    tick_attempt(alloc, cluster, me, disk, up, due, out)
+    match attempt_due(alloc, cluster, me, &mut up) {
+        Ok(due) => tick_attempt(alloc, cluster, me, disk, up, due, out),
+        Err(_) => hand_back(up, Err(AllocError)),
+    }
 }
 
 /// The president carries out its own order, sends again what is not answered, and decides.
@@ -47,8 +50,8 @@ fn preside<K: RecordDisk>(
     ensures { Follows K.saving (presided cluster.now me outcome again up) out.old.items disk.old result out.new.items disk.new }
 {
     let mut up = carry_own(alloc, cluster, me, disk, up, outcome, out)?;
-    go_again(alloc, cluster, me, &mut up, again, out)?;
-    Ok(up)
+    let done = go_again(alloc, cluster, me, &mut up, again, out);
+    hand_back(up, done)
 }
 
 /// The president sends again what is not answered, and decides.

@@ -5,24 +5,24 @@ ghost use Rattle.cl_base.specs.declared.method.Outcome.{Outcome};
 ghost use Rattle.status_report.specs.declared.entry.Entry.TheVariants as trace;
 ghost use Rattle.status_report.specs.declared.node_entry.NodeEntry.TheVariants as note;
 ghost use Rattle.node_model.specs.declared.input.Input.TheVariants.{Tick};
-ghost use Rattle.node_model.specs.declared.output.Output.TheVariants.{Sends, Tells};
+ghost use Rattle.node_model.specs.declared.output.Output.TheVariants.{Tells};
 ghost use Rattle.node_model.specs.Plans.{Follows};
-ghost use Rattle.node_model.specs.Ticks.{attempt_ticked, heartbeat_of, heartbeats_to, members_to_form, later, membership_of, ticked_output};
-ghost use Rattle.heartbeats.specs.Views.{receivers_of};
+ghost use Rattle.node_model.specs.Ticks.{attempt_ticked, members_to_form, later, membership_of, ticked_output};
 ghost use Rattle.node.specs.Due.{MayBegin, MayFollow, attempt_rest, going_on_with, rest_of};
 ghost use Rattle.node.specs.Ticks.{left_of};
 
 use crate::configured::configured_at;
 use crate::due::{AttemptDue, Due};
+use crate::handing::hand_back;
 use cl_base::{NodeId, NodeSet};
 use heartbeats::Membership;
 use node_attempts::{go_on, lead};
+use node_heartbeats::send_heartbeats;
 use node_model::{Cluster, Output, Seat, Stop, UpNode};
 use node_updates::tick_requests;
 use record_disk::RecordDisk;
 use status_report::{Entry, NodeEntry};
 use std::alloc::{AllocError, Global};
-use wire::Body;
 
 /// The node's clock ticks: it takes its view anew, sends its heartbeats, and sends its oldest request
 /// again, if that is due. What is then left to do is told.
@@ -51,47 +51,6 @@ pub(crate) fn tick(
         return Ok(Due::Govern(again));
     }
     Ok(Due::Attempt(attempt_due(alloc, cluster, me, up)?))
-}
-
-/// A heartbeat goes to every other of the nodes that are configured, ascending; that of a node which is not, to each that it has
-/// heard.
-fn send_heartbeats(
-    alloc: Global,
-    configured: NodeSet,
-    up: &UpNode,
-    out: &mut Vec<Output>,
-) -> Result<(), AllocError>
-    ensures sent { OnOk result (out.new.items ≡ out.old.items ++ heartbeats_to up.now (receivers_of up.now.beats configured)) }
-{
-    let receivers = up.beats.receivers(configured).nodes(alloc)?;
-    send_to_each(up, &receivers, out)
-}
-
-fn send_to_each(up: &UpNode, receivers: &[NodeId], out: &mut Vec<Output>) -> Result<(), AllocError>
-    ensures sent { OnOk result (out.new.items ≡ out.old.items ++ map (λ n. Sends n (heartbeat_of up.now)) receivers.now) }
-{
-    for n in receivers {
-        send_beat(up, *n, out)?;
-    }
-    Ok(())
-}
-
-fn send_beat(up: &UpNode, to: NodeId, out: &mut Vec<Output>) -> Result<(), AllocError>
-    ensures sent { OnOk result (out.new.items ≡ out.old.items ++ Sends to (heartbeat_of up.now) ∷ []) }
-{
-    let body = heartbeat(up);
-    out.push(Output::Sends { to, body })?;
-    Ok(())
-}
-
-fn heartbeat(up: &UpNode) -> Body
-    ensures { result ≡ heartbeat_of up.now }
-{
-    Body::Heartbeat {
-        promised: up.seat.promised(),
-        session: up.seat.session(),
-        member: up.seat.is_member(),
-    }
 }
 
 /// What is due of attempts. Without one the node waits, or begins one.
@@ -150,8 +109,10 @@ fn go_on_with<K: RecordDisk>(
     let Some(mut attempt) = up.attempt.take() else {
         return Ok(up);
     };
-    let steps = attempt.tick()?;
-    go_on(alloc, cluster, me, disk, up, attempt, steps, out)
+    match attempt.tick() {
+        Ok(steps) => go_on(alloc, cluster, me, disk, up, attempt, steps, out),
+        Err(_) => hand_back(up, Err(AllocError)),
+    }
 }
 
 /// The members of the attempt that the node is to begin, if it is to.

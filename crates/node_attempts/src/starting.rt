@@ -91,11 +91,13 @@ fn put_back(
     alloc: Global,
     up: &mut UpNode,
     attempt: Attempt,
-    _presidency: Presidency,
+    presidency: Presidency,
 ) -> Result<(), Stop>
     ensures after { OnOk result (up.new ≡ under_way up.old attempt) }
     ensures only { IfErr result (λ e. e ≡ NoMemory) }
 {
+    // Said so, the parts are let go each by its own proof.
+    drop(presidency);
     up.attempt.put(alloc, attempt)?;
     Ok(())
 }

@@ -7,7 +7,7 @@ ghost use Rattle.node_groups.specs.Reporting.{ask_after, asked_so, asks_for, ask
 
 use cl_base::{Ask, Bytes, Name, NodeId};
 use node_decisions::own_config;
-use node_model::{Cluster, Output, Stop, UpNode};
+use node_model::{Cluster, Output, Stop, UpNode, hand_over};
 use node_updates::{ask_if, is_idle};
 use record_disk::RecordDisk;
 use request_queue::Request;
@@ -32,16 +32,13 @@ pub fn take_report<K: RecordDisk>(
 ) -> Result<UpNode, Stop>
     ensures follows { Follows K.saving (on_report cluster.now me up resource.now good) out.old.items disk.old result out.new.items disk.new }
 {
-    let probed = keep_report(alloc, cluster, me, &mut up, resource, good, out)?;
-    ask_for(
-        alloc,
-        cluster,
-        me,
-        disk,
-        up,
-        ask_after(&probed, resource),
-        out,
-    )
+    match keep_report(alloc, cluster, me, &mut up, resource, good, out) {
+        Ok(probed) => {
+            let ask = ask_after(&probed, resource);
+            ask_for(alloc, cluster, me, disk, up, ask, out)
+        }
+        Err(_) => hand_over(up, Err(Stop::NoMemory)),
+    }
 }
 
 /// What the report comes to, which the node keeps and tells.

@@ -10,8 +10,6 @@ use Rattle.schedule_text.specs.declared.header.HeaderState.{HeaderState}
 use Rattle.schedule_text.specs.declared.kind.Kind.{Kind}
 use Rattle.schedule_text.specs.declared.line.ClusterLine.{ClusterLine}
 use Rattle.schedule_text.specs.declared.line.ClusterLine.TheVariants as cluster
-use Rattle.schedule_text.specs.declared.line.Line.{Line}
-use Rattle.schedule_text.specs.declared.line.Line.TheVariants as line
 use Rattle.schedule_text.specs.declared.line.SoFar.{SoFar}
 use Rattle.schedule_text.specs.Allowed.{IsAllowedEvent, IsHeader}
 use Rattle.schedule_text.specs.Headers.{HeaderStep, More, Over, Bad, head_of, header_step}
@@ -19,12 +17,9 @@ use Rattle.schedule_text.specs.Lines.{cluster_line_of, so_far_after_event}
 use Rattle.grammar_laws.specs.Reads.{HasFewBytes, HasSeconds, LacksServers}
 use Rattle.grammar_laws.proofs.Events.{events_are_allowed, seconds_fit}
 use Rattle.grammar_laws.proofs.Heads.{IsFineHead, IsFineState, head_fine, state_kept}
-use Rattle.history.specs.Moment.{Moment, Part, Said, Told, lines_of}
 use Rattle.refinement.specs.Worlds.{IsNamed}
-use Rattle.run_history.specs.Telling.{IsInHeader, lines_upon}
-use Rattle.run_lines.specs.rounds.Laws.{AsksSome}
-use Rattle.run_owed.specs.waiting.Laws.{CommandIsShort, CommandsAreShort}
-use Rattle.run_outcomes.specs.lines.Laws.{IsFitting}
+use Rattle.run_history.specs.Telling.{IsInHeader}
+use Rattle.run_outcomes.specs.Traces.{IsPlain}
 use Rattle.replay.specs.Sessions.{first_so_far}
 use Rattle.replay.specs.Replays.{OfCluster, OfDevice, Schedule, behind, events_of, schedule_of, stepped, with_event}
 use Rattle.replay.specs.Histories.{AreAllowed}
@@ -124,45 +119,16 @@ pub all_in_header : (h : Header) (s : SoFar) (events : List Event) → AreAllowe
 all_in_header h s [] are = tt
 all_in_header h s (e ∷ events) are = (in_header h s e are.0, all_in_header h (so_far_after_event s e) events are.2)
 
--- a line that asks for rounds asks for one at least
-asks : (h : Header) (s : SoFar) (e : Event) → IsAllowedEvent h s e → AsksSome (line.Event e)
-asks h s (event.Rounds count nodes) is = is.0
-asks h s _ is = tt
+-- ---- what is proved of runs is so of plain lines
 
-pub all_ask : (h : Header) (s : SoFar) (events : List Event) (before : List Line) → AreAllowed h s events → AllByRecursion AsksSome before → AllByRecursion AsksSome (lines_upon before events)
-all_ask h s [] before are some = some
-all_ask h s (e ∷ events) before are some = all_ask h (so_far_after_event s e) events (line.Event e ∷ before) are.2 (asks h s e are.0, some)
+plain : (h : Header) (s : SoFar) (e : Event) → IsAllowedEvent h s e → HasFewBytes 4096 e → IsPlain h e
+plain h s (event.Boot n) is few = is.2
+plain h s (event.Fault n d done) is few = (is.0.0, is.0.2, is.1.0, is.1.2)
+plain h s (event.Write n d value) is few = is.1.0
+plain h s (event.Command n words) is few = few
+plain h s (event.Rounds count nodes) is few = is.0
+plain h s _ is few = tt
 
--- a line that gives a command gives one of so few bytes
-abbrev pub GivesFew : Line → Type 0
-GivesFew (line.Event e) = HasFewBytes 4096 e
-GivesFew _ = Unit {0}
-
-pub all_give_few : (events : List Event) (before : List Line) → AllByRecursion (HasFewBytes 4096) events → AllByRecursion GivesFew before → AllByRecursion GivesFew (lines_upon before events)
-all_give_few [] before few stood = stood
-all_give_few (e ∷ events) before few stood = all_give_few events (line.Event e ∷ before) few.1 (few.0, stood)
-
-event_short : (before : List Moment) (e : Event) → HasFewBytes 4096 e → CommandIsShort before (Said (line.Event e))
-event_short before (event.Command n words) few = few
-event_short before _ few = tt
-
-line_short : (before : List Moment) (l : Line) → GivesFew l → CommandIsShort before (Said l)
-line_short before (line.Event e) few = event_short before e few
-line_short before _ few = tt
-
-pub commands_are_short : (moments : List Moment) → AllByRecursion GivesFew (lines_of moments) → CommandsAreShort moments
-commands_are_short [] few = tt
-commands_are_short (Said l ∷ before) few = (line_short before l few.0, commands_are_short before few.1)
-commands_are_short (Part e ∷ before) few = (tt, commands_are_short before few)
-commands_are_short (Told entry ∷ before) few = (tt, commands_are_short before few)
-
--- a line that boots a node boots one of the header, and one that writes names a device by a number from 1 on
-fits : (h : Header) (s : SoFar) (e : Event) → IsAllowedEvent h s e → IsFitting h (line.Event e)
-fits h s (event.Boot n) is = is.2
-fits h s (event.Fault n d done) is = (is.0.0, is.0.2, is.1.0, is.1.2)
-fits h s (event.Write n d value) is = is.1.0
-fits h s _ is = tt
-
-pub all_fit : (h : Header) (s : SoFar) (events : List Event) (before : List Line) → AreAllowed h s events → AllByRecursion (IsFitting h) before → AllByRecursion (IsFitting h) (lines_upon before events)
-all_fit h s [] before are fit = fit
-all_fit h s (e ∷ events) before are fit = all_fit h (so_far_after_event s e) events (line.Event e ∷ before) are.2 (fits h s e are.0, fit)
+pub all_plain : (h : Header) (s : SoFar) (events : List Event) → AreAllowed h s events → AllByRecursion (HasFewBytes 4096) events → AllByRecursion (IsPlain h) events
+all_plain h s [] are few = tt
+all_plain h s (e ∷ events) are few = (plain h s e are.0 few.0, all_plain h (so_far_after_event s e) events are.2 few.1)

@@ -19,7 +19,7 @@ use Rattle.replay.specs.Loops.{ReadsOn}
 use Rattle.replay.specs.Runs.{IsRun, IsCaused, ReadsNoFurther, Says, Writes}
 use Rattle.replay.proofs.Bytes.{after_after}
 use Rattle.replay.proofs.Ends.{is_open}
-use Rattle.order_laws.specs.Laws.{ToldCyclesHaveNames}
+use Rattle.run_outcomes.specs.Traces.{TracesOfEachRun}
 use Rattle.replay.proofs.Histories.{tells_run}
 use Rattle.replay.proofs.Texts.{starts_with_behind, starts_with_front, starts_with_more}
 
@@ -120,11 +120,11 @@ no_further : (task : Task) (agents : List AgentState) (left left' held held' : O
 no_further task agents left left' held held' now piece whole on few = record { before = on.taken; last = piece; parts = refl; piece = few; wanted = wanted task agents left left' held held' now whole on }
 
 -- reading stopped, in a piece or at the end
-pub closed_run : ToldCyclesHaveNames → (task : Task) (agents : List AgentState) (left left' left'' held held' held'' : Option (List ℕ)) (reads reads' writes writes' writes'' : ℕ) (now : reader.Reader) (piece : List ℕ) (ended : Bool) (why : Stop) (lines : ℕ) (text : List ℕ) (result : Status)
+pub closed_run : TracesOfEachRun → (task : Task) (agents : List AgentState) (left left' left'' held held' held'' : Option (List ℕ)) (reads reads' writes writes' writes'' : ℕ) (now : reader.Reader) (piece : List ℕ) (ended : Bool) (why : Stop) (lines : ℕ) (text : List ℕ) (result : Status)
     → ReadsOn task agents left left' held held' now → IsReader now → Consumes left' left'' piece → length piece ≤ 4096 → (ended ≡ true → IsAtEnd left'')
     → Stops why (with_more task ended now piece) lines text → reads' ≡ reads → writes' ≡ writes → Closed task why lines text result held' held'' writes' writes''
     → IsRun task agents left left'' held held'' reads reads' writes writes'' result
-closed_run cycles task agents left left' left'' held held' held'' reads reads' writes writes' writes'' now piece ended why lines text result on whole consumed few gone stops same kept closed =
+closed_run traces task agents left left' left'' held held' held'' reads reads' writes writes' writes'' now piece ended why lines text result on whole consumed few gone stops same kept closed =
     record {
       taken = on.taken ++ piece;
       consumed = consumes_then left left' left'' on.taken piece on.consumed consumed;
@@ -137,23 +137,23 @@ closed_run cycles task agents left left' left'' held held' held'' reads reads' w
       writes_text = subst (λ (x : Outcome). Writes result (whole_text task x) (on.written ++ closed.written)) (sym (on.goes_on ended piece))
           (behind task result (with_more task ended now piece) on.written closed.written (closed.writes_text (with_more task ended now piece) stops));
       caused = caused result reads reads' writes writes'' same (subst (λ n. SinkCaused result n writes'') kept closed.caused);
-      history = tells_run cycles task agents ended (on.taken ++ piece);
+      history = tells_run traces task agents ended (on.taken ++ piece);
     }
 
 -- in a piece
-pub closed_in : ToldCyclesHaveNames → (A : Type 0) (task : Task) (agents : List AgentState) (left left' left'' held held' held'' : Option (List ℕ)) (reads reads' writes writes' writes'' : ℕ) (now last : reader.Reader) (piece : List ℕ) (why : Stop) (result : Status)
+pub closed_in : TracesOfEachRun → (A : Type 0) (task : Task) (agents : List AgentState) (left left' left'' held held' held'' : Option (List ℕ)) (reads reads' writes writes' writes'' : ℕ) (now last : reader.Reader) (piece : List ℕ) (why : Stop) (result : Status)
     → ReadsOn task agents left left' held held' now → IsReader now → Consumes left' left'' piece → length piece ≤ 4096
     → TakesBytes {A = A} task now piece (Err why) last → reads' ≡ reads → writes' ≡ writes → Closed task why last.lines last.text.items result held' held'' writes' writes''
     → IsRun task agents left left'' held held'' reads reads' writes writes'' result
-closed_in cycles A task agents left left' left'' held held' held'' reads reads' writes writes' writes'' now last piece why result on whole consumed few taken same kept closed =
-    closed_run cycles task agents left left' left'' held held' held'' reads reads' writes writes' writes'' now piece false why last.lines last.text.items result on whole consumed few (λ e. absurd (cc))
+closed_in traces A task agents left left' left'' held held' held'' reads reads' writes writes' writes'' now last piece why result on whole consumed few taken same kept closed =
+    closed_run traces task agents left left' left'' held held' held'' reads reads' writes writes' writes'' now piece false why last.lines last.text.items result on whole consumed few (λ e. absurd (cc))
     (subst (λ (xs : List ℕ). Stops why (with_more task false now xs) last.lines last.text.items) (append-nil piece) (taken false [])) same kept closed
 
 -- the source failed
-pub read_failed : ToldCyclesHaveNames → (task : Task) (agents : List AgentState) (left left' left'' held held' : Option (List ℕ)) (reads reads' writes writes' : ℕ) (now : reader.Reader)
+pub read_failed : TracesOfEachRun → (task : Task) (agents : List AgentState) (left left' left'' held held' : Option (List ℕ)) (reads reads' writes writes' : ℕ) (now : reader.Reader)
     → ReadsOn task agents left left' held held' now → IsReader now → now.text.items ≡ [] → Keeps left' left'' → Rose reads reads' → writes' ≡ writes
     → IsRun task agents left left'' held held' reads reads' writes writes' status.ReadFault
-read_failed cycles task agents left left' left'' held held' reads reads' writes writes' now on whole none keeps rose same =
+read_failed traces task agents left left' left'' held held' reads reads' writes writes' now on whole none keeps rose same =
     let all : outcome_of task agents false (on.taken ++ []) ≡ record { text = on.written; ending = Open } =
     on.goes_on false [] ∙ (ap (λ (o : Outcome). after on.written o) (is_open task now whole) ∙ ap (λ (t : List ℕ). record { text = t; ending = Open }) (ap (λ (t : List ℕ). on.written ++ t) none ∙ append-nil on.written)) in
     record {
@@ -167,15 +167,15 @@ read_failed cycles task agents left left' left'' held held' reads reads' writes 
       appended = on.appended;
       writes_text = subst (λ (x : Outcome). on.written ≡ whole_text task x) (sym all) (sym (append-nil on.written));
       caused = (rose, same);
-      history = tells_run cycles task agents false (on.taken ++ []);
+      history = tells_run traces task agents false (on.taken ++ []);
     }
 
 -- the sink failed at what a piece was answered
-pub write_failed : ToldCyclesHaveNames → (A : Type 0) (done : A) (task : Task) (agents : List AgentState) (left left' left'' held held' held'' : Option (List ℕ)) (reads reads' writes writes' : ℕ) (now new : reader.Reader) (piece : List ℕ)
+pub write_failed : TracesOfEachRun → (A : Type 0) (done : A) (task : Task) (agents : List AgentState) (left left' left'' held held' held'' : Option (List ℕ)) (reads reads' writes writes' : ℕ) (now new : reader.Reader) (piece : List ℕ)
     → ReadsOn task agents left left' held held' now → IsReader now → Consumes left' left'' piece → length piece ≤ 4096
     → TakesBytes {A = A} task now piece (Ok done) new → reads' ≡ reads → AppendsFront held' held'' new.text.items → Rose writes writes'
     → IsRun task agents left left'' held held'' reads reads' writes writes' status.WriteFault
-write_failed cycles A done task agents left left' left'' held held' held'' reads reads' writes writes' now new piece on whole consumed few taken same front rose =
+write_failed traces A done task agents left left' left'' held held' held'' reads reads' writes writes' now new piece on whole consumed few taken same front rose =
     let all : outcome_of task agents false (on.taken ++ piece) ≡ after on.written (with_more task false new []) =
     on.goes_on false piece ∙ (ap (λ (xs : List ℕ). after on.written (with_more task false now xs)) (sym (append-nil piece)) ∙ ap (λ (o : Outcome). after on.written o) (taken false [])) in
     record {
@@ -191,7 +191,7 @@ write_failed cycles A done task agents left left' left'' held held' held'' reads
           (starts_with_more _ _ _ (starts_with_behind on.written _ (take front.count new.text.items)
           (starts_with_more new.text.items _ (take front.count new.text.items) (starts_with_front new.text.items front.count))));
       caused = (same, rose);
-      history = tells_run cycles task agents false (on.taken ++ piece);
+      history = tells_run traces task agents false (on.taken ++ piece);
     }
 
 -- a piece was taken, and what it was answered is written
@@ -220,8 +220,8 @@ reads_nothing task agents left held now state lines none text = record {
   goes_on = λ ended more. rw (state, lines, none, text) refl;
 }
 
-pub no_memory : ToldCyclesHaveNames → (task : Task) (agents : List AgentState) (left held : Option (List ℕ)) (reads writes : ℕ) → IsRun task agents left left held held reads reads writes writes status.NoMemory
-no_memory cycles task agents left held reads writes = record {
+pub no_memory : TracesOfEachRun → (task : Task) (agents : List AgentState) (left held : Option (List ℕ)) (reads writes : ℕ) → IsRun task agents left left held held reads reads writes writes status.NoMemory
+no_memory traces task agents left held reads writes = record {
   taken = [];
   consumed = same_consumes left;
   no_further = record { before = []; last = []; parts = refl; piece = omega arith; wanted = refl };
@@ -232,7 +232,7 @@ no_memory cycles task agents left held reads writes = record {
   appended = same_appends held;
   writes_text = refl;
   caused = (refl, refl);
-  history = tells_run cycles task agents false [];
+  history = tells_run traces task agents false [];
 }
 
 -- what was written is let go

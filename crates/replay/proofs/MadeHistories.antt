@@ -24,7 +24,7 @@ use Rattle.replay.specs.Histories.{AreAllowed}
 use Rattle.replay.specs.Outcomes.{Outcome}
 use Rattle.replay.specs.Replays.{texts_of}
 use Rattle.replay.specs.Sessions.{first_so_far}
-use Rattle.order_laws.specs.Laws.{ToldCyclesHaveNames}
+use Rattle.run_outcomes.specs.Traces.{TracesOfEachRun}
 use Rattle.replay.proofs.Firsts.{short_line}
 use Rattle.replay.proofs.Histories.{trace_of}
 use Rattle.replay.proofs.MadeWords.{AreFine}
@@ -55,8 +55,8 @@ are_few h s (line ∷ lines) (e ∷ events) are fine =
 four_leads : (m : Making) → LeadTo Opening (lines_from m.seed 0 5) (Devices four_nodes)
 four_leads m = lead_on Opening (Devices four_nodes) (lines_from m.seed 0 5) (header_leads m.seed)
 
-pub made_history : ToldCyclesHaveNames → (m : Making) (agents : List AgentState) → m.count ≤ 90000 → CountsHistory m agents (counts_made m agents)
-made_history cycles m agents few =
+pub made_history : TracesOfEachRun → (m : Making) (agents : List AgentState) → m.count ≤ 90000 → CountsHistory m agents (counts_made m agents)
+made_history traces m agents few =
     let events : List Event = events_from m.seed 5 (5 + m.count) in
     let header : IsHeader four_nodes = heads_are_allowed (lines_from m.seed 0 5) (Devices four_nodes) (Cluster four_nodes) (four_leads m) refl in
     let disks : LacksServers four_nodes = servers_are_not_read (lines_from m.seed 0 5) (Devices four_nodes) four_nodes (four_leads m) refl in
@@ -70,5 +70,5 @@ made_history cycles m agents few =
       no_server = disks;
       allowed = allowed;
       written = refl;
-      trace = trace_of cycles agents four_nodes events (texts_of (first_world four_nodes 65536 agents) events) header disks allowed short refl;
+      trace = trace_of traces agents four_nodes events (texts_of (first_world four_nodes 65536 agents) events) header disks allowed short refl;
     }

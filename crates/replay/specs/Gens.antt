@@ -17,7 +17,8 @@ use Rattle.replay.specs.declared.counts.Counts.{Counts}
 use Rattle.replay.specs.declared.making.Making.{Making}
 use Rattle.replay.specs.declared.status.Status.{Status}
 use Rattle.replay.specs.declared.task.Task.TheVariants.{Run}
-use Rattle.replay.specs.Histories.{AreAllowed, IsTrace}
+use Rattle.run_outcomes.specs.Traces.{IsTrace}
+use Rattle.replay.specs.Histories.{AreAllowed}
 use Rattle.replay.specs.Outcomes.{Ended, outcome_of, pieces}
 use Rattle.replay.specs.Replays.{texts_of}
 use Rattle.replay.specs.Runs.{IsCaused, Says, Writes}

@@ -21,7 +21,7 @@ use crate::stop::Stop;
 use crate::task::{Task, read_task};
 use agents::StockAgent;
 use cl_io::{Failed, Sink, Source, write_all};
-use order_laws::told_cycles_have_names;
+use run_outcomes::traces_of_each_run;
 use std::alloc::Global;
 use world::Agents;
 
@@ -73,8 +73,8 @@ fn run<S: Source, K: Sink>(
     ensures run { IsRun task agents (S.left source.old) (S.left source.new) (K.held sink.old) (K.held sink.new)
         (S.faults source.old) (S.faults source.new) (K.faults sink.old) (K.faults sink.new) result }
 {
-    // The answers that a trace tells can be read: a cycle that is told has names.
-    told_cycles_have_names();
+    // What is written of a cluster schedule is a trace of it.
+    traces_of_each_run();
     let Ok(reader) = Reader::new(alloc, agents) else {
         return Status::NoMemory;
     };

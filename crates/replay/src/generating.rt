@@ -13,7 +13,7 @@ use crate::status::Status;
 use crate::stop::Stop;
 use crate::task::Task;
 use cl_io::{Sink, write_all};
-use order_laws::told_cycles_have_names;
+use run_outcomes::traces_of_each_run;
 use schedule_gen::Gen;
 use std::alloc::{AllocError, Global};
 use world::Agents;
@@ -26,8 +26,8 @@ pub fn generate<K: Sink>(alloc: Global, making: Making, sink: &mut K, agents: Ag
     requires few { making.count ≤ 90000 }
     ensures made { (left : Option (List ℕ)) (reads : ℕ) → IsGen making agents left left (K.held sink.old) (K.held sink.new) reads reads (K.faults sink.old) (K.faults sink.new) result }
 {
-    // The answers that a trace tells can be read: a cycle that is told has names.
-    told_cycles_have_names();
+    // What is written of a cluster schedule is a trace of it.
+    traces_of_each_run();
     let Ok(counts) = replay_made(alloc, making, agents) else {
         return Status::NoMemory;
     };

@@ -113,7 +113,7 @@ pub fn disk_lines_of_each_run()
     ensures { DiskLinesOfEachRun }
 {}
 
-/// Where the tasks of a node that is up are told, `history` tells whether it has a command due.
+/// Where the tasks of a node that is up are told, they show whether it has a command due.
 pub fn work_of_each_run()
     ensures { WorkOfEachRun }
 {}

@@ -3,7 +3,9 @@ pub mod Plain
 pub mod Told
 pub mod Letters
 pub mod Excluded
+pub mod Rising
 pub mod Changes
 pub mod Doings
 pub mod Steps
 pub mod Runs
+pub mod InstalledOnce

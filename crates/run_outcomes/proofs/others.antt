@@ -4,3 +4,9 @@ pub mod Runs
 pub mod Told
 pub mod Have
 pub mod Asked
+pub mod Votes
+pub mod Tasks
+pub mod Turns
+pub mod Machine
+pub mod Own
+pub mod Native

@@ -7,4 +7,3 @@ pub mod Collectors
 pub mod Moves
 pub mod Resting
 pub mod Rested
-pub mod Left

@@ -25,3 +25,10 @@ pub mod Unled
 pub mod Emptied
 pub mod Starting
 pub mod Ended
+pub mod Settles
+pub mod LastSeizing
+pub mod Complete
+pub mod EndLine
+pub mod Alone
+pub mod SeizedCourse
+pub mod IdleCommands

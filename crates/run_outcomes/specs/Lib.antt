@@ -11,3 +11,5 @@ pub mod accounts
 pub mod lines
 pub mod reports
 pub mod silence
+pub mod histories
+pub mod Traces

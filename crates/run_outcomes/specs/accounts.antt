@@ -2,3 +2,4 @@
 pub mod Laws
 -- what only the proofs need
 pub mod Kept
+pub mod Unregistered

@@ -3,3 +3,5 @@ pub mod Laws
 -- what only the proofs need
 pub mod Facts
 pub mod Events
+pub mod Requests
+pub mod Installs

@@ -12,6 +12,7 @@ pub mod Entries
 pub mod OwnTasks
 pub mod Quiet
 pub mod Showing
+pub mod OwnPromise
 pub mod Left
 pub mod Outward
 pub mod Onward

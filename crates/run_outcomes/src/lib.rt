@@ -7,7 +7,8 @@
 //!   began (`specs/results/Shown`); and what a record does not hold valid it did not hold so where its node promised, or began, the attempt of its session
 //!   (`specs/results/Tried`): but for a device that is seized without its votes, which is lost before the seizing, when all Promises are collected.
 //! - `accounts`: for which devices a start accounts. An attempt that installs has seized each device to which a member has a path, and each seizing has ended;
-//!   so each device is held, or its seizing ended as the device lines show it.
+//!   so each device is held, or its seizing ended as the device lines show it. That its node is not registered ends a seizing for votes alone
+//!   (`specs/accounts/Unregistered`).
 //! - `exclusions`: whom attempts exclude. What a node has installed is no older than its last `installed` line says, and its Promise tells it with its
 //!   members.
 //! - `panics`: which nodes panic since an attempt excluded them. An attempt that excludes its own coordinator makes it panic; another node is told by an
@@ -17,9 +18,11 @@
 //! - `tasks`: the tasks of coordinators at shared devices, and with them the device queue of each node. Whom an attempt asks to seize quorum devices, and what
 //!   these answer, is told by its lines, and which devices are valid to them by their Promises; the tasks that a coordinator has of its own are the seizings that
 //!   its attempt asked it for.
-//! - `lines`, `reports`: each line is answered, where the lines tell the queues of nodes; so are requests to seize and Installs, in the event in which they come
-//!   or once their tasks are over.
-//! - `silence`: for whose answers an attempt waits, as the lines tell what it has sent and what has come.
+//! - `lines`, `rounds_told`, `reports`: by these queues each line is answered, and the parts of rounds come in their order; so are requests to seize and Installs,
+//!   in the event in which they come or once their tasks are over.
+//! - `silence`: for whose answers an attempt waits, as the lines tell what it has sent and what has come, and for how many ticks; so when it ends for want of one.
+//! - `histories`: all of it together, with what the crates below have of runs: each run is a history.
+//! - `specs/Traces`: what the program's top call says of each text that it writes.
 //!
 //! Each function here is a law. It has no body, and its contract is proved of every header, every list of lines, everything that happens and
 //! all agents.
@@ -28,16 +31,21 @@
 ghost use Rattle.run_outcomes.specs.counts.Laws.{CountedOfEachRun, ForeignOfEachRun, LackingOfEachRun, NeededOfEachRun};
 ghost use Rattle.run_outcomes.specs.results.Laws.{ResultsOfEachRun};
 ghost use Rattle.run_outcomes.specs.results.Paths.{PathsOfEachRun};
-ghost use Rattle.run_outcomes.specs.accounts.Laws.{AccountsOfEachRun};
+ghost use Rattle.run_outcomes.specs.accounts.Laws.{AllAccountedInEachRun};
 ghost use Rattle.run_outcomes.specs.exclusions.Laws.{ExclusionsOfEachRun};
 ghost use Rattle.run_outcomes.specs.panics.Laws.{ExclusionsAreToldInEachRun};
 ghost use Rattle.run_outcomes.specs.saves.Laws.{LetterStopsOfEachRun};
+ghost use Rattle.run_outcomes.specs.stops.AtDevices.{StopsAreCaused};
 ghost use Rattle.run_outcomes.specs.stops.Laws.{TickStopsOfEachRun};
-ghost use Rattle.run_outcomes.specs.lines.Laws.{LinesByQueues};
-ghost use Rattle.run_outcomes.specs.silence.Laws.{CollectsAreMissing, LacksAreMissing};
+ghost use Rattle.run_outcomes.specs.lines.Laws.{LinesAreAnswered};
+ghost use Rattle.run_outcomes.specs.rounds_told.Laws.{NoRoundIsLeft, RoundsAreTold};
+ghost use Rattle.run_outcomes.specs.silence.Ends.{AttemptsEndInTime};
+ghost use Rattle.run_outcomes.specs.silence.Laws.{AwaitedAreTold, CollectsAreMissing, LacksAreMissing, SilentsAreCaused};
+ghost use Rattle.run_outcomes.specs.Traces.{TracesOfEachRun};
+ghost use Rattle.run_outcomes.specs.histories.Laws.{HistoriesOfEachRun};
 ghost use Rattle.run_outcomes.specs.phases.Laws.{CollectorsHaveNothingDue, NoneIsOver, PromisesAreTold, SeizingsAreTold, VotesAreTold};
-ghost use Rattle.run_outcomes.specs.tasks.Laws.{AskedMaySeize, AsksAreTold, OwnTasksAreAsked, SeizedsAreTold, ShownValid, ShowsAreTold};
-ghost use Rattle.run_outcomes.specs.reports.Laws.{ReportsWhereTold, TasksAreAnsweredWhereTold};
+ghost use Rattle.run_outcomes.specs.tasks.Laws.{AskedMaySeize, AsksAreTold, OwnTasksAreAsked, QueuesAreTold, SeizedsAreTold, ShownValid, ShowsAreTold};
+ghost use Rattle.run_outcomes.specs.reports.Laws.{ReportsOfEachRun, TasksAreAnsweredInEachRun};
 
 /// An attempt ends for a foreign member once all have promised, and names the least of its members that is configured neither in the newest
 /// committed updates in hand nor with the pending one.
@@ -77,11 +85,11 @@ pub fn results_of_each_run()
     ensures { ResultsOfEachRun }
 {}
 
-/// Where a membership starts, it accounts for each device of the header that has votes by its base: the device is held, or no member has a path to it, or device lines
-/// of a member since the attempt began show the greater word, the expelled member, the contended device or the failed command, or no attached member may seize it. For
-/// another device it accounts so too, but in place of the last some attached member may not seize it.
+/// Where a membership starts, it accounts for each device of the header: the device is held, or no member has a path to it, or device lines of a member since the
+/// attempt began show the greater word, the expelled member, the contended device or the failed command; or the device has votes by the base, with or without its
+/// last update, and no attached member may seize it.
 pub fn accounts_of_each_run()
-    ensures { AccountsOfEachRun }
+    ensures { AllAccountedInEachRun }
 {}
 
 /// Where an attempt ends and excludes a node, an earlier attempt left that node out and had another member of this one. Its number is above the newest
@@ -109,6 +117,14 @@ pub fn letter_stops_of_each_run()
 /// nodes are configured.
 pub fn tick_stops_of_each_run()
     ensures { TickStopsOfEachRun }
+{
+    run_packets::attempts_begin_as_wanted();
+}
+
+/// A node stops where an armed stop falls, and in each event, also in a command at a device, only where the rules let it save: it makes a device not valid, has joined
+/// one, or its own attempt installs or starts with no work left. Nodes of the header alone boot there, and a packet number is left.
+pub fn stops_are_caused_in_each_run()
+    ensures { StopsAreCaused }
 {
     run_packets::attempts_begin_as_wanted();
 }
@@ -178,25 +194,40 @@ pub fn last_promises_show_what_is_valid_in_each_run()
     ensures { ShownValid }
 {}
 
-/// Where the lines tell the device queue of each node, each line has the entries that `history` says, or is skipped for the cause that is due, and so has
-/// each part of a round. Of the run it is supposed that it is of whole lines, that no packet is foreign to its receiver, and that fewer than 2^63 moments are
-/// told; of the lines that they boot nodes of the header alone, and write to devices that are numbered from 1 on.
-pub fn lines_are_answered_by_queues()
-    ensures { LinesByQueues }
+/// The tasks that a node has queued at shared devices are those that its lines tell, on their devices and as far, in order; where a node that stopped in a save
+/// coordinates an attempt they may leave this open until its tasks are dropped or it is a member, and a member has none. No packet is foreign to its receiver there, nodes
+/// of the header alone boot, and a packet number is left.
+pub fn queues_are_told_in_each_run()
+    ensures { QueuesAreTold }
+{}
+
+/// Each line has the entries that `history` says, or is skipped for the cause that is due, and so has each part of a round. Of the run it is supposed that it is
+/// of whole lines, that no packet is foreign to its receiver, and that fewer than 2^63 moments are told; of the lines that they boot nodes of the header alone, and
+/// write to devices that are numbered from 1 on.
+pub fn lines_are_answered_in_each_run()
+    ensures { LinesAreAnswered }
+{}
+
+/// Each part of a round is the one that is due by what the lines tell, a line comes only outside of rounds, and `rounds done` where no part is left.
+pub fn rounds_are_told_in_each_run()
+    ensures { RoundsAreTold }
+{}
+
+/// At the end of a run of whole lines no round is left open.
+pub fn no_round_is_left_in_each_run()
+    ensures { NoRoundIsLeft }
 {}
 
 /// A request to seize a device is answered in the event in which it comes in the session, or the device is queued then, or the node goes down; an Install is
-/// answered by Ready, or the node has work then, or goes down. Nothing is said of an event behind which no packet number is left. This follows from the
-/// queues: while they are told, requests are of attempts, and Readies fit a packet.
-pub fn tasks_are_answered_where_queues_are_told()
-    ensures { TasksAreAnsweredWhereTold }
+/// answered by Ready, or the node has work then, or goes down. Nothing is said of an event behind which no packet number is left.
+pub fn tasks_are_answered_in_each_run()
+    ensures { TasksAreAnsweredInEachRun }
 {}
 
 /// In the event of the last device command of a task its Seized is sent, where it was asked for and no Install has come; and where one has, a Ready, unless a task
-/// is left; or the node goes down. Nothing is said of an event behind which no packet number is left. This follows from the queues too, where a node
-/// has installed its session exactly where an Install of it came.
-pub fn reports_are_sent_where_queues_are_told()
-    ensures { ReportsWhereTold }
+/// is left; or the node goes down. Nothing is said of an event behind which no packet number is left.
+pub fn reports_are_sent_in_each_run()
+    ensures { ReportsOfEachRun }
 {}
 
 /// Where an answer of another member is missing by the lines, to a Collect, to a request to seize a device or to an Install of an attempt, the attempt waits
@@ -210,3 +241,37 @@ pub fn lacks_are_missing_in_each_run()
 pub fn collects_are_missing_in_each_run()
     ensures { CollectsAreMissing }
 {}
+
+/// In each phase an attempt waits exactly for those other members of which an answer is missing by the lines. Nodes of the header alone boot there, and a packet number
+/// is left.
+pub fn awaited_are_told_in_each_run()
+    ensures { AwaitedAreTold }
+{}
+
+/// An attempt ends for want of an answer at the eighth tick of a phase, or a later one, by its lines, and names the least member of which an answer is missing: the
+/// coordinator itself where it has work at a device. Where the lines leave its queue open it may be itself, or the least of the others. Nodes of the header alone
+/// boot there, and a packet number is left.
+pub fn silents_are_caused_in_each_run()
+    ensures { SilentsAreCaused }
+{}
+
+/// In a tick that is the eighth of a phase by its lines, or a later one, an attempt does end so, where an answer is missing and the queue of its coordinator is told; or
+/// the coordinator goes down in it. It is supposed that fewer than 2^63 moments are told.
+pub fn attempts_end_in_each_run()
+    ensures { AttemptsEndInTime }
+{}
+
+/// Each run of ordinary lines that comes to its end is a history: what `history` asks of the lines of memberships, devices and updates holds of them, whole.
+pub fn histories_of_each_run()
+    ensures { HistoriesOfEachRun }
+{
+    run_packets::attempts_begin_as_wanted();
+}
+
+/// What plain lines come to is a trace of them: the moments of which it is the text are what can happen in one cluster, and a history.
+pub fn traces_of_each_run()
+    ensures { TracesOfEachRun }
+{
+    run_packets::attempts_begin_as_wanted();
+    run_packets::none_is_foreign_in_each_run();
+}

@@ -4,12 +4,14 @@
 //! - `repeats`: the Prepares that lack their Prepared go again.
 //! - `replies`: Orders, Collects and Prepares are answered.
 //! - `waiting`: the Requests of commands.
+//! - `again`: the Requests that lack their Answer go again.
 //! - `installs`: the Installs of a coordinator that installs, and the start of one that has no other member.
 //!
 //! Each function here is a law. It has no body, and its contract is proved of every header, every list of lines, everything that happens and
 //! all agents.
 #![tactic(auto)]
 
+ghost use Rattle.run_owed.specs.again.Laws.{RequestsAgainOfEachRun};
 ghost use Rattle.run_owed.specs.installs.Laws.{EachInstallOfEachRun, InstallsOfEachRun};
 ghost use Rattle.run_owed.specs.prepares.Laws.{OneNodeOfEachRun, PreparesOfEachRun};
 ghost use Rattle.run_owed.specs.repeats.Laws.{PreparesAgainOfEachRun};
@@ -56,6 +58,13 @@ pub fn prepares_are_answered_in_each_run()
 /// 2^63 lines, which number the commands, and while each command has 4,096 bytes at most, as each line of a schedule has.
 pub fn requests_of_each_run()
     ensures { RequestsOfEachRun }
+{}
+
+/// A member whose last Request went out three ticks ago sends it again at this tick, unless its Answer has come from the president since the node became a
+/// member, or the node goes down there. Nothing is said of an event behind which no packet number is left. This holds while the schedule has fewer than
+/// 2^63 lines, which number the commands.
+pub fn requests_again_of_each_run()
+    ensures { RequestsAgainOfEachRun }
 {}
 
 /// The canonical words of a command of 4,096 bytes at most have 65,536 bytes at most, so that a Request can carry them.

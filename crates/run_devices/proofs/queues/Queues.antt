@@ -130,7 +130,7 @@ work_of_first (t ∷ ts) [] queued k = absurd k
 pub some_same : (ts : List Task) (us : List told.Task) → Same (filter is_queued ts) us → nat_lt 0 (length us) ≡ is_some (due_in (first_of ts))
 some_same ts us k = work_of_first (filter is_queued ts) us (queued_so ts) k ∙ ap (λ o. is_some (due_in o)) (sym (first_found ts))
 
-length_same : (us : List told.Task) → length (map (λ (t : told.Task). t.device) us) ≡ length us
+pub length_same : (us : List told.Task) → length (map (λ (t : told.Task). t.device) us) ≡ length us
 length_same [] = refl
 length_same (u ∷ us) = ap suc (length_same us)
 

@@ -1,5 +1,5 @@
 -- Each run.
-use Rattle.std.specs.Prelude.{true, ℕ, ◌^◌, ◌≡◌, ◌≢◌, ◌≤◌, ◌<◌, ◌⊎◌, nat_lt, List, [], ◌∷◌, filter, length, map, Option, None, Some, is_some}
+use Rattle.std.specs.Prelude.{true, ℕ, ◌^◌, ◌≡◌, ◌≢◌, ◌≤◌, ◌<◌, ◌⊎◌, nat_lt, List, [], ◌∷◌, filter, length, Option, None, Some, is_some}
 use Rattle.std.proofs.Common.{refl, sym, ap, subst, ◌∙◌, inl, inr}
 use Rattle.cl_base.specs.Limits.{most_devices}
 use Rattle.cl_base.specs.Sets.{has}
@@ -62,7 +62,7 @@ use Rattle.run_devices.proofs.queues.Installing.{lines_show}
 use Rattle.run_devices.proofs.queues.Moments.{trusted_at}
 use Rattle.run_devices.proofs.queues.Steps.{Strict}
 use Rattle.run_devices.proofs.queues.Histories.{told_as_in_history}
-use Rattle.run_devices.proofs.queues.Queues.{work_same}
+use Rattle.run_devices.proofs.queues.Queues.{length_same, work_same}
 use Rattle.run_devices.proofs.queues.Tasks.{same_queue}
 
 -- ---- what is known at each point
@@ -217,13 +217,11 @@ queues_of_each_run h cells xs last S few small same disks may shaped n =
 
 -- ---- which nodes have work
 
-up_work : (S : Setting) (ms : List Moment) (n : ℕ) (node : Node) (ts : List told.Task) → IsUp node → told_alone S n ms ≡ Some ts → NodeHas node ts
-    → told.has_work S n ms ≡ is_some (due_at (Some node))
-up_work S ms n Down ts up is k = absurd up
-up_work S ms n (Up x) ts up is k =
-    ap (λ us. nat_lt 0 (length (map (λ (t : told.Task). t.device) (queued us)))) (told_as_in_history S n ms ts is) ∙ work_same x.tasks (queued ts) k.queue
+up_work : (node : Node) (ts : List told.Task) → IsUp node → NodeHas node ts → nat_lt 0 (length (queued ts)) ≡ is_some (due_at (Some node))
+up_work Down ts up k = absurd up
+up_work (Up x) ts up k = ap (nat_lt 0) (sym (length_same (queued ts))) ∙ work_same x.tasks (queued ts) k.queue
 
 pub work_of_each_run : WorkOfEachRun
 work_of_each_run h cells xs last S few small same disks may shaped n up ts is =
     let s : Scene = all_happened (first_cluster h) (first_scene h cells) xs in
-    up_work S s.moments n (s.nodes.node n) ts up is (queues_of_each_run h cells xs last S few small same disks may shaped n ts is)
+    up_work (s.nodes.node n) ts up (queues_of_each_run h cells xs last S few small same disks may shaped n ts is)

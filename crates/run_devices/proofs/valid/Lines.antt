@@ -32,7 +32,7 @@ use Rattle.run_history.specs.Scenes.{Scene, dropped_so, passing, sent_as, tellin
 
 -- ---- what shows nothing
 
-left_keys : (p : Progress) → keys_in (left_from p) ≡ keys_in p
+pub left_keys : (p : Progress) → keys_in (left_from p) ≡ keys_in p
 left_keys Begun = refl
 left_keys Reserved = refl
 left_keys (Saw keys) = refl

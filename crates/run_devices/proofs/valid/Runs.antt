@@ -58,9 +58,9 @@ armed_lasts P c (event.Fault n d done) s k = k
 armed_lasts P c _ s k = k
 
 -- what is known of a scene of a run
-record Known (h : Header) (s : Scene) (w : IsWhole (first_cluster h) s) : Type 0 where
-  order : InOrder (setting_of (first_cluster h)) w.machine
-  reading : IsReading h s
+pub record Known (h : Header) (s : Scene) (w : IsWhole (first_cluster h) s) : Type 0 where
+  pub order : InOrder (setting_of (first_cluster h)) w.machine
+  pub reading : IsReading h s
 
 -- the line of a command at a device
 abbrev CommandTold : ℕ → ℕ → PrCommand → Commanded → Moment
@@ -92,7 +92,7 @@ due_told h W ms n d k new old z m e j keys is = by_line (command_shows h ms n d 
     by_line (inr newly) =
         subst (λ y. Engaged (W.device y) m e) newly.device (subst (λ y. Engaged (W.device d) y e) newly.node (new m e j newly))
 
-lines_engaged : (h : Header) (s : Scene) (w : IsWhole (first_cluster h) s) (x : Happening) → MayHappen (first_cluster h) s x → Known h s w
+pub lines_engaged : (h : Header) (s : Scene) (w : IsWhole (first_cluster h) s) (x : Happening) → MayHappen (first_cluster h) s x → Known h s w
     → SeizersEngaged h w.machine s.moments → SeizersEngaged h w.machine (happened (first_cluster h) s x).moments
 lines_engaged h s w x may b k = by_happening x may
   where

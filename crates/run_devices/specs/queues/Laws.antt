@@ -112,9 +112,9 @@ DiskLinesOfEachRun = (h : Header) (cells : ℕ) (hs : List Happening) (S : Setti
 
 -- ---- which nodes have work
 
--- where the tasks of a node that is up are told, `history` tells whether it has a command due
+-- where the tasks of a node that is up are told, they show whether it has a command due
 abbrev pub TellsWork : Setting → Scene → ℕ → Type 0
-TellsWork S s n = IsUp (s.nodes.node n) → (tasks : List told.Task) → told_tasks S n s.moments ≡ Some tasks → told.has_work S n s.moments ≡ is_some (due_at (Some (s.nodes.node n)))
+TellsWork S s n = IsUp (s.nodes.node n) → (tasks : List told.Task) → told_tasks S n s.moments ≡ Some tasks → nat_lt 0 (length (queued tasks)) ≡ is_some (due_at (Some (s.nodes.node n)))
 
 abbrev pub WorkOfEachRun : Type 0
 WorkOfEachRun = (h : Header) (cells : ℕ) (hs : List Happening) (last : Due) (S : Setting) → length h.devices ≤ most_devices → h.cluster < 2 ^ 32 → S.header ≡ h → AreDisks h

@@ -1,6 +1,6 @@
 -- Of a node that is down the lines tell no task.
-use Rattle.std.specs.Prelude.{ℕ, ◌-◌, ◌==◌, ◌≡◌, ◌≢◌, ◌≤◌, ◌<◌, ◌^◌, ◌⊎◌, ◌++◌, not, nat_lt, All, false, List, [], ◌∷◌, Option, None, Some, length, map, slice_get}
-use Rattle.std.specs.List.{AllByRecursion, filter}
+use Rattle.std.specs.Prelude.{ℕ, ◌-◌, ◌==◌, ◌≡◌, ◌≢◌, ◌≤◌, ◌<◌, ◌^◌, ◌⊎◌, ◌++◌, nat_lt, All, Bool, true, false, List, [], ◌∷◌, if◌then◌else◌, Option, None, Some, is_some, length, map, slice_get}
+use Rattle.std.specs.List.{AllByRecursion}
 use Rattle.std.proofs.Common.{refl, sym, ap, subst, ◌∙◌, inl, inr}
 use Rattle.cl_base.specs.Limits.{most_devices}
 use Rattle.cl_base.specs.declared.header.Header.{Header}
@@ -9,8 +9,8 @@ use Rattle.cl_base.specs.declared.packet.DropCause.{DropCause}
 use Rattle.cmm_attempt.specs.Calls.{IsDevice}
 use Rattle.history.specs.Moment.{Said, Told}
 use Rattle.history.specs.Letters.{letter_of}
-use Rattle.history.specs.Member.{attempt_of}
-use Rattle.history.specs.Queue.{Task, has_work, is_over, requested, tasks_of, with_own}
+use Rattle.history.specs.Member.{attempt_of, member_of}
+use Rattle.history.specs.Queue.{Task, has_work, requested, tasks_of, unfinished, with_own}
 use Rattle.history.specs.Setting.{Setting}
 use Rattle.interconnect.specs.Links as net
 use Rattle.interconnect.specs.Links.{sending}
@@ -245,4 +245,8 @@ down_has_no_work h cells S devices small s r n down =
     let idle : DownsIdle S s =
     subst (λ z. DownsIdle S z) r.is
     (all_idle h cells S devices small r.happenings (first_scene h cells) (record { happenings = []; may = tt; is = refl }) r.may (first_idle h cells S)) in
-    ap (λ (ts : List Task). nat_lt 0 (length (map (λ (t : Task). t.device) (filter (λ (t : Task). not (is_over t.work)) ts)))) (idle n down)
+    by_test (is_some (member_of n s.moments)) (idle n down)
+  where
+    by_test : (b : Bool) → tasks_of S n s.moments ≡ [] → nat_lt 0 (length (map (λ (t : Task). t.device) (if b then [] else unfinished (tasks_of S n s.moments)))) ≡ false
+    by_test true none = refl
+    by_test false none = ap (λ (ts : List Task). nat_lt 0 (length (map (λ (t : Task). t.device) (unfinished ts)))) none

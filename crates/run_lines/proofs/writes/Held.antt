@@ -12,6 +12,7 @@ use Rattle.cluster_machine.specs.Cluster.{Cluster as Whole}
 use Rattle.cluster_ties.proofs.First.{in_order}
 use Rattle.cluster_ties.specs.Ties.{NodeAt, UpAt}
 use Rattle.cmm_attempt.proofs.Basics.{false_true, none_some, same_number, same_some}
+use Rattle.cmm_member.specs.Nodes.{NodeState}
 use Rattle.cmm_member.specs.Records.{NodeRecord}
 use Rattle.device_queue.specs.Queue as queue
 use Rattle.device_queue.specs.Queue.{join_of, joins}
@@ -118,41 +119,55 @@ task_so e d H J spoiled tasks (Some t) is none held so =
 
 -- ---- a member
 
--- what is known of it
-record Known (c : Cluster) (M : Memberships) (v : Ready) (ms : List Moment) (n d : ℕ) (x : UpNode) : Type 0 where
+-- what is known of a member
+record IsStarted (M : Memberships) (v : Ready) (ms : List Moment) (n : ℕ) (x : UpNode) : Type 0 where
   started : is_started (session_of x) ms ≡ true
   told : AllByRecursion (StartTold M) (starts ms)
   done : AllByRecursion (StartDone v) (starts ms)
   some : 0 < session_of x
   installed : installed_of x ≡ session_of x
   member : (M.epoch (session_of x)).members n ≡ true
-  joins : UpJoins c M ms n x
-  held : (M.epoch (session_of x)).counted ≡ true → has (state_of x.seat).joined d ≡ true → (M.epoch (session_of x)).holds d ≡ true
   at : (p : ℕ) → v n p → session_of x ≡ p → queue.joins x.tasks ≡ false
 
-up_held : (c : Cluster) (M : Memberships) (v : Ready) (ms : List Moment) (n d : ℕ) (x : UpNode) → Known c M v ms n d x → has_path c.attached n d ≡ true
-    → has_joined n d (session_of x) ms ≡ has (state_of x.seat).joined d
-up_held c M v ms n d x k path = by_start (start_of (session_of x) ms) refl
-  where
-    e : ℕ
-    e = session_of x
+-- its start is told, and by then it was ready
+record StartOf (M : Memberships) (ms : List Moment) (x : UpNode) : Type 0 where
+  start : Start
+  found : start_of (session_of x) ms ≡ Some start
+  told : StartTold M start
+  epoch : start.epoch ≡ session_of x
+  none : joins x.tasks ≡ false
 
+start_found : (M : Memberships) (v : Ready) (ms : List Moment) (n : ℕ) (x : UpNode) → IsStarted M v ms n x → StartOf M ms x
+start_found M v ms n x k = by_start (start_of (session_of x) ms) refl
+  where
     is_own : Start → Bool
     is_own s = s.epoch == session_of x
 
-    by_start : (o : Option Start) → start_of (session_of x) ms ≡ o → has_joined n d (session_of x) ms ≡ has (state_of x.seat).joined d
+    by_start : (o : Option Start) → start_of (session_of x) ms ≡ o → StartOf M ms x
     by_start None is = absurd (none_found is_own (starts ms) k.started is)
     by_start (Some s) is =
         let told : (is_own s ≡ true) × StartTold M s = found (StartTold M) is_own (starts ms) s k.told is in
         let done : (is_own s ≡ true) × StartDone v s = found (StartDone v) is_own (starts ms) s k.done is in
-        let epoch : s.epoch ≡ e = same_number s.epoch e told.0 in
-        let own : Installed c M ms n x = k.joins.joins k.some k.installed in
+        let epoch : s.epoch ≡ session_of x = same_number s.epoch (session_of x) told.0 in
         let member : is_member s.members n ≡ true = sym (told.1.members n) ∙ subst (λ q. (M.epoch q).members n ≡ true) (sym epoch) k.member in
-        let none : joins x.tasks ≡ false = k.at s.epoch (done.1 n member) (sym epoch) in
-        let held : (M.epoch e).holds d ≡ has s.held d = subst (λ q. (M.epoch q).holds d ≡ has s.held d) epoch (told.1.held d) in
-        ap (λ o. holds_in d o && not (is_spoiled n d e ms)) is
-        ∙ (ap (λ b. b && not (is_spoiled n d e ms)) (sym held)
-        ∙ task_so e d ((M.epoch e).holds d) (has (state_of x.seat).joined d) (is_spoiled n d e ms) x.tasks (join_of x.tasks d) refl none (k.held own.counted) (own.devices d path))
+        record { start = s; found = is; told = told.1; epoch = epoch; none = k.at s.epoch (done.1 n member) (sym epoch) }
+
+-- and of its joinings
+record Known (c : Cluster) (M : Memberships) (v : Ready) (ms : List Moment) (n d : ℕ) (x : UpNode) : Type 0 where
+  so : IsStarted M v ms n x
+  joins : UpJoins c M ms n x
+  held : (M.epoch (session_of x)).counted ≡ true → has (state_of x.seat).joined d ≡ true → (M.epoch (session_of x)).holds d ≡ true
+
+up_held : (c : Cluster) (M : Memberships) (v : Ready) (ms : List Moment) (n d : ℕ) (x : UpNode) → Known c M v ms n d x → has_path c.attached n d ≡ true
+    → has_joined n d (session_of x) ms ≡ has (state_of x.seat).joined d
+up_held c M v ms n d x k path =
+    let e : ℕ = session_of x in
+    let f : StartOf M ms x = start_found M v ms n x k.so in
+    let own : Installed c M ms n x = k.joins.joins k.so.some k.so.installed in
+    let held : (M.epoch e).holds d ≡ has f.start.held d = subst (λ q. (M.epoch q).holds d ≡ has f.start.held d) f.epoch (f.told.held d) in
+    ap (λ o. holds_in d o && not (is_spoiled n d e ms)) f.found
+    ∙ (ap (λ b. b && not (is_spoiled n d e ms)) (sym held)
+    ∙ task_so e d ((M.epoch e).holds d) (has (state_of x.seat).joined d) (is_spoiled n d e ms) x.tasks (join_of x.tasks d) refl f.none (k.held own.counted) (own.devices d path))
 
 -- ---- in the scene
 
@@ -173,26 +188,32 @@ is_among c M n x disk holds see some installed =
     subst (λ q. (M.epoch q).members n ≡ true) same
     ((holds.node n).ready_member (M.node n).saved.installed ((holds.node n).ready_last (subst (λ q. 0 < q) (sym same) some)))
 
-seat_held : (c : Cluster) (W : Whole) (v : Ready) (ms : List Moment) (n d : ℕ) (x : UpNode) (disk : NodeRecord) → InOrder (setting_of c) W → Holds (setting_of c) W.memberships
-    → NodeTied c W.memberships n disk (Up x) → JoinsFit x → UpAt c W n x → AllByRecursion (StartTold W.memberships) (starts ms) → AllByRecursion (StartDone v) (starts ms) → UpJoins c W.memberships ms n x
-    → ((p : ℕ) → v n p → session_of x ≡ p → joins x.tasks ≡ false) → has_path c.attached n d ≡ true → (z : Seat) → x.seat ≡ z → SeatLines n z ms → OfMember z → SeatHeld ms n d z
-seat_held c W v ms n d x disk order holds tied fit at told done joined none path (Forming s) is lines own = tt
-seat_held c W v ms n d x disk order holds tied fit at told done joined none path (Member s) is lines own =
-    let see : Sees W.memberships n disk (state_of x.seat) = sees c W.memberships n disk x.attempt x.seat tied.0 in
+-- a node that is a member
+started_by : (c : Cluster) (W : Whole) (v : Ready) (ms : List Moment) (n : ℕ) (x : UpNode) (disk : NodeRecord) → Holds (setting_of c) W.memberships → Sees W.memberships n disk (state_of x.seat)
+    → AllByRecursion (StartTold W.memberships) (starts ms) → AllByRecursion (StartDone v) (starts ms) → ((p : ℕ) → v n p → session_of x ≡ p → joins x.tasks ≡ false)
+    → (z : NodeState) → x.seat ≡ Member z → SeatLines n (Member z) ms → OfMember (Member z) → IsStarted W.memberships v ms n x
+started_by c W v ms n x disk holds see told done none z is lines own =
     let some : 0 < session_of x = subst (λ z. 0 < (state_of z).session) (sym is) own.0 in
     let installed : installed_of x ≡ session_of x = sym (subst (λ z. (state_of z).session ≡ (state_of z).saved.installed) (sym is) own.1) in
-    subst (λ z. has_joined n d (state_of z).session ms ≡ has (state_of z).joined d) is
-    (up_held c W.memberships v ms n d x (record {
+    record {
       started = subst (λ z. is_started (state_of z).session ms ≡ true) (sym is) lines.1;
       told = told;
       done = done;
       some = some;
       installed = installed;
       member = is_among c W.memberships n x disk holds see some installed;
-      joins = joined;
-      held = joined_holds c W n d x disk order see at;
       at = none;
-    }) path)
+    }
+
+seat_held : (c : Cluster) (W : Whole) (v : Ready) (ms : List Moment) (n d : ℕ) (x : UpNode) (disk : NodeRecord) → InOrder (setting_of c) W → Holds (setting_of c) W.memberships
+    → NodeTied c W.memberships n disk (Up x) → UpAt c W n x → AllByRecursion (StartTold W.memberships) (starts ms) → AllByRecursion (StartDone v) (starts ms) → UpJoins c W.memberships ms n x
+    → ((p : ℕ) → v n p → session_of x ≡ p → joins x.tasks ≡ false) → has_path c.attached n d ≡ true → (z : Seat) → x.seat ≡ z → SeatLines n z ms → OfMember z → SeatHeld ms n d z
+seat_held c W v ms n d x disk order holds tied at told done joined none path (Forming s) is lines own = tt
+seat_held c W v ms n d x disk order holds tied at told done joined none path (Member s) is lines own =
+    let see : Sees W.memberships n disk (state_of x.seat) = sees c W.memberships n disk x.attempt x.seat tied.0 in
+    subst (λ z. has_joined n d (state_of z).session ms ≡ has (state_of z).joined d) is
+    (up_held c W.memberships v ms n d x
+    (record { so = started_by c W v ms n x disk holds see told done none s is lines own; joins = joined; held = joined_holds c W n d x disk order see at }) path)
 
 node_held : (c : Cluster) (W : Whole) (v : Ready) (ms : List Moment) (n d : ℕ) (node : Node) (disk : NodeRecord) → InOrder (setting_of c) W → Holds (setting_of c) W.memberships
     → NodeTied c W.memberships n disk node → JoinsIn node → NodeAt c W n disk node → AllByRecursion (StartTold W.memberships) (starts ms) → AllByRecursion (StartDone v) (starts ms)
@@ -201,7 +222,11 @@ node_held c W v ms n d Down disk order holds tied fit at told done joined own li
 node_held c W v ms n d (Up x) disk order holds tied fit at told done joined own lines =
     λ path.
     let f : Facts x = facts_of c W.memberships n disk x holds tied fit in
-    seat_held c W v ms n d x disk order holds tied fit at told done joined (λ p k here. ((own p k).done.1 here).1) path x.seat refl lines.1 f.member
+    seat_held c W v ms n d x disk order holds tied at told done joined (λ p k here. ((own p k).done.1 here).1) path x.seat refl lines.1 f.member
+
+all_started : (c : Cluster) (M : Memberships) (s : Scene) → Settled c M s → AllByRecursion (StartDone (DoneIn s.nodes)) (starts s.moments)
+all_started c M s b =
+    subst (λ xs. AllByRecursion (StartDone (DoneIn s.nodes)) xs) (sym (starts_are_deeds s.moments b.closed.lines b.closed.due)) (starts_done (DoneIn s.nodes) (deeds s.moments) b.deeds_so)
 
 pub held_of_each_run : (h : Header) (cells : ℕ) (hs : List Happening) → length h.devices ≤ most_devices → h.cluster < 2 ^ 32 → AreDisks h → MayAllHappen (first_cluster h) (first_scene h cells) hs
     → (n d : ℕ) → (let s : Scene = all_happened (first_cluster h) (first_scene h cells) hs in NodeHeld (first_cluster h) s.moments n d (s.nodes.node n))
@@ -213,7 +238,42 @@ held_of_each_run h cells hs few small disks may n d =
     let w : IsWhole c s = r.scene in
     let W : Whole = w.machine in
     let b : Settled c W.memberships s = r.settled in
-    let done : AllByRecursion (StartDone (DoneIn s.nodes)) (starts s.moments) =
-    subst (λ xs. AllByRecursion (StartDone (DoneIn s.nodes)) xs) (sym (starts_are_deeds s.moments b.closed.lines b.closed.due)) (starts_done (DoneIn s.nodes) (deeds s.moments) b.deeds_so) in
+    let done : AllByRecursion (StartDone (DoneIn s.nodes)) (starts s.moments) = all_started c W.memberships s b in
     node_held c W (DoneIn s.nodes) s.moments n d (s.nodes.node n) (s.nodes.disk n).kept (in_order (setting_of c) W w.reached) (whole_holds (setting_of c) W w.reached) (w.sites n).tied (w.sites n).joins (w.sites n).at
     (starts_of_each_run h cells hs cuts W.memberships few may r.run) done (b.joins n) (λ p k. k) ((members_of_each_run h cells hs few may).nodes n)
+
+-- ---- a member joins nothing more
+
+abbrev pub SeatDone : UpNode → Seat → Type 0
+SeatDone x (Forming s) = Unit {0}
+SeatDone x (Member s) = (installed_of x ≡ session_of x) × (joins x.tasks ≡ false)
+
+abbrev pub MemberDone : Node → Type 0
+MemberDone Down = Unit {0}
+MemberDone (Up x) = SeatDone x x.seat
+
+node_done : (c : Cluster) (W : Whole) (v : Ready) (ms : List Moment) (n : ℕ) (node : Node) (disk : NodeRecord) → Holds (setting_of c) W.memberships → NodeTied c W.memberships n disk node → JoinsIn node
+    → AllByRecursion (StartTold W.memberships) (starts ms) → AllByRecursion (StartDone v) (starts ms) → ((p : ℕ) → v n p → SiteDone (record { node = node; disk = disk }) p) → NodeLines n node ms → MemberDone node
+node_done c W v ms n Down disk holds tied fit told done own lines = tt
+node_done c W v ms n (Up x) disk holds tied fit told done own lines =
+    by_seat x.seat refl lines.1 (facts_of c W.memberships n disk x holds tied fit).member
+  where
+    by_seat : (z : Seat) → x.seat ≡ z → SeatLines n z ms → OfMember z → SeatDone x z
+    by_seat (Forming s) is seat member = tt
+    by_seat (Member s) is seat member =
+        let k : IsStarted W.memberships v ms n x =
+        started_by c W v ms n x disk holds (sees c W.memberships n disk x.attempt x.seat tied.0) told done (λ p k here. ((own p k).done.1 here).1) s is seat member in
+        (k.installed, (start_found W.memberships v ms n x k).none)
+
+pub members_are_done : (h : Header) (cells : ℕ) (hs : List Happening) → length h.devices ≤ most_devices → h.cluster < 2 ^ 32 → AreDisks h → MayAllHappen (first_cluster h) (first_scene h cells) hs
+    → (n : ℕ) → MemberDone ((all_happened (first_cluster h) (first_scene h cells) hs).nodes.node n)
+members_are_done h cells hs few small disks may n =
+    let c : Cluster = first_cluster h in
+    let cuts : CutsOf h cells hs = runs_are_cut h cells hs in
+    let r : Settles c first_memberships (first_scene h cells) hs cuts = each_run_settles h cells hs cuts few small disks may in
+    let s : Scene = all_happened c (first_scene h cells) hs in
+    let w : IsWhole c s = r.scene in
+    let W : Whole = w.machine in
+    let b : Settled c W.memberships s = r.settled in
+    node_done c W (DoneIn s.nodes) s.moments n (s.nodes.node n) (s.nodes.disk n).kept (whole_holds (setting_of c) W w.reached) (w.sites n).tied (w.sites n).joins
+    (starts_of_each_run h cells hs cuts W.memberships few may r.run) (all_started c W.memberships s b) (λ p k. k) ((members_of_each_run h cells hs few may).nodes n)

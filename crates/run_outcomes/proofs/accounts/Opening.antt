@@ -2,6 +2,7 @@
 use Rattle.std.specs.Prelude.{ℕ, suc, ◌≡◌, ◌==◌, ◌++◌, Bool, true, false, List, [], ◌∷◌, length, None, Some, IfSome, if◌then◌else◌}
 use Rattle.std.specs.Option.{option_and_then}
 use Rattle.std.proofs.Common.{arith, refl, sym, ap, subst, ◌∙◌}
+use Rattle.history.specs.Attempts.{IsAccounted}
 use Rattle.history.specs.Moment.{Moment}
 use Rattle.history.specs.Order.{before_last}
 use Rattle.history.specs.Seizing.{is_start}
@@ -9,8 +10,7 @@ use Rattle.history.specs.Setting.{Setting}
 use Rattle.history.specs.Starts.{Start, base_so_far, start_so_far}
 use Rattle.history.specs.Trace.{base, start}
 use Rattle.run_seizings.proofs.Progress.{if_so, no_truth, same_is}
-use Rattle.run_outcomes.specs.accounts.Kept.{AreExplained}
-use Rattle.run_outcomes.specs.accounts.Laws.{IsExplained}
+use Rattle.run_outcomes.specs.accounts.Kept.{AreAccounted}
 use Rattle.run_outcomes.specs.results.Shown.{StartShown}
 
 -- the line of this start was told after these moments, and the first of its updates since
@@ -37,16 +37,16 @@ none_left (x ∷ done) left is = ap (λ (us : List (List ℕ)). x ∷ us) (none_
     less : (a b : ℕ) → (suc a == suc b) ≡ true → (a == b) ≡ true
     less a b k = grind arith
 
-pub opening_shown : (S : Setting) (st : Start) (before : List Moment) (updates done left : List (List ℕ)) (ms : List Moment) → updates ≡ done ++ left → st.count ≡ length updates → AreExplained S st updates before
+pub opening_shown : (S : Setting) (st : Start) (before : List Moment) (updates done left : List (List ℕ)) (ms : List Moment) → updates ≡ done ++ left → st.count ≡ length updates → AreAccounted S st updates before
     → Opening st before done ms → StartShown S ms
-opening_shown S st before updates done left ms cut count explained k =
-    subst (λ o. IfSome (option_and_then (λ (s : Start). if length (base_so_far ms) == s.count then Some s else None) o) (λ s. IsExplained S ms s (base_so_far ms))) (sym k.so_far)
+opening_shown S st before updates done left ms cut count accounted k =
+    subst (λ o. IfSome (option_and_then (λ (s : Start). if length (base_so_far ms) == s.count then Some s else None) o) (λ s. IsAccounted S ms s (base_so_far ms))) (sym k.so_far)
     (by_test (length (base_so_far ms) == st.count) refl)
   where
     whole : (length (base_so_far ms) == st.count) ≡ true → updates ≡ base_so_far ms
     whole is =
         cut ∙ (sym (none_left done left (subst (λ us. (length done == length us) ≡ true) cut (subst (λ j. (length done == j) ≡ true) count (subst (λ us. (length us == st.count) ≡ true) k.updates is)))) ∙ sym k.updates)
 
-    by_test : (b : Bool) → (length (base_so_far ms) == st.count) ≡ b → IfSome (if b then Some st else None) (λ s. IsExplained S ms s (base_so_far ms))
-    by_test true is = subst (λ us. IsExplained S ms st us) (whole is) (subst (λ zs. AreExplained S st updates zs) (sym k.last) explained)
+    by_test : (b : Bool) → (length (base_so_far ms) == st.count) ≡ b → IfSome (if b then Some st else None) (λ s. IsAccounted S ms s (base_so_far ms))
+    by_test true is = subst (λ us. IsAccounted S ms st us) (whole is) (subst (λ zs. AreAccounted S st updates zs) (sym k.last) accounted)
     by_test false is = tt

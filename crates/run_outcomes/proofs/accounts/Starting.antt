@@ -1,11 +1,10 @@
 -- An attempt that starts accounts for each device of the header.
-use Rattle.std.specs.Prelude.{ℕ, ◌+◌, ◌-◌, ◌≡◌, ◌<◌, ◌≤◌, ◌++◌, ◌==◌, ◌&&◌, ◌||◌, ◌⊎◌, not, Bool, true, false, fold, Contains, List, [], ◌∷◌, Option, None, Some, filter, is_some, length, suc, zero, if◌then◌else◌}
+use Rattle.std.specs.Prelude.{ℕ, ◌+◌, ◌-◌, ◌≡◌, ◌<◌, ◌≤◌, ◌++◌, ◌==◌, ◌&&◌, ◌||◌, ◌⊎◌, Bool, true, false, fold, Contains, List, [], ◌∷◌, Option, None, Some, filter, is_some, length, suc, zero, if◌then◌else◌}
 use Rattle.std.specs.List.{AllByRecursion, list_all, list_any}
-use Rattle.std.proofs.lemmas.List.Elements.{All-contains}
+use Rattle.std.proofs.lemmas.List.Elements.{All-contains, All-from_recursion}
 use Rattle.std.proofs.Common.{refl, sym, ap, subst, ◌∙◌, inl, inr, arith}
 use Rattle.attempt_laws.proofs.MachineLemmas.{starts_follow}
 use Rattle.attempt_laws.proofs.Sends.{Contains-here, Contains-later}
-use Rattle.attempt_laws.proofs.Plain.{plain_has_no_votes}
 use Rattle.attempt_laws.proofs.Stays.{plan_stays}
 use Rattle.cl_base.specs.Seizings.{SeizeResult}
 use Rattle.cl_base.specs.Sets.{has, set_with}
@@ -36,19 +35,19 @@ use Rattle.run_seizings.proofs.Progress.{no_truth, or_left, or_right}
 use Rattle.world_model.specs.First.{attached_from}
 use Rattle.run_outcomes.proofs.accounts.Completes.{Complete, devices_stand, reached_completes}
 use Rattle.run_outcomes.proofs.accounts.Explained.{IsOther, fifth_of_five, first_four, is_shown_lost, lost_so}
-use Rattle.run_outcomes.proofs.accounts.Votes.{Installed, enabled_quorum, quorum_enabled}
+use Rattle.run_outcomes.proofs.accounts.Votes.{Installed, quorum_enabled}
 use Rattle.run_outcomes.proofs.counts.Places.{IsAt, at_place}
-use Rattle.run_outcomes.proofs.results.Lacking.{Known, barred_all, sent_without}
+use Rattle.run_outcomes.proofs.results.Lacking.{Known, barred_all}
 use Rattle.run_outcomes.proofs.results.Listed.{set_more}
 use Rattle.run_outcomes.proofs.results.Marks.{more_has}
 use Rattle.run_outcomes.proofs.results.Stays.{both_true}
 use Rattle.run_outcomes.proofs.shown.Entries.{EntryOk, entries_reached}
-use Rattle.run_outcomes.specs.results.Tried.{Tried}
 use Rattle.seize.specs.declared.kind.SeizeKind.{SeizeKind}
 use Rattle.seize.specs.declared.kind.SeizeKind.TheVariants.{Plain, Vote}
-use Rattle.run_outcomes.specs.accounts.Kept.{AreExplained, is_explained_by}
-use Rattle.run_outcomes.specs.accounts.Laws.{has_votes_by, is_barred_to_some}
-use Rattle.run_outcomes.specs.results.Shown.{AttemptShown, EndShown, EntryTold, IsAmong, ShowsNot, Was}
+use Rattle.run_outcomes.specs.accounts.Kept.{AreAccounted, is_accounted_by}
+use Rattle.run_outcomes.specs.accounts.Unregistered.{AreKept, EntryKept}
+use Rattle.run_outcomes.specs.tasks.Laws.{IsUnregistered}
+use Rattle.run_outcomes.specs.results.Shown.{AttemptShown, EndShown, EntryTold, IsAmong, Was}
 
 -- ---- held sets
 
@@ -79,13 +78,13 @@ same_self : (a : ℕ) → (a == a) ≡ true
 same_self a = grind arith
 
 -- what its entry tells of a device, that it is held or why it is not
-entry_explains : (P : Seizing → Type 0) (Q : Type 0) (whole es : List Seizing) (set d : ℕ) → (1 ≤ d) × (d ≤ 32) → ((z : Seizing) → Contains es z → Contains whole z)
+entry_accounts : (P : Seizing → Type 0) (Q : Type 0) (whole es : List Seizing) (set d : ℕ) → (1 ≤ d) × (d ≤ 32) → ((z : Seizing) → Contains es z → Contains whole z)
     → ((z : Seizing) (r : SeizeResult) → Contains whole z → z.attached.device ≡ d → z.result ≡ Some r → P z → (is_held_by (Some r) ≡ true) ⊎ Q)
     → is_seized es d ≡ true → all_settled es ≡ true → AllByRecursion P es → (has (fold with_held set es) d ≡ true) ⊎ Q
-entry_explains P Q whole [] set d low inside f seized settled k = absurd (no_truth seized)
-entry_explains P Q whole (e ∷ es) set d low inside f seized settled k =
+entry_accounts P Q whole [] set d low inside f seized settled k = absurd (no_truth seized)
+entry_accounts P Q whole (e ∷ es) set d low inside f seized settled k =
     let two : (is_some e.result ≡ true) × (all_settled es ≡ true) = and_cases (is_some e.result) (all_settled es) settled in
-    by_device (e.attached.device == d) refl seized two.0 (λ rest. entry_explains P Q whole es (with_held set e) d low (λ z later. inside z (Contains-later e es z later)) f rest two.1 k.1)
+    by_device (e.attached.device == d) refl seized two.0 (λ rest. entry_accounts P Q whole es (with_held set e) d low (λ z later. inside z (Contains-later e es z later)) f rest two.1 k.1)
   where
     by_found : (r : SeizeResult) → e.result ≡ Some r → e.attached.device ≡ d → (is_held_by (Some r) ≡ true) ⊎ Q → (has (fold with_held (with_held set e) es) d ≡ true) ⊎ Q
     by_found r is at (inr lost) = inr lost
@@ -119,22 +118,6 @@ any_of f (m ∷ ns) none = by_test (f m) refl none (any_of f ns)
     by_test true is none next = (m, (or_left (m == m) (list_any (λ j. j == m) ns) (same_self m), is))
     by_test false is none next = let k : (n : ℕ) × (IsAmong n ns × (f n ≡ true)) = next none in (k.0, (or_right (m == k.0) (list_any (λ j. j == k.0) ns) k.1.0, k.1.1))
 
--- of those that pass the first test one passes the second
-among_any : (test f : ℕ → Bool) (ns : List ℕ) (n : ℕ) → IsAmong n ns → test n ≡ true → f n ≡ true → list_any f (filter test ns) ≡ true
-among_any test f [] n among passes is = absurd (no_truth among)
-among_any test f (m ∷ ns) n among passes is = by_same (m == n) refl among (among_any test f ns n)
-  where
-    more : list_any f (filter test ns) ≡ true → (b : Bool) → list_any f (if b then m ∷ filter test ns else filter test ns) ≡ true
-    more k true = or_right (f m) (list_any f (filter test ns)) k
-    more k false = k
-
-    by_same : (b : Bool) → (m == n) ≡ b → (b || list_any (λ j. j == n) ns) ≡ true → (IsAmong n ns → test n ≡ true → f n ≡ true → list_any f (filter test ns) ≡ true)
-        → list_any f (if test m then m ∷ filter test ns else filter test ns) ≡ true
-    by_same true same k next =
-        subst (λ b. list_any f (if b then m ∷ filter test ns else filter test ns) ≡ true) (sym (subst (λ j. test j ≡ true) (sym (same_number m n same)) passes))
-        (or_left (f m) (list_any f (filter test ns)) (subst (λ j. f j ≡ true) (sym (same_number m n same)) is))
-    by_same false other k next = more (next k passes is) (test m)
-
 among_reaches : (test : ℕ → Bool) (ns : List ℕ) (n : ℕ) → IsAmong n ns → test n ≡ true → list_any test ns ≡ true
 among_reaches test [] n among passes = absurd (no_truth among)
 among_reaches test (m ∷ ns) n among passes = by_same (m == n) refl among (among_reaches test ns n)
@@ -159,35 +142,33 @@ all_within P (suc k) h = one_more P (all_to k) (suc k) (all_within P k (λ m low
 
 -- ---- what is shown of it
 
--- why a device is not held
-abbrev Lost : Setting → ℕ → ℕ → List (List ℕ) → List Moment → Type 0
-Lost S e d updates ms = (is_not_held S e d updates ms ≡ true) ⊎ ((not (has_votes_by S d updates) && is_barred_to_some S.header e d ms) ≡ true)
+account : (a b c : Bool) → (a ≡ true) ⊎ (c ≡ true) → (a || b || c) ≡ true
+account true b c k = refl
+account false true c k = refl
+account false false c (inl k) = absurd (no_truth k)
+account false false c (inr k) = k
 
-explains : (a b c f : Bool) → (a ≡ true) ⊎ ((c ≡ true) ⊎ (f ≡ true)) → ((a || b || c) || f) ≡ true
-explains true b c f k = refl
-explains false true c f k = refl
-explains false false true f k = refl
-explains false false false f (inl k) = absurd (no_truth k)
-explains false false false f (inr (inl k)) = absurd (no_truth k)
-explains false false false f (inr (inr k)) = k
-
-no_member : (a b c f : Bool) → b ≡ true → ((a || b || c) || f) ≡ true
-no_member true b c f k = refl
-no_member false true c f k = refl
-no_member false false c f k = absurd (no_truth k)
+no_member : (a b c : Bool) → b ≡ true → (a || b || c) ≡ true
+no_member true b c k = refl
+no_member false true c k = refl
+no_member false false c k = absurd (no_truth k)
 
 -- what is known of an attempt that has installed this base
 record Opens (h : Header) (c : Cluster) (ms : List Moment) (updates : List (List ℕ)) (a : AttemptState) : Type 0 where
   session : ℕ
   so : AttemptShown h ms session a
   at : a.phase ≡ Installing
+  kept : AreKept a
   votes : Installed (setting_of h) c a updates
 
--- what the entries tell, whoever is seized last
-told_explains : (h : Header) (c : Cluster) (ms : List Moment) (updates : List (List ℕ)) (a : AttemptState) → Opens h c ms updates a → (d m : ℕ) → IsDevice h d → IsAmong m a.plan.nodes → has (paths_of h d) m ≡ true
-    → (z : Seizing) (r : SeizeResult) → Contains a.devices z → z.attached.device ≡ d → z.result ≡ Some r → EntryTold (Was h ms a.plan.epoch) a.plan a.promises z
-    → (is_held_by (Some r) ≡ true) ⊎ Lost (setting_of h) a.plan.epoch d updates ms
-told_explains h c ms updates a o d m is among path z r listed here result told = by_result r result
+-- why a device is not held
+abbrev Lost : Setting → ℕ → ℕ → List (List ℕ) → List Moment → Type 0
+Lost S e d updates ms = is_not_held S e d updates ms ≡ true
+
+-- what its entry tells, whoever is seized last
+told_accounts : (h : Header) (c : Cluster) (ms : List Moment) (updates : List (List ℕ)) (a : AttemptState) → Opens h c ms updates a → (d : ℕ) → (z : Seizing) (r : SeizeResult) → Contains a.devices z → z.attached.device ≡ d
+    → z.result ≡ Some r → EntryTold (Was h ms a.plan.epoch) a.plan a.promises z → (is_held_by (Some r) ≡ true) ⊎ Lost (setting_of h) a.plan.epoch d updates ms
+told_accounts h c ms updates a o d z r listed here result told = by_result r result
   where
     e : ℕ
     e = a.plan.epoch
@@ -201,39 +182,28 @@ told_explains h c ms updates a o d m is among path z r listed here result told =
     known : Known h ms both_votes.committed a
     known = record { members = o.so.of.1; plan = o.so.plan; promises = o.so.promises; rests = o.so.rests; reached = o.so.reached; both = both_votes; given = o.votes.given; one = inl refl }
 
+    kept : EntryKept z
+    kept = All-contains EntryKept a.devices z (All-from_recursion EntryKept a.devices o.kept) listed
+
     lost : is_shown_lost h e d ms ≡ true → (is_held_by (Some r) ≡ true) ⊎ Lost S e d updates ms
     lost k =
-        inr (inl (first_four (some_member e ms (shows_greater e d)) (is_ended_so h e d ms Expelled) (some_member e ms (shows_contention h (members_of e ms) d)) (is_ended_so h e d ms Fault)
-        (is_enabled_for S d updates && is_ended_so h e d ms (NotRegistered tt)) k))
-
-    -- an attached member may not seize a device without votes
-    barred : (n : ℕ) → z.kind ≡ Plain → IsAmong n a.plan.nodes → has (paths_of h d) n ≡ true → is_unregistered h e d ms n ≡ true → (is_held_by (Some r) ≡ true) ⊎ Lost S e d updates ms
-    barred n kind there reaches so_is =
-        inr (inr (both_true (not (has_votes_by S d updates)) (is_barred_to_some h e d ms)
-        (ap not (enabled_quorum S both_votes updates d o.votes.base (subst (λ j. is_quorum both_votes j ≡ false) here (plain_has_no_votes a both_votes z o.so.reached o.votes.given listed kind))))
-        (among_any (λ j. has (paths_of h d) j) (is_unregistered h e d ms) (nodes_of (members_of e ms)) n (subst (λ ns. IsAmong n ns) (o.so.plan.nodes ∙ ap nodes_of (sym o.so.of.1)) there) reaches so_is)))
+        inr (first_four (some_member e ms (shows_greater e d)) (is_ended_so h e d ms Expelled) (some_member e ms (shows_contention h (members_of e ms) d)) (is_ended_so h e d ms Fault)
+        (is_enabled_for S d updates && is_ended_so h e d ms (NotRegistered tt)) k)
 
     -- each attached member may not seize a quorum device
     all_barred : (keys : List ℕ) → r ≡ end.NotRegistered keys → z.kind ≡ Vote → (is_held_by (Some r) ≡ true) ⊎ Lost S e d updates ms
     all_barred keys same kind =
-        inr (inl (fifth_of_five (some_member e ms (shows_greater e d)) (is_ended_so h e d ms Expelled) (some_member e ms (shows_contention h (members_of e ms) d)) (is_ended_so h e d ms Fault)
+        inr (fifth_of_five (some_member e ms (shows_greater e d)) (is_ended_so h e d ms Expelled) (some_member e ms (shows_contention h (members_of e ms) d)) (is_ended_so h e d ms Fault)
         (is_enabled_for S d updates && is_ended_so h e d ms (NotRegistered tt))
         (both_true (is_enabled_for S d updates) (is_ended_so h e d ms (NotRegistered tt))
         (quorum_enabled S both_votes updates d o.votes.base
         (subst (λ j. is_quorum both_votes j ≡ true) here ((All-contains (EntryOk a.promises a.votes) a.devices z (entries_reached a o.so.reached) listed).quorum kind both_votes o.votes.given)))
-        (subst (λ j. list_all (is_unregistered h e j ms) (attached_members h j (members_of e ms)) ≡ true) here (barred_all h ms both_votes.committed a z keys known told kind (result ∙ ap Some same))))))
+        (subst (λ j. list_all (is_unregistered h e j ms) (attached_members h j (members_of e ms)) ≡ true) here (barred_all h ms both_votes.committed a z keys known told kind (result ∙ ap Some same)))))
 
-    nodes : z.attached.nodes ≡ paths_of h d
-    nodes = told.place.nodes ∙ ap (λ j. paths_of h j) here
-
-    by_kind : (keys : List ℕ) → r ≡ end.NotRegistered keys → (kind : SeizeKind) → z.kind ≡ kind → (s : Option ℕ) → z.seizer ≡ s → (is_held_by (Some r) ≡ true) ⊎ Lost S e d updates ms
-    by_kind keys same Vote kind s seizer = all_barred keys same kind
-    by_kind keys same Plain kind (Some n) seizer =
-        barred n kind (told.among n seizer).0 (subst (λ ns. has ns n ≡ true) nodes (told.among n seizer).1)
-        ((subst (λ j. Tried h e j ms n keys) here (told.told n (end.NotRegistered keys) seizer (result ∙ ap Some same))).without is)
-    by_kind keys same Plain kind None seizer =
-        barred m kind among path (sent_without h ms e d m a.promises is
-        (subst (λ j. ShowsNot a.promises j m) here (told.shows m among ((told.nobody seizer).1 m among (subst (λ ns. has ns m ≡ true) (sym nodes) path)))) o.so.promises)
+    -- another device is not seized so
+    by_kind : (keys : List ℕ) → r ≡ end.NotRegistered keys → (kind : SeizeKind) → z.kind ≡ kind → (is_held_by (Some r) ≡ true) ⊎ Lost S e d updates ms
+    by_kind keys same Vote kind = all_barred keys same kind
+    by_kind keys same Plain kind = absurd (kept kind (subst IsUnregistered (sym (result ∙ ap Some same)) tt))
 
     by_other : (s : Option ℕ) → z.seizer ≡ s → IsOther r → ((keys : List ℕ) → r ≡ end.NotRegistered keys → ⊥) → (is_held_by (Some r) ≡ true) ⊎ Lost S e d updates ms
     by_other (Some n) seizer other none = lost (lost_so h e d n ms r other (subst (λ j. EndShown h e j ms n r) here (told.told n r seizer result)))
@@ -241,18 +211,18 @@ told_explains h c ms updates a o d m is among path z r listed here result told =
 
     by_result : (s : SeizeResult) → z.result ≡ Some s → (is_held_by (Some r) ≡ true) ⊎ Lost S e d updates ms
     by_result (end.Held keys) at = inl (ap is_held_by (sym result ∙ at))
-    by_result (end.NotRegistered keys) at = by_kind keys (same_some r (end.NotRegistered keys) (sym result ∙ at)) z.kind refl z.seizer refl
+    by_result (end.NotRegistered keys) at = by_kind keys (same_some r (end.NotRegistered keys) (sym result ∙ at)) z.kind refl
     by_result (end.Greater w) at = by_other z.seizer refl (subst IsOther (same_some (end.Greater w) r (sym at ∙ result)) tt) (λ keys same. cc)
     by_result end.Expelled at = by_other z.seizer refl (subst IsOther (same_some end.Expelled r (sym at ∙ result)) tt) (λ keys same. cc)
     by_result (end.Contended key) at = by_other z.seizer refl (subst IsOther (same_some (end.Contended key) r (sym at ∙ result)) tt) (λ keys same. cc)
     by_result end.Fault at = by_other z.seizer refl (subst IsOther (same_some end.Fault r (sym at ∙ result)) tt) (λ keys same. cc)
 
 -- a device to which a member is attached
-attached_explained : (h : Header) (c : Cluster) (ms : List Moment) (updates : List (List ℕ)) (a : AttemptState) → Opens h c ms updates a → (d : ℕ) → IsDevice h d → d ≤ 32
+attached_accounted : (h : Header) (c : Cluster) (ms : List Moment) (updates : List (List ℕ)) (a : AttemptState) → Opens h c ms updates a → (d : ℕ) → IsDevice h d → d ≤ 32
     → (length (attached_members h d a.plan.members) == 0) ≡ false → (has (held_set a.devices) d ≡ true) ⊎ Lost (setting_of h) a.plan.epoch d updates ms
-attached_explained h c ms updates a o d is high some =
-    entry_explains (λ z. EntryTold (Was h ms a.plan.epoch) a.plan a.promises z) (Lost (setting_of h) a.plan.epoch d updates ms) a.devices a.devices 0 d (is.0, high) (λ z listed. listed)
-    (λ z r listed here result told. told_explains h c ms updates a o d member.0 is there member.1.1 z r listed here result told) seized done.0 o.so.rests.entries
+attached_accounted h c ms updates a o d is high some =
+    entry_accounts (λ z. EntryTold (Was h ms a.plan.epoch) a.plan a.promises z) (Lost (setting_of h) a.plan.epoch d updates ms) a.devices a.devices 0 d (is.0, high) (λ z listed. listed)
+    (λ z r listed here result told. told_accounts h c ms updates a o d z r listed here result told) seized done.0 o.so.rests.entries
   where
     member : (n : ℕ) × (IsAmong n (nodes_of a.plan.members) × (has (paths_of h d) n ≡ true))
     member = any_of (λ m. has (paths_of h d) m) (nodes_of a.plan.members) some
@@ -277,32 +247,30 @@ attached_explained h c ms updates a o d is high some =
         at_all (λ (x : AttachedDevice). is_reachable a.plan x ≡ true → is_seized a.devices x.device ≡ true) 1 h.devices d (record { device = d; nodes = paths_of h d }) placed
         (subst (λ xs. Complete a.plan a.devices xs) o.so.plan.all done.1) (among_reaches (λ n. has (paths_of h d) n) a.plan.nodes member.0 there member.1.1)
 
-device_explained : (h : Header) (c : Cluster) (ms : List Moment) (updates : List (List ℕ)) (a : AttemptState) (count : ℕ) → Opens h c ms updates a → (d : ℕ) → IsDevice h d → d ≤ 32
-    → is_explained_by (setting_of h) (record { epoch = a.plan.epoch; members = a.plan.members; held = held_set a.devices; count = count }) updates ms d ≡ true
-device_explained h c ms updates a count o d is high = by_empty (length (attached_members h d a.plan.members) == 0) refl
+device_accounted : (h : Header) (c : Cluster) (ms : List Moment) (updates : List (List ℕ)) (a : AttemptState) (count : ℕ) → Opens h c ms updates a → (d : ℕ) → IsDevice h d → d ≤ 32
+    → is_accounted_by (setting_of h) (record { epoch = a.plan.epoch; members = a.plan.members; held = held_set a.devices; count = count }) updates ms d ≡ true
+device_accounted h c ms updates a count o d is high = by_empty (length (attached_members h d a.plan.members) == 0) refl
   where
     S : Setting
     S = setting_of h
 
     by_empty : (b : Bool) → (length (attached_members h d a.plan.members) == 0) ≡ b
-        → is_explained_by S (record { epoch = a.plan.epoch; members = a.plan.members; held = held_set a.devices; count = count }) updates ms d ≡ true
+        → is_accounted_by S (record { epoch = a.plan.epoch; members = a.plan.members; held = held_set a.devices; count = count }) updates ms d ≡ true
     by_empty true none =
-        no_member (has (held_set a.devices) d) (length (attached_members h d a.plan.members) == 0) (is_not_held S a.plan.epoch d updates ms)
-        (not (has_votes_by S d updates) && is_barred_to_some h a.plan.epoch d ms) none
+        no_member (has (held_set a.devices) d) (length (attached_members h d a.plan.members) == 0) (is_not_held S a.plan.epoch d updates ms) none
     by_empty false some =
-        explains (has (held_set a.devices) d) (length (attached_members h d a.plan.members) == 0) (is_not_held S a.plan.epoch d updates ms)
-        (not (has_votes_by S d updates) && is_barred_to_some h a.plan.epoch d ms) (attached_explained h c ms updates a o d is high some)
+        account (has (held_set a.devices) d) (length (attached_members h d a.plan.members) == 0) (is_not_held S a.plan.epoch d updates ms) (attached_accounted h c ms updates a o d is high some)
 
 -- its start, with the updates that it has installed
-pub start_explained : (h : Header) (c : Cluster) (ms : List Moment) (q : ℕ) (updates : List (List ℕ)) (a : AttemptState) (k : Call) (count : ℕ) → length h.devices ≤ 32 → AttemptShown h ms q a → May a k
-    → starts_in (turn a k).steps ≡ true → (a.phase ≡ Installing → Installed (setting_of h) c a updates)
-    → AreExplained (setting_of h) (record { epoch = (turn a k).after.plan.epoch; members = (turn a k).after.plan.members; held = held_set (turn a k).after.devices; count = count }) updates ms
-start_explained h c ms q updates a k count few so may starts votes =
+pub start_accounted : (h : Header) (c : Cluster) (ms : List Moment) (q : ℕ) (updates : List (List ℕ)) (a : AttemptState) (k : Call) (count : ℕ) → length h.devices ≤ 32 → AttemptShown h ms q a → May a k
+    → starts_in (turn a k).steps ≡ true → AreKept a → (a.phase ≡ Installing → Installed (setting_of h) c a updates)
+    → AreAccounted (setting_of h) (record { epoch = (turn a k).after.plan.epoch; members = (turn a k).after.plan.members; held = held_set (turn a k).after.devices; count = count }) updates ms
+start_accounted h c ms q updates a k count few so may starts kept votes =
     let at : a.phase ≡ Installing = starts_follow a k so.reached may starts in
-    subst (λ (p : Plan). AreExplained (setting_of h) (record { epoch = p.epoch; members = p.members; held = held_set (turn a k).after.devices; count = count }) updates ms) (sym (plan_stays a k may))
-    (subst (λ ds. AreExplained (setting_of h) (record { epoch = a.plan.epoch; members = a.plan.members; held = held_set ds; count = count }) updates ms) (sym (devices_stand a k may at))
-    (all_within (is_explained_by (setting_of h) (record { epoch = a.plan.epoch; members = a.plan.members; held = held_set a.devices; count = count }) updates ms) (length h.devices)
-    (λ d low high. device_explained h c ms updates a count (record { session = q; so = so; at = at; votes = votes at }) d (low, high) (at_most d (length h.devices) high few))))
+    subst (λ (p : Plan). AreAccounted (setting_of h) (record { epoch = p.epoch; members = p.members; held = held_set (turn a k).after.devices; count = count }) updates ms) (sym (plan_stays a k may))
+    (subst (λ ds. AreAccounted (setting_of h) (record { epoch = a.plan.epoch; members = a.plan.members; held = held_set ds; count = count }) updates ms) (sym (devices_stand a k may at))
+    (all_within (is_accounted_by (setting_of h) (record { epoch = a.plan.epoch; members = a.plan.members; held = held_set a.devices; count = count }) updates ms) (length h.devices)
+    (λ d low high. device_accounted h c ms updates a count (record { session = q; so = so; at = at; kept = kept; votes = votes at }) d (low, high) (at_most d (length h.devices) high few))))
   where
     at_most : (i n : ℕ) → i ≤ n → n ≤ 32 → i ≤ 32
     at_most i n j l = omega (arith, j, l)

@@ -202,15 +202,3 @@ quorum_enabled S both texts d v is =
         → (told.is_enabled (state_of (device_at (S.votes texts) d)) ≡ true) ⊎ (told.is_enabled (state_of (device_at (S.votes (take (length texts - 1) texts)) d)) ≡ true)
     by_either (inl k) = by_first k (all_or_but_one v.first (length texts) v.within v.last)
     by_either (inr k) = inl (by_pending both.pending refl k)
-
--- what has votes by the whole base is a quorum device
-pub enabled_quorum : (S : Setting) (both : BothVotes) (texts : List (List ℕ)) (d : ℕ) → BaseVotes S both texts → is_quorum both d ≡ false → told.is_enabled (state_of (device_at (S.votes texts) d)) ≡ false
-enabled_quorum S both texts d v none = by_pending both.pending refl (either_not (is_enabled both.committed d) (is_enabled_pending both.pending d) none)
-  where
-    either_not : (a b : Bool) → (a || b) ≡ false → (a ≡ false) × (b ≡ false)
-    either_not true b k = absurd (false_true (sym k))
-    either_not false b k = (refl, k)
-
-    by_pending : (o : Option VoteTable) → both.pending ≡ o → (is_enabled both.committed d ≡ false) × (is_enabled_pending both.pending d ≡ false) → told.is_enabled (state_of (device_at (S.votes texts) d)) ≡ false
-    by_pending None at k = enabled_so (S.votes texts) both.committed d (v.all ∙ ap (λ o. unwrap_or o both.committed) at) ∙ k.0
-    by_pending (Some w) at k = enabled_so (S.votes texts) w d (v.all ∙ ap (λ o. unwrap_or o both.committed) at) ∙ (ap (λ o. is_enabled_pending o d) (sym at) ∙ k.1)

@@ -1,5 +1,5 @@
 -- Each small step of a node: what it has installed is no older than the lines say, its Promises tell that, and who is excluded was left out.
-use Rattle.std.specs.Prelude.{ℕ, ◌≡◌, ◌≢◌, ◌≤◌, ◌==◌, ◌++◌, Bool, true, false, List, [], ◌∷◌, if◌then◌else◌}
+use Rattle.std.specs.Prelude.{ℕ, ◌<◌, ◌≡◌, ◌≢◌, ◌≤◌, ◌==◌, ◌++◌, Bool, true, false, List, [], ◌∷◌, if◌then◌else◌}
 use Rattle.std.proofs.Common.{refl, sym, subst, ◌∙◌, arith}
 use Rattle.cmm_attempt.proofs.Basics.{false_true}
 use Rattle.cmm_attempt.specs.Attempts.{AttemptState}
@@ -46,6 +46,7 @@ use Rattle.run_outcomes.specs.exclusions.Sites.{AllJudged, AttemptIn, BodySo, Ha
 use Rattle.run_outcomes.proofs.exclusions.Changes.{act_attempt, change_attempt, change_told}
 use Rattle.run_outcomes.proofs.exclusions.Excluded.{excluded_so, tied_installed}
 use Rattle.run_outcomes.proofs.exclusions.Plain.{ArePlain, IsBare, IsMild, gone_plain, said_plain, saved_plain}
+use Rattle.run_outcomes.proofs.exclusions.Rising.{below_counted, below_installed}
 use Rattle.run_outcomes.proofs.exclusions.Told.{attempt_grows, node_grows, passing_judged, passing_last, posting_judged, posting_last, told_grows}
 
 -- what is so where node n comes to this site, and the lines to these
@@ -119,11 +120,11 @@ writes_went c M N n told v x disk last to b s h good differ may =
 
 ended_judged : (c : Cluster) (M : Memberships) (n : ℕ) (told : Delivered) (v : Nodes) (x : UpNode) (disk : NodeRecord) (a : AttemptState) (why : AttemptEnd) (last : Last) (s : Scene) → Stands c M n told v (site (Up x) disk) last s → ActFits last x (Ends a why)
     → Judged s.moments (Told (entry.Attempt (ended_entry a.plan.epoch why)))
-ended_judged c M n told v x disk a (end.Excluded m) last s h fits = record { says = tt; excluded = excluded_so c M n told v x disk a m last s h.holds h.tied fits.0 h.latest fits.1 h.differ h.notes h.goes h.judged h.here }
-ended_judged c M n told v x disk a (end.Votes have need lacking) last s h fits = record { says = tt; excluded = tt }
-ended_judged c M n told v x disk a (end.Superseded q) last s h fits = record { says = tt; excluded = tt }
-ended_judged c M n told v x disk a (end.Silent m) last s h fits = record { says = tt; excluded = tt }
-ended_judged c M n told v x disk a (end.Foreign m) last s h fits = record { says = tt; excluded = tt }
+ended_judged c M n told v x disk a (end.Excluded m) last s h fits = record { says = tt; excluded = excluded_so c M n told v x disk a m last s h.holds h.tied fits.0 h.latest fits.1 h.differ h.notes h.goes h.judged h.here; rises = tt }
+ended_judged c M n told v x disk a (end.Votes have need lacking) last s h fits = record { says = tt; excluded = tt; rises = tt }
+ended_judged c M n told v x disk a (end.Superseded q) last s h fits = record { says = tt; excluded = tt; rises = tt }
+ended_judged c M n told v x disk a (end.Silent m) last s h fits = record { says = tt; excluded = tt; rises = tt }
+ended_judged c M n told v x disk a (end.Foreign m) last s h fits = record { says = tt; excluded = tt; rises = tt }
 
 ended_last : (k e : ℕ) (why : AttemptEnd) (ms : List Moment) → last_installed k (Told (entry.Attempt (ended_entry e why)) ∷ ms) ≡ last_installed k ms
 ended_last k e (end.Excluded m) ms = refl
@@ -222,13 +223,16 @@ other_last k n e ms ne = by_test (n == k) (apart k n ne)
 at_most : (a b : ℕ) → a ≡ b → a ≤ b
 at_most a b h = omega (arith, h)
 
-installs_went : (n e : ℕ) (y : Site) (s : Scene) → y.disk.installed ≡ e → AllJudged s.moments → AttemptsDiffer (installed n e ∷ saved n ∷ s.moments) → IsTold s.moments n y.disk.installed y.disk.members → NodeIn s.moments y.node
+rising : (a b k : ℕ) → a ≤ b → b < k → a < k
+rising a b k h i = omega (arith, h, i)
+
+installs_went : (n e : ℕ) (y : Site) (s : Scene) → y.disk.installed ≡ e → last_installed n s.moments < e → AllJudged s.moments → AttemptsDiffer (installed n e ∷ saved n ∷ s.moments) → IsTold s.moments n y.disk.installed y.disk.members → NodeIn s.moments y.node
     → Went n y s.moments (installed n e ∷ saved n ∷ s.moments)
-installs_went n e y s is h differ disk node =
+installs_went n e y s is rises h differ disk node =
     let ms : List Moment = installed n e ∷ saved n ∷ s.moments in
     let grown : Grows s.moments ms = (passing_grows n (of_node n note.Saved ∷ of_node n (note.Installed e) ∷ []) s differ).1 in
     record {
-      judged = (record { says = tt; excluded = tt }, (record { says = tt; excluded = tt }, h));
+      judged = (record { says = tt; excluded = tt; rises = rises }, (record { says = tt; excluded = tt; rises = tt }, h));
       site_so = record {
         last = at_most (last_installed n ms) y.disk.installed (same_last n e s.moments ∙ sym is);
         disk = told_grows s.moments ms n y.disk.installed y.disk.members grown disk;
@@ -241,9 +245,9 @@ saves_went : (c : Cluster) (M N : Memberships) (n : ℕ) (told : Delivered) (v :
     → (let y : Site = effect c n (site (Up x) disk) (Saves change) in let os : List Output = first_lines n change ++ saved_lines c n x change in
     SiteTied c N n y → AreGood n os → AttemptsDiffer (passing n os s).moments → MayChange c n told x change → Went n y s.moments (passing n os s).moments)
 saves_went c M N n told v x disk (Counts a k st i) last s h g tied good differ may =
-    installs_went n i.epoch (effect c n (site (Up x) disk) (Saves (Counts a k st i))) s refl h.judged differ (record_told c M n told v x disk (Counts a k st i) last s h may) (attempt_told c M n told v x disk (Counts a k st i) last s h may)
+    installs_went n i.epoch (effect c n (site (Up x) disk) (Saves (Counts a k st i))) s refl (rising (last_installed n s.moments) disk.installed i.epoch h.here.last (below_counted c M n told x disk a k st i h.holds h.tied may)) h.judged differ (record_told c M n told v x disk (Counts a k st i) last s h may) (attempt_told c M n told v x disk (Counts a k st i) last s h may)
 saves_went c M N n told v x disk (Installs st i) last s h g tied good differ may =
-    installs_went n i.epoch (effect c n (site (Up x) disk) (Saves (Installs st i))) s refl h.judged differ (record_told c M n told v x disk (Installs st i) last s h may) (attempt_told c M n told v x disk (Installs st i) last s h may)
+    installs_went n i.epoch (effect c n (site (Up x) disk) (Saves (Installs st i))) s refl (rising (last_installed n s.moments) disk.installed i.epoch h.here.last (below_installed c M n told x disk st i h.holds h.tied may)) h.judged differ (record_told c M n told v x disk (Installs st i) last s h may) (attempt_told c M n told v x disk (Installs st i) last s h may)
 saves_went c M N n told v x disk (Promises p) last s h g tied good differ may = bare_went c M N n told v x disk (Promises p) last s tt h g tied good differ may
 saves_went c M N n told v x disk (Leads p members) last s h g tied good differ may = bare_went c M N n told v x disk (Leads p members) last s tt h g tied good differ may
 saves_went c M N n told v x disk (Starts a k st) last s h g tied good differ may = bare_went c M N n told v x disk (Starts a k st) last s tt h g tied good differ may

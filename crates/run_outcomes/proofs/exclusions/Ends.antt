@@ -39,7 +39,7 @@ use Rattle.run_outcomes.proofs.counts.Given.{call_ends_so}
 use Rattle.run_outcomes.specs.exclusions.Sites.{LastTied}
 
 -- the call gives the votes, or the attempt seizes devices for them
-abbrev IsSought : AttemptState → Call → Type 0
+abbrev pub IsSought : AttemptState → Call → Type 0
 IsSought a c = ((both : BothVotes) × (c ≡ With_votes both)) ⊎ (a.phase ≡ SeizingVotes)
 
 abbrev IsExcluding : AttemptEnd → Type 0
@@ -97,7 +97,7 @@ walk a c = record {
   starts = λ s at e k why ends. absurd (none_some why (sym (quiet_starts s).end ∙ ends));
 }
 
-is_sought : (a : AttemptState) (c : Call) (m : ℕ) → end_in (turn a c).steps ≡ Some (end.Excluded m) → IsSought a c
+pub is_sought : (a : AttemptState) (c : Call) (m : ℕ) → end_in (turn a c).steps ≡ Some (end.Excluded m) → IsSought a c
 is_sought a c m is = walks (λ s. s ≡ a) (Between a c) (EndsSo a c) a c (walk a c) refl (end.Excluded m) is tt
 
 -- ---- so it is not counted

@@ -62,7 +62,7 @@ use Rattle.wire.specs.declared.message.Body.TheVariants as body
 use Rattle.wire.specs.declared.message.Message.{Message}
 use Rattle.world_model.specs.Lines.{left_by}
 use Rattle.run_outcomes.specs.exclusions.Laws.{EndsExcluded, ExclusionsOfEachRun}
-use Rattle.run_outcomes.specs.exclusions.Sites.{AllJudged, BodySo, BodyTold, HandSo, SaysSo, SiteSo}
+use Rattle.run_outcomes.specs.exclusions.Sites.{AllJudged, BodySo, BodyTold, HandSo, Rises, SaysSo, SiteSo}
 use Rattle.run_outcomes.proofs.exclusions.Letters.{LetterSo, letter_so}
 use Rattle.run_outcomes.proofs.exclusions.Steps.{AllWent, taking_went}
 use Rattle.run_outcomes.proofs.exclusions.Told.{body_grows, site_grows, told_grows}
@@ -114,15 +114,15 @@ arrived_so c s number x m is whole a brings judged = subst (λ k. BodyTold s.mom
 
 -- ---- lines of the world
 
-still : (v : Nodes) (ms : List Moment) (x : Moment) → IsNew ms x → SaysSo ms x → EndsExcluded ms x → ((k : ℕ) → last_installed k (x ∷ ms) ≡ last_installed k ms) → AllWent v ms → AllWent v (x ∷ ms)
-still v ms x new says ends last h = record {
-  judged = (record { says = says; excluded = ends }, h.judged);
+still : (v : Nodes) (ms : List Moment) (x : Moment) → IsNew ms x → SaysSo ms x → EndsExcluded ms x → Rises ms x → ((k : ℕ) → last_installed k (x ∷ ms) ≡ last_installed k ms) → AllWent v ms → AllWent v (x ∷ ms)
+still v ms x new says ends rises last h = record {
+  judged = (record { says = says; excluded = ends; rises = rises }, h.judged);
   sites = λ k. site_grows ms (x ∷ ms) k (site_of v k) (grows_one ms x new) (last k) (h.sites k);
 }
 
 dropped_went : (o : Option (ℕ × DropCause)) (s : Scene) → AllWent s.nodes s.moments → AllWent (dropped_so o s).nodes (dropped_so o s).moments
 dropped_went None s h = h
-dropped_went (Some drop) s h = still s.nodes s.moments (Told (entry.Packet (packet.Dropped drop.0 drop.1))) tt tt tt (λ k. refl) h
+dropped_went (Some drop) s h = still s.nodes s.moments (Told (entry.Packet (packet.Dropped drop.0 drop.1))) tt tt tt tt (λ k. refl) h
 
 armed_kept : (f : ℕ → DiskState) (n k calls : ℕ) (choice : Choice) → (put f n (armed (f n) calls choice) k).kept ≡ (f k).kept
 armed_kept f n k calls choice = go (same_or_not k n)
@@ -143,23 +143,23 @@ commanded_went s n d (Some x) k h = record { judged = h.judged; sites = h.sites 
 -- ---- each thing that happens
 
 happening_went : (c : Cluster) (s : Scene) (h : Happening) → Sized c → MayHappen c s h → KnownScene c s → Stage c (happened c s h) → AllBring s.moments → AllWent s.nodes s.moments → AllWent (happened c s h).nodes (happened c s h).moments
-happening_went c s (Speaks e) sized may a after brings so = armed_went c e (adding _ s) (still s.nodes s.moments (Said (line.Event e)) tt tt tt (λ k. refl) so)
-happening_went c s (Begins e) sized may a after brings so = still s.nodes s.moments (Part e) tt tt tt (λ k. refl) so
-happening_went c s (Notes_of e) sized may a after brings so = still s.nodes s.moments (Told (entry.Schedule e)) tt tt tt (λ k. refl) so
+happening_went c s (Speaks e) sized may a after brings so = armed_went c e (adding _ s) (still s.nodes s.moments (Said (line.Event e)) tt tt tt tt (λ k. refl) so)
+happening_went c s (Begins e) sized may a after brings so = still s.nodes s.moments (Part e) tt tt tt tt (λ k. refl) so
+happening_went c s (Notes_of e) sized may a after brings so = still s.nodes s.moments (Told (entry.Schedule e)) tt tt tt tt (λ k. refl) so
 happening_went c s (Takes n now ends i) sized may a after brings so =
     taking_went c n now ends i s sized may.0 may.2 (plain_sent s.nodes i may.1) (plain_fits i may.1) (plain_hand s.moments n i may.1) (plain_kept s.moments n i may.1 may.3) a after (plain_so s.moments n i may.1) so
 happening_went c s (Arrives number x m now ends) sized may a after brings so =
     let t : Scene = telling (entry.Packet (packet.Delivered number x.from x.to)) (removed s number) in
     taking_went c x.to now ends (Packet_in x.from m) t sized may.3 may.5 may.4 tt (arrived_hand c s number x m may.0 may.1 a.stage) (arrived_kept c s number x m may.0 may.1 a) (delivered_known c s number x.from x.to a) after
     (body_grows s.moments t.moments x.from m.body (grows_one s.moments (delivered number x.from x.to) tt) (arrived_so c s number x m may.0 may.1 a brings so.judged))
-    (still s.nodes s.moments (delivered number x.from x.to) tt tt tt (λ k. refl) so)
-happening_went c s (Strays number x) sized may a after brings so = still s.nodes s.moments (Told (entry.Packet (packet.Delivered number x.from x.to))) tt tt tt (λ k. refl) so
-happening_went c s (Misses number x) sized may a after brings so = still s.nodes s.moments (Told (entry.Packet (packet.Dropped number drop.Down))) tt tt tt (λ k. refl) so
-happening_went c s (Loses number x) sized may a after brings so = still s.nodes s.moments (Told (entry.Packet (packet.Lost number))) tt tt tt (λ k. refl) so
+    (still s.nodes s.moments (delivered number x.from x.to) tt tt tt tt (λ k. refl) so)
+happening_went c s (Strays number x) sized may a after brings so = still s.nodes s.moments (Told (entry.Packet (packet.Delivered number x.from x.to))) tt tt tt tt (λ k. refl) so
+happening_went c s (Misses number x) sized may a after brings so = still s.nodes s.moments (Told (entry.Packet (packet.Dropped number drop.Down))) tt tt tt tt (λ k. refl) so
+happening_went c s (Loses number x) sized may a after brings so = still s.nodes s.moments (Told (entry.Packet (packet.Lost number))) tt tt tt tt (λ k. refl) so
 happening_went c s (Repeats number x) sized may a after brings so =
     let o : links.Outcome = sending s.links x.from x.to x.bytes in
     let t : Scene = telling (entry.Packet (packet.Repeated number s.links.next)) (with_links s o.after) in
-    dropped_went o.sent.dropped t (still s.nodes s.moments (Told (entry.Packet (packet.Repeated number s.links.next))) tt tt tt (λ k. refl) so)
+    dropped_went o.sent.dropped t (still s.nodes s.moments (Told (entry.Packet (packet.Repeated number s.links.next))) tt tt tt tt (λ k. refl) so)
 happening_went c s (Commands n d k now ends) sized may a after brings so =
     let o : After c s (commanded s n d k) = after_command c s n d k (due_keeps c s n d k sized may.0.0 may.0.1 may.2 a.stage) a in
     taking_went c n now ends (Answered (commanded s n d k).answer) (commanded s n d k).scene sized may.0 may.3 tt o.answer tt (o.apart ∙ may.4) o.known after tt (commanded_went s n d (slice_get s.devices (d - 1)) k so)
@@ -167,7 +167,7 @@ happening_went c s (Writes n d value now ends) sized may a after brings so =
     let z : Commanded = commanded s n d (command.Write value) in
     let o : After c s z = after_command c s n d (command.Write value) (λ x fit. write_keeps n value x fit) a in
     taking_went c n now ends (Wrote d value z.answer) z.scene sized may.0 may.2 tt tt tt (o.apart ∙ may.3) o.known after tt (commanded_went s n d (slice_get s.devices (d - 1)) (command.Write value) so)
-happening_went c s (Refuses n d value cause) sized may a after brings so = still s.nodes s.moments (Told (entry.Device (device.Refused n d value cause))) tt tt tt (λ k. refl) so
+happening_went c s (Refuses n d value cause) sized may a after brings so = still s.nodes s.moments (Told (entry.Device (device.Refused n d value cause))) tt tt tt tt (λ k. refl) so
 
 -- ---- runs
 

@@ -103,7 +103,7 @@ read_so ms n b fits so m is = subst (λ (z : Message). BodySo ms n z.body) (same
 
 pub dropped_judged : (o : Option (ℕ × DropCause)) (s : Scene) → AllJudged s.moments → AllJudged (dropped_so o s).moments
 dropped_judged None s h = h
-dropped_judged (Some drop) s h = (record { says = tt; excluded = tt }, h)
+dropped_judged (Some drop) s h = (record { says = tt; excluded = tt; rises = tt }, h)
 
 pub posting_judged : (n to : ℕ) (b : Body) (s : Scene) → LetterFits (record { from = n; body = b }) → BodySo s.moments n b → AllJudged s.moments → AllJudged (posting n to (record { sender = n; body = b }) s).moments
 posting_judged n to b s fits so h =
@@ -111,13 +111,14 @@ posting_judged n to b s fits so h =
     let o : links.Outcome = sending s.links n to (spelling m) in
     if_with (λ (t : Scene). AllJudged t.moments) (is_sent s.links m) (is_sent s.links m) (sent_as n to m o s) s refl
     (λ e. dropped_judged o.sent.dropped (telling (entry.Packet (packet.Sent s.links.next n to (name_of m.body) (spelling m))) (with_links s o.after))
-    (record { says = read_so s.moments n b (sent_messages_fit m fits.0 fits.1 (size (length (spelling m)) (and_cases _ _ e).0)) so; excluded = tt }, h))
+    (record { says = read_so s.moments n b (sent_messages_fit m fits.0 fits.1 (size (length (spelling m)) (and_cases _ _ e).0)) so; excluded = tt; rises = tt }, h))
     (λ e. h)
 
 line_judged : (e : Entry) (ms : List Moment) → NoPacket e → IsPlainLine e → Judged ms (Told e)
 line_judged (entry.Packet e) ms good plain = absurd good
 line_judged (entry.Attempt (attempt.Excluded e m)) ms good plain = absurd plain
-line_judged _ ms good plain = record { says = tt; excluded = tt }
+line_judged (entry.Node m (note.Installed f)) ms good plain = absurd plain
+line_judged _ ms good plain = record { says = tt; excluded = tt; rises = tt }
 
 no_promise : (ms : List Moment) (n : ℕ) (b : Body) → NoPromise b → BodySo ms n b
 no_promise ms n (body.Promise e newest members valid flagged committed pending) h = absurd h

@@ -31,7 +31,7 @@ use Rattle.run_outcomes.proofs.onward.Passing.{Passed, still_passed}
 use Rattle.run_outcomes.proofs.onward.Ticks.{BegunSo}
 use Rattle.run_outcomes.proofs.told_tasks.Led.{LedOn}
 
-passing_both : (n : ℕ) (os more : List Output) (s : Scene) → passing n (os ++ more) s ≡ passing n more (passing n os s)
+pub passing_both : (n : ℕ) (os more : List Output) (s : Scene) → passing n (os ++ more) s ≡ passing n more (passing n os s)
 passing_both n [] more s = refl
 passing_both n (o ∷ os) more s = passing_both n os more (passing_one n o s)
 

@@ -58,7 +58,7 @@ beats_still : (n : ℕ) (x : UpNode) (receivers : ℕ) → AreStill n (heartbeat
 unfolding heartbeats_to
 beats_still n x receivers = mapped (IsStill n) (λ m. Sends m (heartbeat_of x)) (numbers_to receivers most_nodes) (λ m. tt)
 
-spread_still : (n receivers : ℕ) (b : _) → AreStill n (sent_to receivers b)
+pub spread_still : (n receivers : ℕ) (b : _) → AreStill n (sent_to receivers b)
 unfolding sent_to
 spread_still n receivers b = mapped (IsStill n) (λ m. Sends m b) (numbers_to receivers most_nodes) (λ m. tt)
 
@@ -74,7 +74,7 @@ again_still n x (Some p) = tt
 pub ticked_still : (c : Cluster) (n : ℕ) (before x : UpNode) → AreStill n (ticked_output c before x)
 ticked_still c n before x = both (IsStill n) (heartbeats_to x _) (request_again before) (beats_still n x _) (again_still n before before.presidency)
 
-write_still : (n me : ℕ) (x : UpNode) (d value : ℕ) (a : Answer) → AreStill n (write_lines me x d value a)
+pub write_still : (n me : ℕ) (x : UpNode) (d value : ℕ) (a : Answer) → AreStill n (write_lines me x d value a)
 write_still n me x d value (Ok given.Good) = (tt, tt)
 write_still n me x d value (Ok given.Conflict) = (tt, tt)
 write_still n me x d value _ = (tt, tt)

@@ -127,7 +127,7 @@ votes_led S c n valid a v old y b both moments g may holds none r = record {
 
 -- ---- the attempt of a node took the call, or is as it was
 
-no_votes : (v : BothVotes) → Own_ready ≡ With_votes v → ⊥
+pub no_votes : (v : BothVotes) → Own_ready ≡ With_votes v → ⊥
 no_votes v e = cc
 
 pub took_led : (S : Setting) (c : Cluster) (n : ℕ) (x : UpNode) (k : Call) (y : UpNode) (b : AttemptState) (both : BothVotes) (moments : List Moment) → (g : MarkedSo S c n b both x.tasks moments)

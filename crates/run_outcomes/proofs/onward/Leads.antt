@@ -1,11 +1,11 @@
--- A coordinator whose attempt seizes devices has come to its tasks so, where a packet came that asks for no seizing, or a command at a device is answered.
+-- A coordinator whose attempt seizes devices has come to its tasks so, where a packet came, or a command at a device is answered.
 use Rattle.std.specs.Prelude.{ℕ, ◌≡◌, ◌++◌, true, false, List, [], ◌∷◌, None, Some}
 use Rattle.std.proofs.Common.{sym, ap, subst, ◌∙◌}
 use Rattle.attempt_laws.proofs.Walk.{TellsResult}
 use Rattle.cl_base.specs.Seizings.{SeizeResult}
 use Rattle.cl_base.specs.declared.method.Outcome as method
 use Rattle.cmm_attempt.specs.Attempts.{AttemptState}
-use Rattle.cmm_attempt.specs.Calls.{Call, IsReached, May, Take, With_votes, turn}
+use Rattle.cmm_attempt.specs.Calls.{Call, IsReached, May, With_votes, turn}
 use Rattle.cmm_attempt.specs.declared.counting.BothVotes.{BothVotes}
 use Rattle.device_queue.specs.Queue.{due_device, next_of, progress_after}
 use Rattle.device_queue.specs.declared.progress.Progress.{Progress}
@@ -19,11 +19,10 @@ use Rattle.history.specs.Setting.{Setting, coordinator}
 use Rattle.history.specs.Trace.{delivered}
 use Rattle.node_model.specs.Attempts.{is_choosing}
 use Rattle.node_model.specs.Devices.{answer_told}
-use Rattle.node_model.specs.Members.{hearing}
 use Rattle.node_model.specs.Seats.{record_of}
 use Rattle.node_model.specs.Steps.{at_second}
 use Rattle.node_model.specs.declared.cluster.Cluster.{Cluster}
-use Rattle.node_model.specs.declared.input.Input.TheVariants.{Answered, Packet}
+use Rattle.node_model.specs.declared.input.Input.TheVariants.{Answered}
 use Rattle.node_model.specs.declared.node.Node.TheVariants.{Up}
 use Rattle.node_model.specs.declared.node.UpNode.{UpNode}
 use Rattle.node_model.specs.declared.output.Output.{Output}
@@ -36,25 +35,23 @@ use Rattle.run_devices.proofs.queues.Tasks.{same_taken}
 use Rattle.run_devices.specs.queues.Laws.{Same}
 use Rattle.run_history.specs.Happenings.{given_by, taking}
 use Rattle.run_history.specs.Scenes.{Scene, passing, telling}
-use Rattle.run_messages.specs.records.Kept.{Came}
 use Rattle.seize.specs.Answers.{Answer}
 use Rattle.seize.specs.declared.kind.JoinResult.{JoinResult}
 use Rattle.status_report.specs.declared.device_entry.DeviceEntry.TheVariants as device_entry
 use Rattle.status_report.specs.declared.entry.Entry.TheVariants as entry
-use Rattle.wire.specs.declared.message.Message.{Message}
 use Rattle.run_outcomes.specs.phases.Kept.{In}
 use Rattle.run_outcomes.specs.phases.Laws.{is_seizing}
 use Rattle.run_outcomes.specs.tasks.Entries.{EntriesSo}
 use Rattle.run_outcomes.specs.tasks.Laws.{AsksTold, own_result}
-use Rattle.run_outcomes.specs.tasks.Onward.{AreStill, GoesOut, Onward, OnwardOf}
+use Rattle.run_outcomes.specs.tasks.Onward.{AreStill, GoesOut}
 use Rattle.run_outcomes.specs.tasks.Quiet.{AreQuiet}
 use Rattle.run_outcomes.proofs.phases.Leading.{Has}
 use Rattle.run_outcomes.proofs.onward.Asked.{HoldsOwn}
 use Rattle.run_outcomes.proofs.onward.Comes.{took_led}
 use Rattle.run_outcomes.proofs.onward.Devices.{IsQuietly, OnwardFrom, answered_out, call_by}
-use Rattle.run_outcomes.proofs.onward.Here.{given_passed, taken_here}
-use Rattle.run_outcomes.proofs.onward.Marks.{AsksForNone, came_own, command_asks, command_own, delivered_asks, take_tells}
-use Rattle.run_outcomes.proofs.onward.Messages.{KeepsTasks, Took, packet_out}
+use Rattle.run_outcomes.proofs.onward.Here.{taken_here}
+use Rattle.run_outcomes.proofs.onward.Marks.{command_asks, command_own, delivered_asks}
+use Rattle.run_outcomes.proofs.onward.Messages.{Took}
 use Rattle.run_outcomes.proofs.onward.Passing.{Passed, still_passed}
 use Rattle.run_outcomes.proofs.told_tasks.Led.{LedOn}
 
@@ -71,19 +68,21 @@ pub record StepSo (S : Setting) (c : Cluster) (n : ℕ) (x : UpNode) (k : Call) 
   pub so : (a : AttemptState) → x.attempt ≡ Some a → is_seizing a.phase ≡ true → EntriesSo a × AsksTold a before
   pub none : (a : AttemptState) → x.attempt ≡ Some a → is_choosing (turn a k).after.phase ≡ true → (d : ℕ) → told.asked_last a.plan.epoch d before ≡ None
 
-take_may : (from : ℕ) (m : Message) (a : AttemptState) → May a (Take from m)
-take_may from m a = tt
+-- ---- a packet
 
-take_votes : (from : ℕ) (m : Message) (v : BothVotes) → Take from m ≡ With_votes v → ⊥
-take_votes from m v e = cc
+-- What the call tells of seizings: the lines show it of another member, and the tasks of the coordinator itself.
+abbrev pub TellsSo : Call → AttemptState → List Task → List Moment → Type 0
+TellsSo k a tasks moments = (d from : ℕ) (r : SeizeResult) → TellsResult k a d from r
+    → (told.seized_by a.plan.epoch d from moments ≡ Some r) × (from ≡ a.plan.coordinator → own_result d tasks ≡ Some r)
 
-pub packet_led : (S : Setting) (c : Cluster) (n number from now : ℕ) (ends : method.Outcome) (m : Message) (ms : List Moment) (t : Scene) (x y : UpNode) (b : AttemptState) (both : BothVotes)
-    → t.moments ≡ delivered number from n ∷ ms → Came (delivered number from n ∷ ms) n from m.body → AsksForNone m.body → in_collect n t.moments ≡ false
-    → KeepsTasks c n (hearing (at_second now x) from m.body) m.body → t.nodes.node n ≡ Up x → (taking c n now ends (Packet from m) t).nodes.node n ≡ Up y → y.attempt ≡ Some b
-    → ((a : AttemptState) → x.attempt ≡ Some a → (d k : ℕ) (r : SeizeResult) → TellsResult (Take from m) a d k r → k ≡ a.plan.coordinator → own_result d y.tasks ≡ Some r)
-    → StepSo S c n x (Take from m) b both ms → LedOn S n y b both (taking c n now ends (Packet from m) t).moments
-packet_led S c n number from now ends m ms t x y b both line came none calm keeps was up at self g =
-    took_led S c n x (Take from m) y b both (taking c n now ends (Packet from m) t).moments
+-- by its line `history` adds what it has of its own, and nothing else; and what the node gives changes nothing
+pub packet_led : (S : Setting) (c : Cluster) (n number from : ℕ) (k : Call) (ms moments : List Moment) (x y : UpNode) (b : AttemptState) (both : BothVotes) → Passed n (delivered number from n ∷ ms) moments
+    → told.tasks_of S n (delivered number from n ∷ ms) ≡ told.with_own S n (Some b.plan.epoch) (delivered number from n ∷ ms) (told.tasks_of S n ms)
+    → ((v : BothVotes) → k ≡ With_votes v → ⊥) → ((a : AttemptState) → May a k)
+    → ((a : AttemptState) → x.attempt ≡ Some a → is_seizing a.phase ≡ true → TellsSo k a y.tasks (delivered number from n ∷ ms))
+    → StepSo S c n x k b both ms → Took c n x k b y.tasks → LedOn S n y b both moments
+packet_led S c n number from k ms moments x y b both z told_so none_given may tells g took =
+    took_led S c n x k y b both moments
     (record {
       seizing = g.seizing;
       given = g.given;
@@ -91,36 +90,28 @@ packet_led S c n number from now ends m ms t x y b both line came none calm keep
       cluster = g.cluster;
       marked = delivered number from n ∷ ms;
       newer = z.newer;
-      parts = z.parts ∙ ap (λ q. z.newer ++ q) line;
-      quiet = subst (λ q. AreQuiet n q z.newer) line z.quiet;
+      parts = z.parts;
+      quiet = z.quiet;
       had = told.tasks_of S n ms;
       same = g.same;
-      told_so = came_own S n number from b.plan.epoch ms m.body came none g.last;
+      told_so = told_so;
     })
-    (take_votes from m) (take_may from m) g.holds (λ a has is. ((g.so a has is).0, delivered_asks a number from n ms (g.so a has is).1))
+    none_given may g.holds (λ a has is. ((g.so a has is).0, delivered_asks a number from n ms (g.so a has is).1))
     (λ a has is. record {
       entries = (g.so a has is).0;
       asks = delivered_asks a number from n ms (g.so a has is).1;
-      told_other = λ d k r tells other. take_tells a number from n m ms came (g.own a has).0 d k r tells;
-      told_own = λ d k r tells own. self a has d k r tells own;
-    }) (λ a has chooses d. g.none a has chooses d) h.1
-  where
-    h : AreStill n (given_by c n now ends (Packet from m) t.nodes) × Took c n x (Take from m) b y.tasks
-    h =
-        subst (In (OnwardOf n (Took c n x (Take from m)) y.tasks (given_by c n now ends (Packet from m) t.nodes))) at
-        (taken_here c n now ends (Packet from m) t (Onward n (Took c n x (Take from m))) x y was up (λ so. packet_out c n ends (at_second now x) from m keeps)) g.seizing
-
-    z : Passed n t.moments (taking c n now ends (Packet from m) t).moments
-    z = given_passed c n now ends (Packet from m) t calm h.0
+      told_other = λ d j r says other. (tells a has is d j r says).0;
+      told_own = λ d j r says own. (tells a has is d j r says).1 own;
+    }) (λ a has chooses d. g.none a has chooses d) took
 
 -- ---- a command at a device
 
-by_may : (p : Progress) (a : AttemptState) → May a (call_by p)
+pub by_may : (p : Progress) (a : AttemptState) → May a (call_by p)
 by_may GoesOn a = tt
 by_may (Seized d r) a = tt
 by_may (Joined d r) a = tt
 
-by_votes : (p : Progress) (v : BothVotes) → call_by p ≡ With_votes v → ⊥
+pub by_votes : (p : Progress) (v : BothVotes) → call_by p ≡ With_votes v → ⊥
 by_votes GoesOn v e = cc
 by_votes (Seized d r) v e = cc
 by_votes (Joined d r) v e = cc

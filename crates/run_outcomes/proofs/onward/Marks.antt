@@ -1,18 +1,15 @@
 -- What a packet's line, and that of a command at a device, add to the tasks of a coordinator by the lines, and what they leave.
-use Rattle.std.specs.Prelude.{ℕ, ◌≡◌, ◌==◌, ◌&&◌, not, Bool, true, false, List, ◌∷◌, Option, None, Some, Ok, Err, if◌then◌else◌}
-use Rattle.std.proofs.Common.{arith, refl, sym, ap, subst, ◌∙◌}
+use Rattle.std.specs.Prelude.{ℕ, ◌≡◌, ◌==◌, ◌&&◌, not, Bool, true, false, List, ◌∷◌, Some, Ok, Err, if◌then◌else◌}
+use Rattle.std.proofs.Common.{arith, refl, ap, subst, ◌∙◌}
 use Rattle.attempt_laws.proofs.Walk.{TellsResult}
 use Rattle.cl_base.specs.Seizings.{SeizeResult}
 use Rattle.cmm_attempt.specs.Attempts.{AttemptState}
 use Rattle.cmm_attempt.specs.Calls.{Take}
 use Rattle.history.specs.Letters.{Letter, letter_of}
-use Rattle.history.specs.Member.{attempt_of, number_of}
+use Rattle.history.specs.Member.{attempt_of, session_of}
 use Rattle.history.specs.Moment.{Moment, Told}
-use Rattle.history.specs.Names as name
-use Rattle.history.specs.Names.{Name, named}
 use Rattle.history.specs.Queue as told
 use Rattle.history.specs.Queue.{is_write}
-use Rattle.history.specs.Seizing.{acts_for}
 use Rattle.history.specs.Setting.{Setting, coordinator}
 use Rattle.history.specs.Trace.{delivered}
 use Rattle.node_model.specs.Devices.{answer_told}
@@ -21,45 +18,13 @@ use Rattle.run_messages.specs.records.Kept.{Came}
 use Rattle.seize.specs.Answers.{Answer}
 use Rattle.status_report.specs.declared.device_entry.DeviceEntry.TheVariants as device_entry
 use Rattle.status_report.specs.declared.entry.Entry.TheVariants as entry
-use Rattle.wire.specs.declared.message.Body.{Body}
-use Rattle.wire.specs.declared.message.Body.TheVariants as body
 use Rattle.wire.specs.declared.message.Message.{Message}
-use Rattle.world_model.specs.Sends.{name_of}
 use Rattle.run_outcomes.specs.tasks.Laws.{AsksTold}
+use Rattle.run_outcomes.specs.tasks.Outward.{RequestsGoOut}
+use Rattle.run_outcomes.proofs.outward.Collects.{none_sought}
 use Rattle.run_outcomes.proofs.seized.Letters.{delivered_hits}
 
--- ---- a packet that asks for no seizing
-
-abbrev pub IsNoRequest : Name → Type 0
-IsNoRequest (name.SeizeQuorum d) = ⊥
-IsNoRequest (name.SeizeData d) = ⊥
-IsNoRequest _ = Unit {0}
-
-abbrev pub AsksForNone : Body → Type 0
-AsksForNone (body.SeizeQuorum e members d) = ⊥
-AsksForNone (body.SeizeData e members d) = ⊥
-AsksForNone _ = Unit {0}
-
-named_none : (b : Body) → AsksForNone b → IsNoRequest (named (name_of b))
-named_none (body.SeizeQuorum e members d) h = absurd h
-named_none (body.SeizeData e members d) h = absurd h
-named_none _ h = tt
-
-sought_none : (S : Setting) (n e : ℕ) (q : Name) (ms : List Moment) (ts : List told.Task) → IsNoRequest q → told.sought S n e q ms ts ≡ ts
-sought_none S n e (name.SeizeQuorum d) ms ts h = absurd h
-sought_none S n e (name.SeizeData d) ms ts h = absurd h
-sought_none S n e _ ms ts h = refl
-
-requested_none : (S : Setting) (n : ℕ) (l : Letter) (ms : List Moment) (ts : List told.Task) → IsNoRequest l.name → told.requested S n (Some l) ms ts ≡ ts
-requested_none S n l ms ts h = by_number (number_of l)
-  where
-    by_test : (e : ℕ) (b : Bool) → (if b then told.sought S n e l.name ms ts else ts) ≡ ts
-    by_test e true = sought_none S n e l.name ms ts h
-    by_test e false = refl
-
-    by_number : (o : Option ℕ) → told.requested_in S n o l ms ts ≡ ts
-    by_number None = refl
-    by_number (Some e) = by_test e (acts_for n e ms)
+-- ---- a packet
 
 itself : (n : ℕ) → (n == n) ≡ true
 itself n = grind arith
@@ -71,18 +36,14 @@ both : (a b : Bool) → a ≡ true → b ≡ true → (a && b) ≡ true
 both true b h k = k
 both false b h k = h
 
-pub delivered_own : (S : Setting) (n p from e : ℕ) (ms : List Moment) (l : Letter) → letter_of p ms ≡ Some l → IsNoRequest l.name → attempt_of n ms ≡ Some e
+-- It brings no task to a coordinator: a request to seize goes to another node than its sender, and that of its own session comes from it.
+pub delivered_own : (S : Setting) (n p from e : ℕ) (ms : List Moment) → coordinator e ≡ n → session_of n ms ≡ Some e → attempt_of n ms ≡ Some e → RequestsGoOut ms → ((l : Letter) → letter_of p ms ≡ Some l → l.to ≡ n)
     → told.tasks_of S n (delivered p from n ∷ ms) ≡ told.with_own S n (Some e) (delivered p from n ∷ ms) (told.tasks_of S n ms)
-delivered_own S n p from e ms l at none attempt =
+delivered_own S n p from e ms own session attempt out to =
     let ts : List told.Task = told.tasks_of S n ms in
     if_on (n == n) (told.with_own S n (attempt_of n ms) (delivered p from n ∷ ms) (told.requested S n (letter_of p ms) ms ts)) ts (itself n)
-    ∙ (ap (λ o. told.with_own S n (attempt_of n ms) (delivered p from n ∷ ms) (told.requested S n o ms ts)) at
-    ∙ (ap (told.with_own S n (attempt_of n ms) (delivered p from n ∷ ms)) (requested_none S n l ms ts none)
-    ∙ ap (λ o. told.with_own S n o (delivered p from n ∷ ms) ts) attempt))
-
-pub came_own : (S : Setting) (n p from e : ℕ) (ms : List Moment) (b : Body) (came : Came (delivered p from n ∷ ms) n from b) → AsksForNone b → attempt_of n ms ≡ Some e
-    → told.tasks_of S n (delivered p from n ∷ ms) ≡ told.with_own S n (Some e) (delivered p from n ∷ ms) (told.tasks_of S n ms)
-came_own S n p from e ms b came none attempt = delivered_own S n p from e ms came.letter came.here (subst IsNoRequest (sym came.called) (named_none b none)) attempt
+    ∙ (ap (told.with_own S n (attempt_of n ms) (delivered p from n ∷ ms)) (none_sought S n e p n ms ts refl own session out to)
+    ∙ ap (λ o. told.with_own S n o (delivered p from n ∷ ms) ts) attempt)
 
 -- ---- a command at a device
 

@@ -64,7 +64,7 @@ dropped_passed : (n : ℕ) (s : Scene) (o : Option (ℕ × DropCause)) → Passe
 dropped_passed n s None = none_passed n s.moments
 dropped_passed n s (Some d) = one_passed n s.moments (Told (entry.Packet (packet.Dropped d.0 d.1))) tt refl
 
-posted_passed : (n from to : ℕ) (m : Message) (s : Scene) → Passed n s.moments (posting from to m s).moments
+pub posted_passed : (n from to : ℕ) (m : Message) (s : Scene) → Passed n s.moments (posting from to m s).moments
 posted_passed n from to m s =
     let o : Sending = sending s.links from to (spelling m) in
     let t : Scene = telling (entry.Packet (packet.Sent s.links.next from to (name_of m.body) (spelling m))) (with_links s o.after) in

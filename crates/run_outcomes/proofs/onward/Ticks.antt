@@ -92,7 +92,7 @@ own_ready_idle s h = ready_idle s s.phase h
 choice_is : (p : Phase) → p ≡ Choosing → is_choosing p ≡ false → ⊥
 choice_is p is not = false_true (sym not ∙ ap is_choosing is)
 
-idle_led : IsLed IsIdle
+pub idle_led : IsLed IsIdle
 idle_led a (Take from m) may own h = absurd own
 idle_led a (With_votes votes) may own h = absurd (choice_is a.phase may h.1)
 idle_led a (Own_seized d r) may own h = own_answering_idle a d r h

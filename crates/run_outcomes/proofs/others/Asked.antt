@@ -29,7 +29,7 @@ use Rattle.run_outcomes.specs.tasks.Others.{AsksNatively, AsksPlainly, IsNative,
 
 -- ---- as it was sent
 
-abbrev AsksIn : Letter → Type 0
+abbrev pub AsksIn : Letter → Type 0
 AsksIn l = (m : Message) → whole_of l.bytes ≡ Some m → AsksFor l.before l.from m.body
 
 -- what was sent before is so
@@ -54,7 +54,7 @@ entry_asks : (p : ℕ) (e : Entry) (ms : List Moment) (l : Letter) → AsksSo ms
 entry_asks p (entry.Packet e) ms l here k is = packet_asks p e ms l here k is
 entry_asks p _ ms l here k is = k p is
 
-letter_asks : (p : ℕ) (ms : List Moment) (l : Letter) → Always AsksSo ms → letter_of p ms ≡ Some l → AsksIn l
+pub letter_asks : (p : ℕ) (ms : List Moment) (l : Letter) → Always AsksSo ms → letter_of p ms ≡ Some l → AsksIn l
 letter_asks p [] l k is = absurd (none_some l is)
 letter_asks p (Told e ∷ ms) l k is = entry_asks p e ms l k.0 (λ q found. letter_asks q ms l k.1 found) is
 letter_asks p (Said e ∷ ms) l k is = letter_asks p ms l k.1 is

@@ -39,9 +39,9 @@ use Rattle.wire.specs.Reads.{whole_of}
 use Rattle.wire.specs.declared.message.Body.{Body}
 use Rattle.wire.specs.declared.message.Message.{Message}
 use Rattle.world_model.specs.First.{first_cluster}
-use Rattle.run_outcomes.specs.tasks.Laws.{AskedMaySeize, MaySeize, ShownValid, seizes_plainly}
+use Rattle.run_outcomes.specs.tasks.Laws.{AskedMaySeize, MaySeize, OfEachLeft, ShownValid, seizes_plainly}
 use Rattle.run_outcomes.specs.tasks.Left.{HasQueue}
-use Rattle.run_outcomes.specs.tasks.Others.{OfEachLeft, PlainIsOwn}
+use Rattle.run_outcomes.specs.tasks.Others.{PlainIsOwn}
 use Rattle.run_outcomes.proofs.asks.Lines.{left_before}
 use Rattle.run_outcomes.proofs.others.Ends.{LastDue, all_before, last_due, last_may}
 use Rattle.run_outcomes.proofs.others.Stays.{delivered_seizing, saved_seizing}
@@ -51,17 +51,17 @@ use Rattle.run_outcomes.proofs.told_tasks.Prefixes.{by_last, happened_last, may_
 -- ---- what a node holds valid
 
 -- a point of a run
-record Point (h : Header) (cells : ℕ) (hs : List Happening) : Type 0 where
-  last : Due
-  nodes : h.nodes ≤ most_nodes
-  few : length h.devices ≤ most_devices
-  small : h.cluster < 2 ^ 32
-  disks : AreDisks h
-  may : MayAllHappen (first_cluster h) (first_scene h cells) hs
-  shaped : ShapedFrom (first_cluster h) (first_scene h cells) nothing hs last
-  native : NoneForeign (first_cluster h) (first_scene h cells) hs
-  boots : AllByRecursion (BootsInHeader h) hs
-  left : nat_lt (all_happened (first_cluster h) (first_scene h cells) hs).links.next (2 ^ 63) ≡ true
+pub record Point (h : Header) (cells : ℕ) (hs : List Happening) : Type 0 where
+  pub last : Due
+  pub nodes : h.nodes ≤ most_nodes
+  pub few : length h.devices ≤ most_devices
+  pub small : h.cluster < 2 ^ 32
+  pub disks : AreDisks h
+  pub may : MayAllHappen (first_cluster h) (first_scene h cells) hs
+  pub shaped : ShapedFrom (first_cluster h) (first_scene h cells) nothing hs last
+  pub native : NoneForeign (first_cluster h) (first_scene h cells) hs
+  pub boots : AllByRecursion (BootsInHeader h) hs
+  pub left : nat_lt (all_happened (first_cluster h) (first_scene h cells) hs).links.next (2 ^ 63) ≡ true
 
 asked_valid : (S : View) (ms : List Moment) (n : ℕ) (b : Body) (node : Node) → MaySeize node b → TrustedAt S ms n b node
 asked_valid S ms n b Down k = tt

@@ -4,15 +4,10 @@ use Rattle.std.proofs.Common.{refl, ap, ◌∙◌}
 use Rattle.cl_base.specs.declared.header.Header.{Header}
 use Rattle.history.specs.Member.{in_collect, members_of}
 use Rattle.history.specs.Moment.{Moment}
-use Rattle.history.specs.Seizing.{Begun, Progress, Reserved, Saw, Seized, keys_in, keys_seized, left_from, or_else, progress_of, seizing_among, seizing_by, seizing_of}
+use Rattle.history.specs.Seizing.{keys_in, keys_seized, left_from, or_else, progress_of, seizing_among, seizing_by, seizing_of}
 use Rattle.history.specs.Setting.{nodes_of}
 use Rattle.history.specs.Trace.{delivered, saved}
-
-left_keys : (p : Progress) → keys_in (left_from p) ≡ keys_in p
-left_keys Begun = refl
-left_keys Reserved = refl
-left_keys (Saw keys) = refl
-left_keys (Seized keys) = refl
+use Rattle.run_devices.proofs.valid.Lines.{left_keys}
 
 saved_keys : (h : Header) (k e d m : ℕ) (ms : List Moment) → keys_seized h k e d (saved m ∷ ms) ≡ keys_seized h k e d ms
 saved_keys h k e d m ms = by_test ((m == k) && in_collect k ms)

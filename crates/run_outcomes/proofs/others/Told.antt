@@ -34,6 +34,7 @@ use Rattle.run_devices.specs.queues.Views.{brought, joined, leaves_open, sought,
 use Rattle.run_devices.proofs.queues.Alone.{besides_of}
 use Rattle.run_outcomes.specs.tasks.Others.{InstallsUnderWay, IsPlainly, LeadsOwn, is_asking}
 use Rattle.run_outcomes.specs.tasks.Quiet.{IsQuiet}
+use Rattle.run_outcomes.proofs.reports.Own.{number_so}
 use Rattle.run_outcomes.proofs.told_tasks.Closed.{closed_before, quiet_clears, same_acts}
 use Rattle.run_outcomes.proofs.told_tasks.Quiet.{same_number_of}
 use Rattle.run_outcomes.specs.tasks.Lasting.{drops, lasts_open}
@@ -124,10 +125,6 @@ brought_some S n (Some l) ms o spelled k = sought_some S n l ms o spelled k
 none_any : (f : ℕ → Bool) (xs : List ℕ) → list_any (λ d. false && f d) xs ≡ false
 none_any f [] = refl
 none_any f (x ∷ xs) = none_any f xs
-
-number_so : (e : ℕ) (o : Option ℕ) → is_number e o ≡ true → o ≡ Some e
-number_so e None k = absurd (false_true k)
-number_so e (Some f) k = ap Some (same_number f e k)
 
 neither : (a b : Bool) → (a || b) ≡ false → a ≡ false
 neither true b k = absurd (false_true (sym k))

@@ -72,7 +72,7 @@ taking_to : (c : Cluster) (n now : ℕ) (ends : method.Outcome) (i : Input) (s :
 taking_to c n now ends i s h = passing_to n (given_by c n now ends i s.nodes) (record s { nodes = moved c s.nodes (Takes_in n now ends i) }) (no_packets c n now ends (s.nodes.node n) (s.nodes.disk n) i) h
 
 -- the packet of this number is a letter to its receiver
-found_is : (p : Packet → Bool) (xs : List Packet) (x : Packet) → find p xs ≡ Some x → p x ≡ true
+pub found_is : (p : Packet → Bool) (xs : List Packet) (x : Packet) → find p xs ≡ Some x → p x ≡ true
 found_is p [] x is = absurd (none_some x is)
 found_is p (y ∷ xs) x is = by_test (λ later. found_is p xs x later) (p y) refl is
   where
@@ -80,7 +80,7 @@ found_is p (y ∷ xs) x is = by_test (λ later. found_is p xs x later) (p y) ref
     by_test rest true at same = subst (λ z. p z ≡ true) (same_some y x same) at
     by_test rest false at later = rest later
 
-packet_to : (h : Header) (cells : ℕ) (s : Scene) (number : ℕ) (x : Packet) → IsSmall h → IsReached h cells s → packet_of s.links.packets number ≡ Some x → IsAddressed s.moments (delivered number x.from x.to)
+pub packet_to : (h : Header) (cells : ℕ) (s : Scene) (number : ℕ) (x : Packet) → IsSmall h → IsReached h cells s → packet_of s.links.packets number ≡ Some x → IsAddressed s.moments (delivered number x.from x.to)
 packet_to h cells s number x size r here l is =
     let k : Posted h s.moments s.links.next x = all_found (Posted h s.moments s.links.next) (λ (q : Packet). q.number == number) s.links.packets x (seizing_at h cells s size r).carried here in
     let same : x.number ≡ number = same_number x.number number (found_is (λ (q : Packet). q.number == number) s.links.packets x here) in

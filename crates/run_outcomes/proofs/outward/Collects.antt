@@ -59,7 +59,7 @@ none_sought S n e p m ms ts here own session out to = by_letter (letter_of p ms)
 
 -- ---- Promises
 
-any_more : (p : Letter → Bool) (xs ys : List Letter) → list_any p ys ≡ true → list_any p (xs ++ ys) ≡ true
+pub any_more : (p : Letter → Bool) (xs ys : List Letter) → list_any p ys ≡ true → list_any p (xs ++ ys) ≡ true
 any_more p [] ys h = h
 any_more p (x ∷ xs) ys h = by_test (p x) (any_more p xs ys h)
   where
@@ -67,7 +67,7 @@ any_more p (x ∷ xs) ys h = by_test (p x) (any_more p xs ys h)
     by_test true k = refl
     by_test false k = k
 
-all_more : (p q : ℕ → Bool) (xs : List ℕ) → ((k : ℕ) → p k ≡ true → q k ≡ true) → list_all q xs ≡ false → list_all p xs ≡ false
+pub all_more : (p q : ℕ → Bool) (xs : List ℕ) → ((k : ℕ) → p k ≡ true → q k ≡ true) → list_all q xs ≡ false → list_all p xs ≡ false
 all_more p q [] f h = h
 all_more p q (x ∷ xs) f h = by_test (p x) refl (all_more p q xs f)
   where

@@ -1,4 +1,4 @@
--- At each point of a run the lines tell of a node what it has installed, and that it has moved on since.
+-- At each point of a run the lines tell of a node what is valid to it, what it has installed, and that it has moved on since.
 use Rattle.std.specs.Prelude.{ℕ, ◌≡◌, ◌≢◌, ◌⊎◌, ◌≤◌, ◌<◌, ◌^◌, List, [], ◌∷◌, length}
 use Rattle.std.proofs.Common.{refl, sym, subst, inl, inr}
 use Rattle.cl_base.specs.Limits.{most_devices}
@@ -7,12 +7,14 @@ use Rattle.history.specs.Setting.{Setting}
 use Rattle.machine_base.proofs.Puts.{same_or_not}
 use Rattle.run_devices.proofs.queues.Alone.{lines_of}
 use Rattle.run_devices.proofs.queues.Runs.{Comes_to, comes_more, first_comes}
+use Rattle.run_devices.proofs.validity.Steps.{excused}
 use Rattle.run_devices.proofs.validity.Wants.{KeptBy}
-use Rattle.run_devices.specs.validity.Kept.{UpIn}
+use Rattle.run_devices.specs.validity.Kept.{SiteSo, UpIn, readying}
 use Rattle.run_history.specs.Happenings.{Happening, MayAllHappen, all_happened, happened}
 use Rattle.run_history.specs.Scenes.{Scene, first_scene}
 use Rattle.run_history.specs.Shapes.{Due, ShapedFrom, Want, due_after, nothing}
 use Rattle.run_history.specs.Shapes as want
+use Rattle.run_history.specs.Stages.{site_of}
 use Rattle.run_history.specs.WorldLines.{AreDisks}
 use Rattle.world_model.specs.First.{first_cluster}
 
@@ -29,18 +31,14 @@ pub comes_to : (S : Setting) (cells : ℕ) (xs : List Happening) (last : Due) �
     → Comes_to (lines_of S) cells (all_happened (first_cluster S.header) (first_scene S.header cells) xs) last.wants
 comes_to S cells xs last few small disks may shaped = along S cells few small xs (first_scene S.header cells) nothing last may shaped (first_comes (lines_of S) cells few disks)
 
-pub up_kept : (h : Header) (s : Scene) (n : ℕ) (wants : List Want) → KeptBy h s wants → UpIn s.moments n (s.nodes.node n)
-up_kept h s n (want.Command m ∷ wants) k = by_same (same_or_not n m)
+-- a site is as the lines tell, but for a device where the node has just readied itself to register
+pub readied_site : (h : Header) (s : Scene) (n : ℕ) (wants : List Want) → KeptBy h s wants → SiteSo h s.moments n (readying (site_of s.nodes n)) (site_of s.nodes n)
+readied_site h s n (want.Command m ∷ wants) k = by_same (same_or_not n m)
   where
-    by_same : (n ≡ m) ⊎ (n ≢ m) → UpIn s.moments n (s.nodes.node n)
-    by_same (inl is) = subst (λ j. UpIn s.moments j (s.nodes.node j)) (sym is) k.here.up
-    by_same (inr ne) = (k.there n ne).up
-up_kept h s n [] k = (k.sites n).up
-up_kept h s n (want.Note e ∷ wants) k = (k.sites n).up
-up_kept h s n (want.Take m i ∷ wants) k = (k.sites n).up
-up_kept h s n (want.Deliver number x ∷ wants) k = (k.sites n).up
-up_kept h s n (want.Miss number x ∷ wants) k = (k.sites n).up
-up_kept h s n (want.Lose number x ∷ wants) k = (k.sites n).up
-up_kept h s n (want.Repeat number x ∷ wants) k = (k.sites n).up
-up_kept h s n (want.Write m d value ∷ wants) k = (k.sites n).up
-up_kept h s n (want.Refuse m d value why ∷ wants) k = (k.sites n).up
+    by_same : (n ≡ m) ⊎ (n ≢ m) → SiteSo h s.moments n (readying (site_of s.nodes n)) (site_of s.nodes n)
+    by_same (inl is) = subst (λ j. SiteSo h s.moments j (readying (site_of s.nodes j)) (site_of s.nodes j)) (sym is) k.here
+    by_same (inr ne) = excused h s.moments n (readying (site_of s.nodes n)) (site_of s.nodes n) (k.there n ne)
+readied_site h s n wants k = excused h s.moments n (readying (site_of s.nodes n)) (site_of s.nodes n) (k.sites n)
+
+pub up_kept : (h : Header) (s : Scene) (n : ℕ) (wants : List Want) → KeptBy h s wants → UpIn s.moments n (s.nodes.node n)
+up_kept h s n wants k = (readied_site h s n wants k).up

@@ -1,7 +1,6 @@
--- A node whose own attempt is over has the queue of `history`, where each step of a node leaves it so.
-use Rattle.std.specs.Prelude.{ℕ, suc, ◌≤◌, ◌<◌, ◌^◌, ◌≡◌, ◌⊎◌, ◌++◌, not, true, false, List, [], ◌∷◌, filter, length, Option, None, Some}
+-- A node that leads has the tasks of `history`, and one whose own attempt is over has its queue, where each step in which it takes part leaves it so.
+use Rattle.std.specs.Prelude.{ℕ, suc, ◌≡◌, ◌++◌, not, Bool, true, false, List, [], ◌∷◌, filter, length, Option, None, Some}
 use Rattle.std.proofs.Common.{refl, sym, ap, subst, ◌∙◌, inl, inr}
-use Rattle.cl_base.specs.Limits.{most_devices}
 use Rattle.cl_base.specs.declared.header.Header.{Header}
 use Rattle.cmm_attempt.proofs.Basics.{false_true}
 use Rattle.cmm_attempt.specs.Attempts.{AttemptState, is_over}
@@ -9,48 +8,38 @@ use Rattle.cmm_attempt.specs.declared.phase.Phase.{Phase}
 use Rattle.cmm_attempt.specs.declared.phase.Phase.TheVariants.{Choosing, Collecting, Installing, Over, SeizingOthers, SeizingVotes}
 use Rattle.device_queue.specs.Tasks.{is_queued}
 use Rattle.device_queue.specs.declared.task.Task.{Task}
-use Rattle.history.specs.Member.{attempt_of}
-use Rattle.history.specs.Moment.{Moment}
 use Rattle.history.specs.Queue as told
-use Rattle.history.specs.Queue.{is_write}
 use Rattle.history.specs.Seizing.{acts_for}
 use Rattle.history.specs.Setting.{Setting}
 use Rattle.history_setting.specs.Settings.{setting_of}
 use Rattle.node_model.specs.Attempts.{is_choosing}
 use Rattle.node_model.specs.Seats.{session_of as own_session}
-use Rattle.node_model.specs.declared.cluster.Cluster.{Cluster}
 use Rattle.node_model.specs.declared.node.Node.TheVariants.{Down, Up}
 use Rattle.node_model.specs.declared.node.UpNode.{UpNode}
 use Rattle.refinement.specs.Guards.{OfUp}
 use Rattle.run_devices.proofs.queues.Tasks.{same_queue}
 use Rattle.run_devices.specs.queues.Laws.{Same}
 use Rattle.run_devices.specs.queues.Told.{leads, leads_for}
-use Rattle.run_history.specs.Happenings.{Happening, MayAllHappen, all_happened, happened}
+use Rattle.run_history.specs.Happenings.{all_happened}
 use Rattle.run_history.specs.Scenes.{Scene, first_scene}
-use Rattle.run_history.specs.Shapes.{Due, ShapedFrom, nothing}
-use Rattle.run_history.specs.WorldLines.{AreDisks}
 use Rattle.run_outcomes.proofs.outward.Collectors.{collectors_have_none}
-use Rattle.run_outcomes.proofs.outward.Resting.{EachStepRests, IsRested, LeadersHave}
+use Rattle.run_outcomes.proofs.elsewhere.Steps.{Untouched, others_stay}
+use Rattle.run_outcomes.proofs.outward.Resting.{IsRested, LeadersHave}
+use Rattle.run_outcomes.proofs.own_steps.Steps.{OfEachStep, OwnStepsRest, takes_part}
+use Rattle.run_outcomes.proofs.own_steps.Walk.{of_each_left}
 use Rattle.run_outcomes.proofs.phases.LiveRuns.{none_is_over}
 use Rattle.run_outcomes.proofs.phases.Seizes.{seizings_are_told}
 use Rattle.run_outcomes.proofs.phases.Votes.{votes_are_told}
 use Rattle.run_outcomes.proofs.saves.Kept.{run_kept}
-use Rattle.run_outcomes.proofs.told_tasks.Closed.{closed_all, same_acts}
-use Rattle.run_outcomes.proofs.told_tasks.Prefixes.{ShapedBefore, by_last, happened_last, may_before, native_before, shaped_before}
 use Rattle.run_outcomes.proofs.told_tasks.Queues.{SeizersHave}
-use Rattle.run_outcomes.proofs.told_tasks.Quiet.{same_number_of, same_tasks}
-use Rattle.run_outcomes.proofs.told_tasks.Simple.{IsSimple, Simply, simple_or, simply}
 use Rattle.run_outcomes.specs.phases.Laws.{HasAttempt, NewestCounts, SeizesTold, is_installing, is_seizing}
 use Rattle.run_outcomes.specs.saves.Kept.{IsAt, Rests, RestsIn}
-use Rattle.run_outcomes.specs.tasks.Laws.{OfEachPoint, OwnTasksAreAsked}
+use Rattle.run_outcomes.specs.tasks.Laws.{OfEachLeft, OwnTasksAreAsked}
 use Rattle.run_outcomes.specs.tasks.Left.{IsClosed, RestedHave}
-use Rattle.run_outcomes.specs.tasks.Quiet.{AreQuiet}
-use Rattle.run_packets.specs.views.Laws.{NoneForeign}
 use Rattle.run_seizings.proofs.Runs.{run_seizes}
 use Rattle.run_seizings.specs.Seized.{AttemptIn, AttemptSo}
 use Rattle.run_seizings.specs.Sites.{UpIn}
 use Rattle.world_model.specs.First.{first_cluster}
-use Rattle.run_outcomes.specs.tasks.Lasting.{lasts_open}
 
 -- ---- those that lead
 
@@ -61,13 +50,13 @@ none_left (t ∷ ts) is = absurd (never (length ts) is)
     never : (k : ℕ) → suc k ≡ 0 → ⊥
     never k e = cc
 
--- as each that has an attempt, where those are so that have none
-leaders_have : OwnTasksAreAsked → OfEachPoint (λ h s. SeizersHave h s) → (h : Header) (cells : ℕ) (hs : List Happening) (last : Due) → length h.devices ≤ most_devices → h.cluster < 2 ^ 32 → AreDisks h
-    → MayAllHappen (first_cluster h) (first_scene h cells) hs → ShapedFrom (first_cluster h) (first_scene h cells) nothing hs last → NoneForeign (first_cluster h) (first_scene h cells) hs
-    → ((n : ℕ) (x : UpNode) → (all_happened (first_cluster h) (first_scene h cells) hs).nodes.node n ≡ Up x → x.attempt ≡ None → leads n (all_happened (first_cluster h) (first_scene h cells) hs).moments ≡ true
-    → IsClosed h (all_happened (first_cluster h) (first_scene h cells) hs) n → IsRested x (told.tasks_of (setting_of h) n (all_happened (first_cluster h) (first_scene h cells) hs).moments))
-    → LeadersHave h (all_happened (first_cluster h) (first_scene h cells) hs)
-leaders_have own seizers h cells hs last few small disks may shaped native rest n x up first closed = by_attempt x.attempt refl
+-- those that have no attempt
+abbrev RestingHave : Header → Scene → Type 0
+RestingHave h s = (n : ℕ) (x : UpNode) → s.nodes.node n ≡ Up x → x.attempt ≡ None → leads n s.moments ≡ true → IsClosed h s n → IsRested x (told.tasks_of (setting_of h) n s.moments)
+
+-- all are so, where those are that have none
+leaders_have : OwnTasksAreAsked → OfEachLeft (λ h s. SeizersHave h s) → OfEachLeft (λ h s. RestingHave h s → LeadersHave h s)
+leaders_have own seizers h cells hs last nodes few small disks may shaped native boots left rest n x up first closed = by_attempt x.attempt refl
   where
     S : Setting
     S = setting_of h
@@ -96,7 +85,7 @@ leaders_have own seizers h cells hs last few small disks may shaped native rest 
         seizes : is_seizing a.phase ≡ true → IsRested x (told.tasks_of S n s.moments)
         seizes seizing =
             let counts : NewestCounts S a s.moments = votes_are_told h cells hs few small may n a it seizing in
-            inl (seizers h cells hs last few small disks may shaped native n x a counts.both up at seizing counts.given closed)
+            inl (seizers h cells hs last nodes few small disks may shaped native boots left n x a counts.both up at seizing counts.given closed)
 
         installs_not : is_installing a.phase ≡ true → IsRested x (told.tasks_of S n s.moments)
         installs_not installing =
@@ -115,70 +104,42 @@ leaders_have own seizers h cells hs last few small disks may shaped native rest 
     by_attempt None at = rest n x up at first closed
     by_attempt (Some a) at = having a at
 
--- ---- what happens beside nodes
+-- ---- each thing that happens
 
--- all that quiet lines leave of it
-abbrev HasNone : Header → Scene → Type 0
-HasNone h s = (n : ℕ) (x : UpNode) → s.nodes.node n ≡ Up x → x.attempt ≡ None → leads n s.moments ≡ true → IsClosed h s n → IsRested x (told.tasks_of (setting_of h) n s.moments)
+-- one that takes no part has its tasks still
+untouched_rested : (h : Header) (s t : Scene) (n : ℕ) (y : UpNode) → Untouched (setting_of h) n s t → LeadersHave h s → t.nodes.node n ≡ Up y → leads n t.moments ≡ true → IsClosed h t n
+    → IsRested y (told.tasks_of (setting_of h) n t.moments)
+untouched_rested h s t n y z k up first closed =
+    subst (IsRested y) (sym z.lines.tasks) (k n y (sym z.node ∙ up) (sym z.lines.leading ∙ first) (z.lines.closed closed))
 
-leads_quiet : (n : ℕ) (ms newer : List Moment) → AreQuiet n ms newer → leads n (newer ++ ms) ≡ leads n ms
-leads_quiet n ms newer k = ap (λ o. leads_for n o (newer ++ ms)) (same_number_of n ms newer k) ∙ by_number (attempt_of n ms)
+step_rested : OwnTasksAreAsked → OfEachLeft (λ h s. SeizersHave h s) → OwnStepsRest → OfEachStep (λ h s x t. LeadersHave h s → LeadersHave h t)
+step_rested own seizers rests h cells hs x last nodes few small disks may shaped native boots left k =
+    leaders_have own seizers h cells (hs ++ x ∷ []) last nodes few small disks may shaped native boots left resting
   where
-    by_number : (o : Option ℕ) → leads_for n o (newer ++ ms) ≡ leads_for n o ms
-    by_number None = refl
-    by_number (Some e) = same_acts n e ms newer k
+    s : Scene
+    s = all_happened (first_cluster h) (first_scene h cells) hs
 
-simple_rested : (h : Header) (c : Cluster) (s : Scene) (x : Happening) → IsSimple x → HasNone h s → HasNone h (happened c s x)
-simple_rested h c s x is k n y up at first closed =
-    subst (λ ms. IsRested y (told.tasks_of (setting_of h) n ms)) (sym z.parts)
-    (subst (IsRested y) (sym (same_tasks (setting_of h) n s.moments z.newer (z.quiet n)))
-    (k n y (sym (z.nodes n) ∙ up) at (sym (leads_quiet n s.moments z.newer (z.quiet n)) ∙ subst (λ ms. leads n ms ≡ true) z.parts first)
-    (closed_all (setting_of h) n s.moments z.newer (z.quiet n) (subst (λ ms. lasts_open (setting_of h) n ms ≡ false) z.parts closed))))
-  where
-    z : Simply s (happened c s x)
-    z = simply c s x is
+    t : Scene
+    t = all_happened (first_cluster h) (first_scene h cells) (hs ++ x ∷ [])
+
+    resting : RestingHave h t
+    resting n y up at first closed = by_part (takes_part n x) refl
+      where
+        by_part : (b : Bool) → takes_part n x ≡ b → IsRested y (told.tasks_of (setting_of h) n t.moments)
+        by_part true is = rests h cells hs x last nodes few small disks may shaped native boots left k n is y up at first closed
+        by_part false is = untouched_rested h s t n y (others_stay h cells hs x last nodes few small disks may shaped native boots left n is) k up first closed
 
 -- ---- the law, from what is left of steps
 
 down_up : (x : UpNode) → Down ≡ Up x → ⊥
 down_up x e = cc
 
-first_down : (h : Header) (cells n : ℕ) (x : UpNode) → (first_scene h cells).nodes.node n ≡ Up x → ⊥
+first_rested : (h : Header) (cells : ℕ) → LeadersHave h (first_scene h cells)
 unfolding first_scene
-first_down h cells n x up = down_up x up
+first_rested h cells n x up leading closed = absurd (down_up x up)
 
-pub all_rested : OwnTasksAreAsked → OfEachPoint (λ h s. SeizersHave h s) → EachStepRests → OfEachPoint (λ h s. HasNone h s)
-all_rested own seizers each h cells hs last few small disks may shaped native = by_last P first next hs last may shaped native
-  where
-    P : List Happening → Type 0
-    P xs = (d : Due) → MayAllHappen (first_cluster h) (first_scene h cells) xs → ShapedFrom (first_cluster h) (first_scene h cells) nothing xs d
-        → NoneForeign (first_cluster h) (first_scene h cells) xs → HasNone h (all_happened (first_cluster h) (first_scene h cells) xs)
-
-    first : P []
-    first d m z f n x up at leading closed = absurd (first_down h cells n x up)
-
-    next : (xs : List Happening) (x : Happening) → P xs → P (xs ++ x ∷ [])
-    next xs x k d m z f = by_kind (simple_or x)
-      where
-        c : Cluster
-        c = first_cluster h
-
-        may_so : MayAllHappen c (first_scene h cells) xs
-        may_so = may_before c (first_scene h cells) xs (x ∷ []) m
-
-        before : ShapedBefore c (first_scene h cells) nothing xs
-        before = shaped_before c (first_scene h cells) nothing d xs (x ∷ []) z
-
-        native_so : NoneForeign c (first_scene h cells) xs
-        native_so = native_before c (first_scene h cells) xs (x ∷ []) f
-
-        rest : HasNone h (all_happened c (first_scene h cells) xs)
-        rest = k before.last may_so before.shaped native_so
-
-        by_kind : IsSimple x ⊎ (IsSimple x → ⊥) → HasNone h (all_happened c (first_scene h cells) (xs ++ x ∷ []))
-        by_kind (inl is) = subst (λ (s : Scene). HasNone h s) (sym (happened_last c (first_scene h cells) xs x)) (simple_rested h c (all_happened c (first_scene h cells) xs) x is rest)
-        by_kind (inr step) =
-            each h cells xs x d step few small disks m z f (leaders_have own seizers h cells xs before.last few small disks may_so before.shaped native_so rest)
+pub all_lead : OwnTasksAreAsked → OfEachLeft (λ h s. SeizersHave h s) → OwnStepsRest → OfEachLeft (λ h s. LeadersHave h s)
+all_lead own seizers rests = of_each_left (λ h s. LeadersHave h s) first_rested (step_rested own seizers rests)
 
 rested_queue : (x : UpNode) (us : List told.Task) → IsRested x us → Same (filter is_queued x.tasks) (filter (λ (u : told.Task). not (told.is_over u.work)) us)
 rested_queue x us (inl same) = same_queue x.tasks us same
@@ -186,7 +147,7 @@ rested_queue x us (inr none) =
     subst (λ ts. Same ts (filter (λ (u : told.Task). not (told.is_over u.work)) us)) (sym none.0)
     (subst (λ z. Same [] (filter (λ (u : told.Task). not (told.is_over u.work)) z)) (sym none.1) tt)
 
-pub rested_have : OwnTasksAreAsked → OfEachPoint (λ h s. SeizersHave h s) → EachStepRests → RestedHave
-rested_have own seizers each h cells hs last few small disks may shaped native n x up at first closed =
+pub rested_have : OwnTasksAreAsked → OfEachLeft (λ h s. SeizersHave h s) → OwnStepsRest → RestedHave
+rested_have own seizers rests h cells hs last nodes few small disks may shaped native boots left n x up at first closed =
     rested_queue x (told.tasks_of (setting_of h) n (all_happened (first_cluster h) (first_scene h cells) hs).moments)
-    (all_rested own seizers each h cells hs last few small disks may shaped native n x up at first closed)
+    (all_lead own seizers rests h cells hs last nodes few small disks may shaped native boots left n x up first closed)

@@ -151,7 +151,7 @@ seized_already c d promises es ts e begun h is asked = by_task (task_of (IsOwn c
     by_task (inr k) = ap (λ o. put_unless o (record { device = d; work = work.Seizing begun }) ts) (find_both (λ (t : Task). t.device == d) (λ (t : Task). is_seizure t.work) ts k.task k.found k.so.work)
 
 -- the entry of the device asks the node
-entry_asks : (t : Sharing) (q d c : ℕ) (promises : List Promised) (es : List Seizing) (ts : List Task) (begun : SeizeState) (o : Option Seizing) → entry_of es d ≡ o → (t.attempt q).asked c ≡ true → HasEntry t q o
+pub entry_asks : (t : Sharing) (q d c : ℕ) (promises : List Promised) (es : List Seizing) (ts : List Task) (begun : SeizeState) (o : Option Seizing) → entry_of es d ≡ o → (t.attempt q).asked c ≡ true → HasEntry t q o
     → Match (IsOwn c) c promises es ts → after_seize ts d begun ≡ ts
 entry_asks t q d c promises es ts begun None is asked has_it h = absurd (not_both ((t.attempt q).asked c) asked (has_it.asked c))
 entry_asks t q d c promises es ts begun (Some e) is asked has_it h = by_seizer e.seizer has_it

@@ -150,7 +150,7 @@ prepared_at_staid c me x from place (Some p) =
           (then_staid c me y (acknowledging_course c me y) (handling_course c me) (acknowledging_staid c me y) (λ z. handling_staid c me z)) tt,
     )
 
-prepared_staid : (c : Cluster) (me : ℕ) (x : UpNode) (from e place : ℕ) → IsStaid (cuts.prepared_course c me x from e place)
+pub prepared_staid : (c : Cluster) (me : ℕ) (x : UpNode) (from e place : ℕ) → IsStaid (cuts.prepared_course c me x from e place)
 prepared_staid c me x from e place = if_either IsStaid (is_of_member x from e) (cuts.prepared_at_course c me x from place x.presidency) Stops (prepared_at_staid c me x from place x.presidency) tt
 
 preparing_left : (from e place : ℕ) (s : NodeState) (text : List ℕ) (r : Prepared) → AreLeft (cuts.preparing_course from e place s text r)

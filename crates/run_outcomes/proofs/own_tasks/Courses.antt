@@ -157,7 +157,7 @@ votes_owned c me x a idle =
     let k : Call = With_votes (votes_in c a) in
     called_owned c me x a k (turn_owns me (begun_for c me x (turn a k).after) (begun_none c me x (turn a k).after) x.tasks a k idle)
 
-is_early : (p : Phase) → is_choosing p ≡ true → IsEarly p
+pub is_early : (p : Phase) → is_choosing p ≡ true → IsEarly p
 is_early Choosing is = tt
 is_early Collecting is = absurd (false_true is)
 is_early SeizingVotes is = absurd (false_true is)

@@ -56,7 +56,7 @@ joins_owned me ts (Some b) a d r is h = record {
 }
 
 -- it ends a seizing of the node itself, and its attempt takes that
-call_so : (me : ℕ) (ts : List Task) (b : AttemptState) (a : Answer) (d : ℕ) (r : SeizeResult) → progress_after ts a ≡ Seized d r → IsOrdered me b → Owns me ts b → CallSo me (after_answer ts a) b (Own_seized d r)
+pub call_so : (me : ℕ) (ts : List Task) (b : AttemptState) (a : Answer) (d : ℕ) (r : SeizeResult) → progress_after ts a ≡ Seized d r → IsOrdered me b → Owns me ts b → CallSo me (after_answer ts a) b (Own_seized d r)
 call_so me ts b a d r is ok h = (
   (λ seizes. record {
     ordered = ok;

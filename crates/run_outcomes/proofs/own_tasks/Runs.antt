@@ -13,7 +13,6 @@ use Rattle.cmm_attempt.specs.Attempts.{AttemptState}
 use Rattle.cmm_attempt.specs.declared.phase.Phase.{Phase}
 use Rattle.cmm_attempt.specs.declared.phase.Phase.TheVariants.{Choosing, Collecting, Installing, Over, SeizingOthers, SeizingVotes}
 use Rattle.device_queue.specs.Queue.{after_seize}
-use Rattle.device_queue.specs.declared.task.Task.{Task}
 use Rattle.history.specs.Moment.{Said}
 use Rattle.history.specs.Setting.{coordinator}
 use Rattle.interconnect.specs.Links as net
@@ -83,10 +82,10 @@ final_of Installing f = tt
 final_of Over f = tt
 
 -- its coordinator has installed it
-installed_so : (h : Header) (s : Scene) (n : ℕ) (i : Install) (x : UpNode) (a : AttemptState) (g : Ground h s n x a) (ts : List Task) → IsInstalled s.moments i.epoch → is_in x i.epoch ≡ true → Owns n ts a
-installed_so h s n i x a g ts installed is =
-    final_owns n ts a (final_of a.phase (λ before. not_both (has_installed n a.plan.epoch s.moments)
-    (subst (λ q. has_installed n q s.moments ≡ true) (sym same) (subst (λ k. has_installed k i.epoch s.moments ≡ true) (ap coordinator (sym same) ∙ g.so.own) installed.2)) (g.so.before before)))
+pub installed_final : (h : Header) (s : Scene) (n : ℕ) (i : Install) (x : UpNode) (a : AttemptState) → Ground h s n x a → IsInstalled s.moments i.epoch → is_in x i.epoch ≡ true → IsFinal a.phase
+installed_final h s n i x a g installed is =
+    final_of a.phase (λ before. not_both (has_installed n a.plan.epoch s.moments)
+    (subst (λ q. has_installed n q s.moments ≡ true) (sym same) (subst (λ k. has_installed k i.epoch s.moments ≡ true) (ap coordinator (sym same) ∙ g.so.own) installed.2)) (g.so.before before))
   where
     same : a.plan.epoch ≡ i.epoch
     same = g.so.epoch ∙ same_number (session_of x) i.epoch (and_cases (nat_le 1 i.epoch) (session_of x == i.epoch) is).1
@@ -95,14 +94,14 @@ installed_so h s n i x a g ts installed is =
 abbrev pub Known : Header → Scene → ℕ → UpNode → ℕ → Body → Type 0
 Known h s n x from b = (a : AttemptState) → x.attempt ≡ Some a → (g : Ground h s n x a) × ToldOf g.whole.machine from n b
 
-of_attempt : (x : UpNode) (P : AttemptState → Type 0) → ((a : AttemptState) → x.attempt ≡ Some a → P a) → In P x.attempt
+pub of_attempt : (x : UpNode) (P : AttemptState → Type 0) → ((a : AttemptState) → x.attempt ≡ Some a → P a) → In P x.attempt
 of_attempt x P f = by_attempt x.attempt refl
   where
     by_attempt : (o : Option AttemptState) → x.attempt ≡ o → In P o
     by_attempt None is = tt
     by_attempt (Some a) is = f a is
 
-owned_of : (n : ℕ) (x : UpNode) (a : AttemptState) → Owned n x → x.attempt ≡ Some a → Owns n x.tasks a
+pub owned_of : (n : ℕ) (x : UpNode) (a : AttemptState) → Owned n x → x.attempt ≡ Some a → Owns n x.tasks a
 owned_of n x a h is = subst (In (Owns n x.tasks)) is h
 
 body_so : (h : Header) (s : Scene) (n : ℕ) (x : UpNode) (from : ℕ) (b : Body) → Known h s n x from b → StandsSo h s.moments from b → Owned n x → BodySo (first_cluster h) n x from b
@@ -123,10 +122,10 @@ body_so h s n x from (body.SeizeData e members d) known stands own = λ here.
     begun kind q set = seizing.begun kind q set n (first_cluster h).id (has (record_of x).valid d)
 body_so h s n x from (body.Install i) known stands own = λ here t seat fresh.
     of_attempt x (Owns n (changed (first_cluster h) n x (Installs t i)).tasks)
-    (λ a is. let k : (g : Ground h s n x a) × ToldOf g.whole.machine from n (body.Install i) = known a is in installed_so h s n i x a k.0 (changed (first_cluster h) n x (Installs t i)).tasks stands.0 here)
+    (λ a is. let k : (g : Ground h s n x a) × ToldOf g.whole.machine from n (body.Install i) = known a is in final_owns n (changed (first_cluster h) n x (Installs t i)).tasks a (installed_final h s n i x a k.0 stands.0 here))
 body_so h s n x from _ known stands own = tt
 
-arrives_so : (h : Header) (cells : ℕ) (s : Scene) (number : ℕ) (p : Packet) (m : Message) → IsSmall h → IsReached h cells s → packet_of s.links.packets number ≡ Some p → whole_of p.bytes ≡ Some m → AllOwned s
+pub arrives_so : (h : Header) (cells : ℕ) (s : Scene) (number : ℕ) (p : Packet) (m : Message) → IsSmall h → IsReached h cells s → packet_of s.links.packets number ≡ Some p → whole_of p.bytes ≡ Some m → AllOwned s
     → IsAt (λ x. InputSo (first_cluster h) p.to x (input.Packet p.from m)) (s.nodes.node p.to)
 arrives_so h cells s number p m size r here whole own = by_node (s.nodes.node p.to) refl (own p.to)
   where
@@ -200,6 +199,11 @@ first_owned h cells n = tt
 pub run_owned : (h : Header) (cells : ℕ) (hs : List Happening) → IsSmall h → MayAllHappen (first_cluster h) (first_scene h cells) hs → AllOwned (all_happened (first_cluster h) (first_scene h cells) hs)
 run_owned h cells hs size may = holds_of_each h cells AllOwned (λ s x now at more own. happening_owned h cells s x size at now own) (first_owned h cells) hs may
 
+-- so the tasks of a node with an attempt are
+pub owned_at : (h : Header) (cells : ℕ) (hs : List Happening) → IsSmall h → MayAllHappen (first_cluster h) (first_scene h cells) hs → (n : ℕ) (x : UpNode) (a : AttemptState)
+    → (all_happened (first_cluster h) (first_scene h cells) hs).nodes.node n ≡ Up x → x.attempt ≡ Some a → Owns n x.tasks a
+owned_at h cells hs size may n x a up has_it = owned_of n x a (subst (IsAt (Owned n)) up (run_owned h cells hs size may n)) has_it
+
 -- ---- the law
 
 -- so it is at each point of a run
@@ -223,7 +227,7 @@ own_tasks_at h cells hs size may n x a up has_it = record {
     g = ground_at h cells s n x a size (record { happenings = hs; may = may; is = refl }) up has_it
 
     own : Owns n x.tasks a
-    own = subst (In (Owns n x.tasks)) has_it (subst (IsAt (Owned n)) up (run_owned h cells hs size may n))
+    own = owned_at h cells hs size may n x a up has_it
 
 pub own_tasks_are_asked : OwnTasksAreAsked
 own_tasks_are_asked h cells hs last few small disks may shaped native n x a up has_it = own_tasks_at h cells hs (record { few = few; small = small }) may n x a up has_it

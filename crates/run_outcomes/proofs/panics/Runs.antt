@@ -109,7 +109,7 @@ delivered_left : (s : Scene) (number from to : ℕ) → AllWent s.nodes s.moment
 delivered_left s number from to h =
     let x : Moment = delivered number from to in
     record {
-      judged = (record { says = tt; excluded = tt }, h.judged);
+      judged = (record { says = tt; excluded = tt; rises = tt }, h.judged);
       sites = λ k. site_grows s.moments (x ∷ s.moments) k (site_of s.nodes k) (grows_one s.moments x tt) refl (h.sites k);
     }
 

@@ -104,7 +104,7 @@ choosing_gathers : (Due : ℕ → Type 0) (s : AttemptState) → Gathers Due s �
 unfolding choosing
 choosing_gathers Due s h = chosen_gathers Due s (newest_shown s.promises) h
 
-shown_node : (from : ℕ) (m : Message) (p : Promised) (b : Body) → promised_by m (shown_by from b) ≡ Some p → p.shown.summary.node ≡ from
+pub shown_node : (from : ℕ) (m : Message) (p : Promised) (b : Body) → promised_by m (shown_by from b) ≡ Some p → p.shown.summary.node ≡ from
 shown_node from m p (body.Promise e installed members valid flagged committed pending) is = ap (λ (q : Promised). q.shown.summary.node) (sym (same_some _ p is))
 shown_node from m p _ is = absurd (none_some p is)
 

@@ -167,7 +167,7 @@ taking_own c s t n now ends i high fits k same h =
     (subst (λ v. OwnIn (moved c v (Takes_in n now ends i))) (sym same)
     (put_cases (λ j z. IsAt (Has HasOwn) z) s.nodes.node n (stepped disk_rules c n now ends (s.nodes.node n) (s.nodes.disk n) i).after (step_own c s t n now ends i high fits k same (h n)) (λ j ne. h j)))
 
-dropped_nodes : (o : Option (ℕ × DropCause)) (s : Scene) → (dropped_so o s).nodes ≡ s.nodes
+pub dropped_nodes : (o : Option (ℕ × DropCause)) (s : Scene) → (dropped_so o s).nodes ≡ s.nodes
 dropped_nodes None s = refl
 dropped_nodes (Some x) s = refl
 

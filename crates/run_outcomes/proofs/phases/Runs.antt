@@ -81,13 +81,13 @@ none_by c M n disk a o None seat tied presides has = refl
 none_by c M n disk a o (Some p) (Forming s) tied presides has = absurd presides
 none_by c M n disk a o (Some p) (Member s) tied presides has = absurd (none_some a (sym tied.2 ∙ has))
 
-none_at : (c : Cluster) (s : Scene) (n : ℕ) (x : UpNode) (a : AttemptState) → Knows c s → s.nodes.node n ≡ Up x → x.attempt ≡ Some a → x.presidency ≡ None
+pub none_at : (c : Cluster) (s : Scene) (n : ℕ) (x : UpNode) (a : AttemptState) → Knows c s → s.nodes.node n ≡ Up x → x.attempt ≡ Some a → x.presidency ≡ None
 none_at c s n x a k up has =
     let M : Memberships = k.known.stage.machine in
     let tied : NodeTied c M n (s.nodes.disk n).kept (Up x) = subst (NodeTied c M n (s.nodes.disk n).kept) up (k.known.stage.stands n).tied in
     none_by c M n (s.nodes.disk n).kept a x.attempt x.presidency x.seat tied.0 tied.1 has
 
-plain_comes : (I : AttemptState → Type 0) (c : Cluster) (n : ℕ) (x : UpNode) (a : AttemptState) (i : Input) → IsPlain i → I a → Comes I c n x a i
+pub plain_comes : (I : AttemptState → Type 0) (c : Cluster) (n : ℕ) (x : UpNode) (a : AttemptState) (i : Input) → IsPlain i → I a → Comes I c n x a i
 plain_comes I c n x a (input.Packet from m) plain h = absurd plain
 plain_comes I c n x a _ plain h = h
 
@@ -98,7 +98,7 @@ speaks_in c (event.Fault n d done) s w h = still s.nodes s.moments _ w (follows_
 speaks_in c (event.CrashAt n calls choice) s w h = still (moved c s.nodes (Arms n calls (left_by choice))) s.moments _ w (follows_one (Said (line.Event (event.CrashAt n calls choice))) s.moments refl) h
 speaks_in c e s w h = still s.nodes s.moments _ w (follows_one (Said (line.Event e)) s.moments refl) h
 
-commanded_so : (P : Nodes → List Moment → Type 0) (s : Scene) (n d : ℕ) (o : Option Device) (k : PrCommand) → P s.nodes s.moments → P (commanded_at s n d o k).scene.nodes (commanded_at s n d o k).scene.moments
+pub commanded_so : (P : Nodes → List Moment → Type 0) (s : Scene) (n d : ℕ) (o : Option Device) (k : PrCommand) → P s.nodes s.moments → P (commanded_at s n d o k).scene.nodes (commanded_at s n d o k).scene.moments
 commanded_so P s n d None k h = h
 commanded_so P s n d (Some x) k h = h
 

@@ -122,9 +122,9 @@ packet_has I c me ends x from m a b keeps is h native =
 
 -- a node without a presidency leaves its attempt as it is
 
-record Same (o : Option AttemptState) (z : UpNode) : Type 0 where
-  attempt : z.attempt ≡ o
-  none : z.presidency ≡ None
+pub record Same (o : Option AttemptState) (z : UpNode) : Type 0 where
+  pub attempt : z.attempt ≡ o
+  pub none : z.presidency ≡ None
 
 own_turn_same : (c : Cluster) (me : ℕ) (ends : method.Outcome) (x : UpNode) (p : Option Presidency) (o : Option AttemptState) → p ≡ None → Same o x
     → LeadsTo c me (Same o) x (cuts.own_turn_course c me ends x (if is_member x.seat then own_order_of me p else None))
@@ -141,7 +141,7 @@ again_same c me before x p o none h =
     subst (λ z. LeadsTo c me (Same o) x (cuts.prepares_again_course before z (Acts (Gives (orders_again before x)) (cuts.deciding_course c me x)))) (sym none)
     (deciding_same c me x x.presidency o h.none h)
 
-governing_same : (c : Cluster) (me : ℕ) (ends : method.Outcome) (before x : UpNode) (o : Option AttemptState) → before.presidency ≡ None → Same o x → LeadsTo c me (Same o) x (cuts.governing_course c me ends before x)
+pub governing_same : (c : Cluster) (me : ℕ) (ends : method.Outcome) (before x : UpNode) (o : Option AttemptState) → before.presidency ≡ None → Same o x → LeadsTo c me (Same o) x (cuts.governing_course c me ends before x)
 governing_same c me ends before x o none h =
     leads_joined c me (Same o) (Same o) x (cuts.own_turn_course c me ends x (own_order me x)) (cuts.going_again_course c me before) (own_turn_same c me ends x x.presidency o h.none h)
     (λ y same. again_same c me before y before.presidency o none same)
@@ -197,7 +197,7 @@ quiet_has I c me x k quiet none h = leaves_has I c me x k (quiet_leaves k quiet 
 client_no : (c : Cluster) (x : UpNode) (name : List ℕ) (number port : ℕ) (o : Option Presidency) → o ≡ None → NoLeads (cuts.serving_by_course c x name number port o)
 client_no c x name number port o none = subst (λ z. NoLeads (cuts.serving_by_course c x name number port z)) (sym none) tt
 
-later_none : (c : Cluster) (x : UpNode) → x.presidency ≡ None → (later c x).presidency ≡ None
+pub later_none : (c : Cluster) (x : UpNode) → x.presidency ≡ None → (later c x).presidency ≡ None
 later_none c x is = ap later_presidency is
 
 input_has : (I : AttemptState → Type 0) (c : Cluster) (me : ℕ) (ends : method.Outcome) (x : UpNode) (a : AttemptState) (i : Input) → IsKept I → x.attempt ≡ Some a → x.presidency ≡ None → Comes I c me x a i

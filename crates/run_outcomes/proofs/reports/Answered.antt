@@ -123,5 +123,5 @@ module _ (h : Header) (cells : ℕ) (same : (setting_of h).cells ≡ cells) wher
   replies_open = record { line_so = line_replied; part_so = part_replied }
 
 pub tasks_answered : QueuesAreTold → RequestsAreOfAttempts → ReadiesAreShort → TasksAreAnsweredInEachRun
-tasks_answered queues asks ready h cells hs few small disks same may shaped native =
-    each_event (Replied h cells same) h cells hs (record { few = few; small = small }) (Facts h cells) (replies_open h cells same) (facts_along queues asks ready h cells hs few small disks may shaped native) may shaped native
+tasks_answered queues asks ready h cells hs nodes few small disks same may shaped native boots =
+    each_event (Replied h cells same) h cells hs (record { few = few; small = small }) (Facts h cells) (replies_open h cells same) (facts_along queues asks ready h cells hs nodes few small disks may shaped native boots) may shaped native

@@ -276,5 +276,5 @@ module _ (h : Header) (cells : ℕ) (same : (setting_of h).cells ≡ cells) wher
   reports_open = record { line_so = line_reported; part_so = part_reported }
 
 pub reports_owed : QueuesAreTold → RequestsAreOfAttempts → ReadiesAreShort → InstallsHaveCome → ReportsOfEachRun
-reports_owed queues asks ready came h cells hs few small disks same may shaped native =
-    each_event (Reported h cells same) h cells hs (record { few = few; small = small }) (InstallFacts h cells) (reports_open h cells same) (installs_along queues asks ready came h cells hs few small disks may shaped native) may shaped native
+reports_owed queues asks ready came h cells hs nodes few small disks same may shaped native boots =
+    each_event (Reported h cells same) h cells hs (record { few = few; small = small }) (InstallFacts h cells) (reports_open h cells same) (installs_along queues asks ready came h cells hs nodes few small disks may shaped native boots) may shaped native

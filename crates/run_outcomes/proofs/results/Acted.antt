@@ -37,6 +37,7 @@ use Rattle.node_model.specs.declared.output.Output.{Output}
 use Rattle.node_model.specs.declared.output.Output.TheVariants.{Sends, Tells}
 use Rattle.refinement.specs.Doings.{Act, Change, acted, last_lines, said}
 use Rattle.refinement.specs.Doings.Act.{Accepts, Dates, Ends, Gives, Goes_on, Hears, Makes, Minds, Notes, Queues, Spreads, Stores, Takes, Ticks, Waits, Works, Writes}
+use Rattle.refinement.specs.Doings.Doing.{Does}
 use Rattle.refinement.specs.Doings.Change.{Admits, Counts, Starts}
 use Rattle.refinement.proofs.Attempts.{may_be_called}
 use Rattle.refinement.specs.Guards.{MayAct, MayCall, MayChange, MayWrite}
@@ -56,9 +57,10 @@ use Rattle.wire.specs.declared.message.Body.{Body}
 use Rattle.wire.specs.declared.message.Body.TheVariants as body
 use Rattle.run_outcomes.proofs.results.Calm.{AllCalm, AllMute, IsMute, IsPlain, all_mute, made_calm, made_mute, minor_calm, opened_calm, opened_lines, spread_calm, ticked_calm, write_calm}
 use Rattle.run_outcomes.proofs.accounts.Opening.{Opening, opened, opened_more, opening_shown}
-use Rattle.run_outcomes.proofs.accounts.Starting.{start_explained}
+use Rattle.run_outcomes.proofs.accounts.Starting.{start_accounted}
 use Rattle.run_outcomes.proofs.accounts.Votes.{Installed}
-use Rattle.run_outcomes.specs.accounts.Kept.{AreExplained}
+use Rattle.run_outcomes.specs.accounts.Kept.{AreAccounted}
+use Rattle.run_outcomes.specs.accounts.Unregistered.{AreKept, StartKept}
 use Rattle.run_outcomes.proofs.results.Lacking.{lacks_shown, one_of}
 use Rattle.run_outcomes.proofs.results.Passing.{Lasts, idle_ends, idle_spares, passing_all, passing_lasts, posting_lasts}
 use Rattle.run_outcomes.proofs.results.Stays.{hand_stays, node_stays, says_stay}
@@ -178,14 +180,14 @@ line_goes h past n told f x last e ms ends g differ =
 
 -- the lines of its base
 bases_go : (h : Header) (past : Collected) (n : ℕ) (told : Delivered) (f : ℕ → ℕ) (x : UpNode) (last : Last) (st : Start) (before : List Moment) (updates done left : List (List ℕ)) (e v : ℕ) (s : Scene)
-    → updates ≡ done ++ left → st.count ≡ length updates → AreExplained (setting_of h) st updates before → Opening st before done s.moments → Goes h past n told f (Up x) last s.moments
+    → updates ≡ done ++ left → st.count ≡ length updates → AreAccounted (setting_of h) st updates before → Opening st before done s.moments → Goes h past n told f (Up x) last s.moments
     → Goes h past n told f (Up x) last (passing n (base_lines e v left) s).moments
-bases_go h past n told f x last st before updates done [] e v s cut count explained k g = g
-bases_go h past n told f x last st before updates done (words ∷ left) e v s cut count explained k g =
+bases_go h past n told f x last st before updates done [] e v s cut count accounted k g = g
+bases_go h past n told f x last st before updates done (words ∷ left) e v s cut count accounted k g =
     let next : Opening st before (done ++ words ∷ []) (Told (entry.Start (start_entry.Base e (v + 1) words)) ∷ s.moments) = opened_more st before done s.moments e (v + 1) words k in
     let rest : updates ≡ (done ++ words ∷ []) ++ left = cut ∙ one_further done words left in
-    bases_go h past n told f x last st before updates (done ++ words ∷ []) left e (v + 1) (telling (entry.Start (start_entry.Base e (v + 1) words)) s) rest count explained next
-    (line_goes h past n told f x last (start_entry.Base e (v + 1) words) s.moments (opening_shown (setting_of h) st before updates (done ++ words ∷ []) left _ rest count explained next) g)
+    bases_go h past n told f x last st before updates (done ++ words ∷ []) left e (v + 1) (telling (entry.Start (start_entry.Base e (v + 1) words)) s) rest count accounted next
+    (line_goes h past n told f x last (start_entry.Base e (v + 1) words) s.moments (opening_shown (setting_of h) st before updates (done ++ words ∷ []) left _ rest count accounted next) g)
   where
     one_further : (xs : List (List ℕ)) (y : List ℕ) (ys : List (List ℕ)) → xs ++ y ∷ ys ≡ (xs ++ y ∷ []) ++ ys
     one_further [] y ys = refl
@@ -193,9 +195,9 @@ bases_go h past n told f x last st before updates done (words ∷ left) e v s cu
 
 -- where an attempt starts, it accounts for each device
 pub starts_goes : (h : Header) (past : Collected) (c : Cluster) (n : ℕ) (told : Delivered) (f : ℕ → ℕ) (x : UpNode) (a : AttemptState) (k : Call) (y : NodeState) (last : Last) (s : Scene) → OfHeader h c → StartsBy h c x
-    → x.attempt ≡ Some a → x.seat ≡ Forming y → MayCall c told a k → starts_in (turn a k).steps ≡ true → Goes h past n told f (Up x) last s.moments
+    → x.attempt ≡ Some a → x.seat ≡ Forming y → MayCall c told a k → starts_in (turn a k).steps ≡ true → AreKept a → Goes h past n told f (Up x) last s.moments
     → AttemptsDiffer (passing n (last_lines c n x (Starts a k y)) s).moments → Now h past n told f (Up x) last (passing n (last_lines c n x (Starts a k y)) s).moments
-starts_goes h past c n told f x a k y last s id votes is seat may starts g differ =
+starts_goes h past c n told f x a k y last s id votes is seat may starts kept g differ =
     subst (λ (r : Scene). AttemptsDiffer r.moments → Now h past n told f (Up x) last r.moments) (sym (passing_append n (base_lines t.plan.epoch 0 updates) (opened_lines c n x t y) opening))
     (passing_lasts (Goes h past n told f (Up x) last) (goes_last h past n told f (Up x) last) n (opened_lines c n x t y) (passing n (base_lines t.plan.epoch 0 updates) opening) (opened_calm c n x t y) told_all) differ
   where
@@ -211,10 +213,10 @@ starts_goes h past c n told f x a k y last s id votes is seat may starts g diffe
     opening : Scene
     opening = telling (entry.Start (started_entry t (length updates))) s
 
-    explained : Now h past n told f (Up x) last s.moments → AreExplained (setting_of h) st updates s.moments
-    explained z =
-        start_explained h c s.moments (session_of x) updates a k (length updates) id.few (attempt_of h s.moments (session_of x) x.attempt a is z.here.attempt) (may_be_called c told a k may) starts
-        (λ at. votes a y is seat at)
+    accounted : Now h past n told f (Up x) last s.moments → AreAccounted (setting_of h) st updates s.moments
+    accounted z =
+        start_accounted h c s.moments (session_of x) updates a k (length updates) id.few (attempt_of h s.moments (session_of x) x.attempt a is z.here.attempt) (may_be_called c told a k may) starts
+        kept (λ at. votes a y is seat at)
 
     first : Now h past n told f (Up x) last s.moments → Opening st s.moments [] opening.moments
     first z = opened t.plan.epoch t.plan.members (held_set t.devices) (length updates) s.moments
@@ -222,8 +224,8 @@ starts_goes h past c n told f x a k y last s id votes is seat may starts g diffe
     told_all : Goes h past n told f (Up x) last (passing n (base_lines t.plan.epoch 0 updates) opening).moments
     told_all later =
         let z : Now h past n told f (Up x) last s.moments = g (earlier later) in
-        bases_go h past n told f x last st s.moments updates [] updates t.plan.epoch 0 opening refl refl (explained z) (first z)
-        (line_goes h past n told f x last (started_entry t (length updates)) s.moments (opening_shown (setting_of h) st s.moments updates [] updates _ refl refl (explained z) (first z)) g) later
+        bases_go h past n told f x last st s.moments updates [] updates t.plan.epoch 0 opening refl refl (accounted z) (first z)
+        (line_goes h past n told f x last (started_entry t (length updates)) s.moments (opening_shown (setting_of h) st s.moments updates [] updates _ refl refl (accounted z) (first z)) g) later
       where
         earlier : AttemptsDiffer (passing n (base_lines t.plan.epoch 0 updates) opening).moments → AttemptsDiffer s.moments
         earlier = passing_all (λ ms. AttemptsDiffer ms → AttemptsDiffer s.moments) (λ z ms l more. l more.1) n (base_lines t.plan.epoch 0 updates) opening (λ l. l.1)
@@ -355,9 +357,9 @@ act_reached h past c n told f x (Makes ch) last ms may z = change_reached h past
 act_reached h past c n told f x _ last ms may z = tt
 
 pub act_done : (h : Header) (past : Collected) (c : Cluster) (n : ℕ) (told : Delivered) (f top : ℕ → ℕ) (g : Hand) (x : UpNode) (a : Act) (last : Last) (s : Scene) → All IsDevice c.attached → OfHeader h c
-    → MayAct c n told x a → AtAct n told g x a → ActFits last x a → ActSo a → NoneLate f x → NoneNewer top x → IsOpen x → StartsBy h c x → Goes h past n told f (Up x) last s.moments
+    → MayAct c n told x a → AtAct n told g x a → ActFits last x a → ActSo a → StartKept (Does a) → NoneLate f x → NoneNewer top x → IsOpen x → StartsBy h c x → Goes h past n told f (Up x) last s.moments
     → Done h past n told f top (Up (acted c n x a)) (last_by last a) (said c n x a) (passing n (said c n x a) s).moments
-act_done h past c n told f top g x a last s fits id may at ends so late newer opens votes k = by_act a may at ends so
+act_done h past c n told f top g x a last s fits id may at ends so starts late newer opens votes k = by_act a may at ends so starts
   where
     made_so : (b : Act) → AtAct n told g x b → (ch : Change) → b ≡ Makes ch → MadeAt ch
     made_so b l ch is = subst (AtAct n told g x) is l
@@ -370,28 +372,28 @@ act_done h past c n told f top g x a last s fits id may at ends so late newer op
     calm b m l is =
         calm_done h past n told f top (Up x) (Up (acted c n x b)) last (last_by last b) (said c n x b) s is (up b m l) (λ ms z. act_reached h past c n told f x b last ms m z) k
 
-    by_act : (b : Act) → MayAct c n told x b → AtAct n told g x b → ActFits last x b → ActSo b
+    by_act : (b : Act) → MayAct c n told x b → AtAct n told g x b → ActFits last x b → ActSo b → StartKept (Does b)
         → Done h past n told f top (Up (acted c n x b)) (last_by last b) (said c n x b) (passing n (said c n x b) s).moments
-    by_act (Ends b why) m l e o =
+    by_act (Ends b why) m l e o st =
         ends_done h past n told f top x (acted c n x (Ends b why)) b why last None s e.0 e.1 (up (Ends b why) m l) (λ ms z. tt) k
-    by_act (Writes to b) m l e o = writes_done h past n told f top g x last last to b s l m newer (λ ms z. z.reached) k
-    by_act (Hears from b) m l e o = calm (Hears from b) m l tt
-    by_act Ticks m l e o = calm Ticks m l (tt, ticked_calm c x (later c x))
-    by_act Waits m l e o = calm Waits m l tt
-    by_act (Goes_on b q) m l e o = calm (Goes_on b q) m l tt
-    by_act (Queues b d kind) m l e o = calm (Queues b d kind) m l tt
-    by_act (Accepts kind f members d) m l e o = calm (Accepts kind f members d) m l tt
-    by_act (Takes on command a) m l e o = absurd l
-    by_act (Stores d value a) m l e o = calm (Stores d value a) m l (tt, write_calm n x d value a)
-    by_act (Makes (Starts b q y)) m l e o = record {
+    by_act (Writes to b) m l e o st = writes_done h past n told f top g x last last to b s l m newer (λ ms z. z.reached) k
+    by_act (Hears from b) m l e o st = calm (Hears from b) m l tt
+    by_act Ticks m l e o st = calm Ticks m l (tt, ticked_calm c x (later c x))
+    by_act Waits m l e o st = calm Waits m l tt
+    by_act (Goes_on b q) m l e o st = calm (Goes_on b q) m l tt
+    by_act (Queues b d kind) m l e o st = calm (Queues b d kind) m l tt
+    by_act (Accepts kind f members d) m l e o st = calm (Accepts kind f members d) m l tt
+    by_act (Takes on command a) m l e o st = absurd l
+    by_act (Stores d value a) m l e o st = calm (Stores d value a) m l (tt, write_calm n x d value a)
+    by_act (Makes (Starts b q y)) m l e o st = record {
       goes = goes_to h past n told f (Up x) (Up (acted c n x (Makes (Starts b q y)))) last (last_by last (Makes (Starts b q y))) _ (up (Makes (Starts b q y)) m l _)
-          (λ z. act_reached h past c n told f x (Makes (Starts b q y)) last _ m z) (starts_goes h past c n told f x b q y last s id votes m.0.0 m.0.1 m.0.2 m.0.3 k);
+          (λ z. act_reached h past c n told f x (Makes (Starts b q y)) last _ m z) (starts_goes h past c n told f x b q y last s id votes m.0.0 m.0.1 m.0.2 m.0.3 st k);
       says = λ differ. muted_says h past n top _ (said c n x (Makes (Starts b q y))) (made_mute c n x (Starts b q y) tt);
     }
-    by_act (Makes ch) m l e o = calm (Makes ch) m l (made_calm c n x ch (made_plain told x n g ch l) tt)
-    by_act (Gives os) m l e o = calm (Gives os) m l (minor_calm os o m)
-    by_act (Spreads receivers b) m l e o = calm (Spreads receivers b) m l (spread_calm receivers b (plain_mute b l))
-    by_act (Minds q p) m l e o = calm (Minds q p) m l tt
-    by_act (Notes from place p) m l e o = calm (Notes from place p) m l tt
-    by_act (Dates now) m l e o = calm (Dates now) m l tt
-    by_act (Works w) m l e o = calm (Works w) m l tt
+    by_act (Makes ch) m l e o st = calm (Makes ch) m l (made_calm c n x ch (made_plain told x n g ch l) tt)
+    by_act (Gives os) m l e o st = calm (Gives os) m l (minor_calm os o m)
+    by_act (Spreads receivers b) m l e o st = calm (Spreads receivers b) m l (spread_calm receivers b (plain_mute b l))
+    by_act (Minds q p) m l e o st = calm (Minds q p) m l tt
+    by_act (Notes from place p) m l e o st = calm (Notes from place p) m l tt
+    by_act (Dates now) m l e o st = calm (Dates now) m l tt
+    by_act (Works w) m l e o st = calm (Works w) m l tt

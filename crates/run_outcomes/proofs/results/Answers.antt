@@ -65,6 +65,7 @@ use Rattle.run_devices.specs.validity.Kept.{AllAgree}
 use Rattle.run_devices.proofs.validity.Courses.{AllTrust, joined_trusts, seized, under_trusts}
 use Rattle.run_outcomes.proofs.results.Fresh.{trust_gone}
 use Rattle.cl_base.specs.Sets.{has}
+use Rattle.run_outcomes.specs.accounts.Unregistered.{StartsKept}
 
 told_same : (a : Answer) → told_of a ≡ answer_told a
 told_same (Ok a) = refl
@@ -119,10 +120,10 @@ at_next c M n f x y os events z o = record { holds = o.holds; tied = o.tied; low
 -- the small steps that follow, of a node that is so
 rest_done : (h : Header) (past : Collected) (c : Cluster) (M : Memberships) (f : ℕ → ℕ) (n : ℕ) (z : UpNode) (disk : NodeRecord) (replies : List Reply) (rest : Course) (s : Scene) → All IsDevice c.attached → OfHeader h c
     → At c M n f (site (Up z) disk) → MayAll c n None (site (Up z) disk) (under replies rest) → AtAll c n None None (site (Up z) disk) (under replies rest)
-    → AllFit c n None (site (Up z) disk) (under replies rest) → AllSo (under replies rest) → AllAgree h c n (site (Up z) disk) (under replies rest) s → AllTrust (under replies rest) → Goes h past n None f (Up z) None s.moments
+    → AllFit c n None (site (Up z) disk) (under replies rest) → AllSo (under replies rest) → AllAgree h c n (site (Up z) disk) (under replies rest) s → AllTrust (under replies rest) → StartsKept (under replies rest) → Goes h past n None f (Up z) None s.moments
     → Comes h past c M n None f (site (Up z) disk) (under replies rest) s
-rest_done h past c M f n z disk replies rest s fits id at may asks ends so agrees trusts g =
-    all_done h past c M n None f None (site (Up z) disk) (under replies rest) None s fits id at.holds tt at.tied at.low may asks ends so agrees (trust_gone past c n (site (Up z) disk) (under replies rest) trusts) g
+rest_done h past c M f n z disk replies rest s fits id at may asks ends so agrees trusts starts g =
+    all_done h past c M n None f None (site (Up z) disk) (under replies rest) None s fits id at.holds tt at.tied at.low may asks ends so agrees (trust_gone past c n (site (Up z) disk) (under replies rest) trusts starts) g
 
 -- the command is answered first
 first_comes : (h : Header) (past : Collected) (c : Cluster) (M : Memberships) (f : ℕ → ℕ) (n d : ℕ) (k : PrCommand) (a : Answer) (y : UpNode) (disk : NodeRecord) (ds : List Doing) (s : Scene)
@@ -137,13 +138,13 @@ takes_comes : (h : Header) (past : Collected) (c : Cluster) (M : Memberships) (f
     → All IsDevice c.attached → OfHeader h c → At c M n f (site (Up y) disk) → MayAll c n None (site (Up y) disk) (Does (Takes d k a) ∷ under replies rest)
     → AtAll c n None None (site (Up (answered_so y a)) disk) (under replies rest) → AllFit c n None (site (Up (answered_so y a)) disk) (under replies rest) → AllSo (under replies rest)
     → AllAgree h c n (site (Up (answered_so y a)) disk) (under replies rest) (telling (entry.Device (device_entry.Command n d k (answer_told a))) s)
-    → AllTrust (under replies rest)
+    → AllTrust (under replies rest) → StartsKept (under replies rest)
     → Goes h past n None f (Up (answered_so y a)) None (told_line n d k a ∷ s.moments) → Comes h past c M n None f (site (Up y) disk) (Does (Takes d k a) ∷ under replies rest) s
-takes_comes h past c M f n d k a y disk replies rest s fits id at may asks ends so agrees trusts g =
+takes_comes h past c M f n d k a y disk replies rest s fits id at may asks ends so agrees trusts starts g =
     let o : StepGoes c M n (effect c n (site (Up y) disk) (Does (Takes d k a))) (gives c n (site (Up y) disk) (Does (Takes d k a))) (of_doing n (Does (Takes d k a))) =
     does_one c M n None (site (Up y) disk) (Does (Takes d k a)) fits at.holds tt at.tied may.0 in
     first_comes h past c M f n d k a y disk (under replies rest) s o
-    (rest_done h past c o.machine f n (answered_so y a) disk replies rest _ fits id (at_next c M n f _ _ _ _ at o) may.1 asks ends so agrees trusts g)
+    (rest_done h past c o.machine f n (answered_so y a) disk replies rest _ fits id (at_next c M n f _ _ _ _ at o) may.1 asks ends so agrees trusts starts g)
 
 -- it goes down in the save of what the answer admits
 lost_comes : (h : Header) (past : Collected) (c : Cluster) (M : Memberships) (f : ℕ → ℕ) (n : ℕ) (y : UpNode) (disk : NodeRecord) (d : Doing) (s : Scene)
@@ -178,31 +179,31 @@ answered_comes : (h : Header) (past : Collected) (c : Cluster) (M : Memberships)
     → Goes h past n None f (Up (answered_so y a)) None (told_line n d k a ∷ s.moments) → (p : Progress) → progress_after y.tasks a ≡ p
     → MayAll c n None (site (Up y) disk) (under replies (progress_course c n y d k a p)) → AllFit c n None (site (Up y) disk) (under replies (progress_course c n y d k a p))
     → AllSo (under replies (progress_course c n y d k a p)) → AllAgree h c n (site (Up y) disk) (under replies (progress_course c n y d k a p)) s
-    → Comes h past c M n None f (site (Up y) disk) (under replies (progress_course c n y d k a p)) s
-answered_comes h past c M f n d k a y disk replies s fits id at before g GoesOn is may ends so agrees =
-    takes_comes h past c M f n d k a y disk replies Stops s fits id at may tt tt tt tt tt g
-answered_comes h past c M f n d k a y disk replies s fits id at before g (Seized e r) is may ends so agrees =
+    → StartsKept (under replies (progress_course c n y d k a p)) → Comes h past c M n None f (site (Up y) disk) (under replies (progress_course c n y d k a p)) s
+answered_comes h past c M f n d k a y disk replies s fits id at before g GoesOn is may ends so agrees starts =
+    takes_comes h past c M f n d k a y disk replies Stops s fits id at may tt tt tt tt tt tt g
+answered_comes h past c M f n d k a y disk replies s fits id at before g (Seized e r) is may ends so agrees starts =
     let z : UpNode = answered_so y a in
     let rest : Course = seized_course c n z e r (coordinator_of z) in
-    takes_comes h past c M f n d k a y disk replies rest s fits id at may (at_under c n None None z disk replies rest (seized_here_to c n None y a e r is)) ends.1 so.1 agrees.1 (under_trusts replies rest (seized c n z e r (coordinator_of z))) g
-answered_comes h past c M f n d k a y disk replies s fits id at before g (Joined e (join.Late w)) is may ends so agrees =
+    takes_comes h past c M f n d k a y disk replies rest s fits id at may (at_under c n None None z disk replies rest (seized_here_to c n None y a e r is)) ends.1 so.1 agrees.1 (under_trusts replies rest (seized c n z e r (coordinator_of z))) starts.1 g
+answered_comes h past c M f n d k a y disk replies s fits id at before g (Joined e (join.Late w)) is may ends so agrees starts =
     let z : UpNode = answered_so y a in
     let rest : Course = joined_course c n z (coordinator_of z) in
-    takes_comes h past c M f n d k a y disk replies rest s fits id at may (at_under c n None None z disk replies rest (joined_course_to c n None z (coordinator_of z))) ends.1 so.1 agrees.1 (under_trusts replies rest (joined_trusts c n z (coordinator_of z))) g
-answered_comes h past c M f n d k a y disk replies s fits id at before g (Joined e join.Fault) is may ends so agrees =
+    takes_comes h past c M f n d k a y disk replies rest s fits id at may (at_under c n None None z disk replies rest (joined_course_to c n None z (coordinator_of z))) ends.1 so.1 agrees.1 (under_trusts replies rest (joined_trusts c n z (coordinator_of z))) starts.1 g
+answered_comes h past c M f n d k a y disk replies s fits id at before g (Joined e join.Fault) is may ends so agrees starts =
     let z : UpNode = answered_so y a in
     let rest : Course = joined_course c n z (coordinator_of z) in
-    takes_comes h past c M f n d k a y disk replies rest s fits id at may (at_under c n None None z disk replies rest (joined_course_to c n None z (coordinator_of z))) ends.1 so.1 agrees.1 (under_trusts replies rest (joined_trusts c n z (coordinator_of z))) g
-answered_comes h past c M f n d k a y disk [] s fits id at before g (Joined e join.Joined) is may ends so agrees =
+    takes_comes h past c M f n d k a y disk replies rest s fits id at may (at_under c n None None z disk replies rest (joined_course_to c n None z (coordinator_of z))) ends.1 so.1 agrees.1 (under_trusts replies rest (joined_trusts c n z (coordinator_of z))) starts.1 g
+answered_comes h past c M f n d k a y disk [] s fits id at before g (Joined e join.Joined) is may ends so agrees starts =
     lost_comes h past c M f n y disk (Forgets (Admits d k a e) down.Stopped) s (does_one c M n None (site (Up y) disk) (Forgets (Admits d k a e) down.Stopped) fits at.holds tt at.tied may.0)
     (record { goes = gone_goes h past f n d k a (answered_so y a) down.Stopped s.moments g; says = λ differ. (tt, (tt, tt)) })
-answered_comes h past c M f n d k a y disk (Lost_new why ∷ replies) s fits id at before g (Joined e join.Joined) is may ends so agrees =
+answered_comes h past c M f n d k a y disk (Lost_new why ∷ replies) s fits id at before g (Joined e join.Joined) is may ends so agrees starts =
     lost_comes h past c M f n y disk (Loses (Admits d k a e) why) s (does_one c M n None (site (Up y) disk) (Loses (Admits d k a e) why) fits at.holds tt at.tied may.0)
     (record { goes = gone_goes h past f n d k a (answered_so y a) why s.moments g; says = λ differ. (tt, (tt, tt)) })
-answered_comes h past c M f n d k a y disk (Lost_old why ∷ replies) s fits id at before g (Joined e join.Joined) is may ends so agrees =
+answered_comes h past c M f n d k a y disk (Lost_old why ∷ replies) s fits id at before g (Joined e join.Joined) is may ends so agrees starts =
     lost_comes h past c M f n y disk (Forgets (Admits d k a e) why) s (does_one c M n None (site (Up y) disk) (Forgets (Admits d k a e) why) fits at.holds tt at.tied may.0)
     (record { goes = gone_goes h past f n d k a (answered_so y a) why s.moments g; says = λ differ. (tt, (tt, tt)) })
-answered_comes h past c M f n d k a y disk (Reply_done ∷ replies) s fits id at before g (Joined e join.Joined) is may ends so agrees =
+answered_comes h past c M f n d k a y disk (Reply_done ∷ replies) s fits id at before g (Joined e join.Joined) is may ends so agrees starts =
     let z : UpNode = answered_so y a in
     let x : UpNode = joining_so z e in
     let rest : Course = joined_course c n x (coordinator_of x) in
@@ -211,7 +212,7 @@ answered_comes h past c M f n d k a y disk (Reply_done ∷ replies) s fits id at
     does_one c M n None (site (Up y) disk) (Saves (Admits d k a e)) fits at.holds tt at.tied may.0 in
     let more : Comes h past c o.machine n None f (site (Up x) (record_of x)) (under replies rest) t =
     rest_done h past c o.machine f n x (record_of x) replies rest t fits id (at_next c M n f _ _ _ _ at o) may.1
-    (at_under c n None None x (record_of x) replies rest (joined_course_to c n None x (coordinator_of x))) ends.1 so.1 agrees.1 (under_trusts replies rest (joined_trusts c n x (coordinator_of x))) saved in
+    (at_under c n None None x (record_of x) replies rest (joined_course_to c n None x (coordinator_of x))) ends.1 so.1 agrees.1 (under_trusts replies rest (joined_trusts c n x (coordinator_of x))) starts.1 saved in
     then_comes h past c M n None f (site (Up y) disk) (Saves (Admits d k a e)) (under replies rest) s t o more
     (record { goes = more.done.goes; says = λ differ. (tt, (tt, more.done.says differ)) })
   where
@@ -242,14 +243,14 @@ pub answer_comes : (h : Header) (past : Collected) (c : Cluster) (M : Membership
     → All IsDevice c.attached → OfHeader h c → nat_le n 32 ≡ true → NodeDue h a node → Holds (setting_of c) M → NodeTied c M n disk node → ((k : ℕ) → f k ≤ inst M k)
     → MayAll c n None (site node disk) (doings c n now ends replies (input.Answered a) node)
     → AllFit c n None (site node disk) (doings c n now ends replies (input.Answered a) node) → AllSo (doings c n now ends replies (input.Answered a) node)
-    → AllAgree h c n (site node disk) (doings c n now ends replies (input.Answered a) node) s → Goes h past n None f node None s.moments → Comes h past c M n None f (site node disk) (doings c n now ends replies (input.Answered a) node) s
-answer_comes h past c M f n now ends a Down disk replies s fits id small due holds tied low may asks so agrees g = none_comes h past c M n None f (site Down disk) None s tied g
-answer_comes h past c M f n now ends a (Up x) disk replies s fits id small due holds tied low may asks so agrees g =
+    → AllAgree h c n (site node disk) (doings c n now ends replies (input.Answered a) node) s → StartsKept (doings c n now ends replies (input.Answered a) node) → Goes h past n None f node None s.moments → Comes h past c M n None f (site node disk) (doings c n now ends replies (input.Answered a) node) s
+answer_comes h past c M f n now ends a Down disk replies s fits id small due holds tied low may asks so agrees starts g = none_comes h past c M n None f (site Down disk) None s tied g
+answer_comes h past c M f n now ends a (Up x) disk replies s fits id small due holds tied low may asks so agrees starts g =
     let o : StepGoes c M n (effect c n (site (Up x) disk) (Does (Dates now))) (gives c n (site (Up x) disk) (Does (Dates now))) (of_doing n (Does (Dates now))) =
     does_one c M n None (site (Up x) disk) (Does (Dates now)) fits holds tt tied may.0 in
     let at : At c o.machine n f (site (Up y) disk) = at_next c M n f (site (Up x) disk) (site (Up y) disk) _ _ (record { holds = holds; tied = tied; low = low }) o in
     let z : Comes h past c o.machine n None f (site (Up y) disk) (under replies (answered_course c n y a (due_device y.tasks) (next_of y.tasks))) s =
-    by_due o.machine at (due_device y.tasks) (next_of y.tasks) refl refl may.1 asks.1 so.1 agrees.1 in
+    by_due o.machine at (due_device y.tasks) (next_of y.tasks) refl refl may.1 asks.1 so.1 agrees.1 starts.1 in
     then_comes h past c M n None f (site (Up x) disk) (Does (Dates now)) (under replies (answered_course c n y a (due_device y.tasks) (next_of y.tasks))) s s o z
     (record { goes = z.done.goes; says = z.done.says })
   where
@@ -264,8 +265,8 @@ answer_comes h past c M f n now ends a (Up x) disk replies s fits id small due h
     by_due : (N : Memberships) → At c N n f (site (Up y) disk) → (o : Option ℕ) (q : Option PrCommand) → due_device y.tasks ≡ o → next_of y.tasks ≡ q
         → MayAll c n None (site (Up y) disk) (under replies (answered_course c n y a o q))
         → AllFit c n None (site (Up y) disk) (under replies (answered_course c n y a o q)) → AllSo (under replies (answered_course c n y a o q))
-        → AllAgree h c n (site (Up y) disk) (under replies (answered_course c n y a o q)) s → Comes h past c N n None f (site (Up y) disk) (under replies (answered_course c n y a o q)) s
-    by_due N at None q device next m e o l = none_comes h past c N n None f (site (Up y) disk) None s at.tied dated
-    by_due N at (Some d) None device next m e o l = none_comes h past c N n None f (site (Up y) disk) None s at.tied dated
-    by_due N at (Some d) (Some k) device next m e o l =
-        answered_comes h past c N f n d k a y disk replies s fits id at dated (taken_goes h past f n d k a y s.moments small device next (due.0 k next) due.1 dated) (progress_after y.tasks a) refl m e o l
+        → AllAgree h c n (site (Up y) disk) (under replies (answered_course c n y a o q)) s → StartsKept (under replies (answered_course c n y a o q)) → Comes h past c N n None f (site (Up y) disk) (under replies (answered_course c n y a o q)) s
+    by_due N at None q device next m e o l t = none_comes h past c N n None f (site (Up y) disk) None s at.tied dated
+    by_due N at (Some d) None device next m e o l t = none_comes h past c N n None f (site (Up y) disk) None s at.tied dated
+    by_due N at (Some d) (Some k) device next m e o l t =
+        answered_comes h past c N f n d k a y disk replies s fits id at dated (taken_goes h past f n d k a y s.moments small device next (due.0 k next) due.1 dated) (progress_after y.tasks a) refl m e o l t

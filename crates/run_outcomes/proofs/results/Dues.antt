@@ -201,7 +201,7 @@ abbrev pub NodeHigh : Node → Answer → Type 0
 NodeHigh Down a = Unit {0}
 NodeHigh (Up x) a = FirstHigh (find is_queued x.tasks) a
 
-two_of : (o : Option ℕ) (q : Option PrCommand) (d : ℕ) (k : PrCommand)
+pub two_of : (o : Option ℕ) (q : Option PrCommand) (d : ℕ) (k : PrCommand)
     → option_and_then {U = ℕ × PrCommand} (λ e. option_and_then {U = ℕ × PrCommand} (λ (j : PrCommand). Some (e, j)) q) o ≡ Some (d, k) → (o ≡ Some d) × (q ≡ Some k)
 two_of None q d k h = absurd (none_some (d, k) h)
 two_of (Some e) None d k h = absurd (none_some (d, k) h)

@@ -35,6 +35,7 @@ use Rattle.run_history.specs.Guards.{MadeAt}
 use Rattle.seize.specs.Seizing as seizing
 use Rattle.run_outcomes.proofs.results.Promises.{collects_before}
 use Rattle.run_outcomes.specs.results.Tried.{Collected}
+use Rattle.run_outcomes.specs.accounts.Unregistered.{StartKept, StartsKept}
 
 -- where this is known of its attempt, it collects no Promises
 abbrev pub FreshIn : Collected → Option AttemptState → Type 0
@@ -107,26 +108,26 @@ act_fresh past c n told x (Notes from place p) may made h = h
 act_fresh past c n told x (Dates now) may made h = h
 act_fresh past c n told x (Works w) may made h = h
 
--- ---- where a node saves that a device is not valid, this is known of its session
+-- ---- where a node saves that a device is not valid, this is known of its session; and where a membership starts, of the entries of its attempt
 
 abbrev pub GoneIn : Collected → UpNode → Type 0
 GoneIn past x = 0 < session_of x → installed_of x ≢ session_of x → past (session_of x)
 
 abbrev pub DoingGone : Collected → Node → Doing → Type 0
 DoingGone past (Up x) (Saves (Distrusts d)) = GoneIn past x
-DoingGone past _ _ = Unit {0}
+DoingGone past _ d = StartKept d
 
 abbrev pub AllGone : Collected → Cluster → ℕ → Site → List Doing → Type 0
 AllGone past c n x [] = Unit {0}
 AllGone past c n x (d ∷ ds) = DoingGone past x.node d × AllGone past c n (effect c n x d) ds
 
-trust_one : (past : Collected) (node : Node) (d : Doing) → DoingTrusts d → DoingGone past node d
-trust_one past (Up x) (Saves (Distrusts d)) trusts = absurd trusts
-trust_one past _ _ trusts = tt
+trust_one : (past : Collected) (node : Node) (d : Doing) → DoingTrusts d → StartKept d → DoingGone past node d
+trust_one past (Up x) (Saves (Distrusts d)) trusts starts = absurd trusts
+trust_one past _ _ trusts starts = starts
 
-pub trust_gone : (past : Collected) (c : Cluster) (n : ℕ) (x : Site) (ds : List Doing) → AllTrust ds → AllGone past c n x ds
-trust_gone past c n x [] k = tt
-trust_gone past c n x (d ∷ ds) k = (trust_one past x.node d k.0, trust_gone past c n (effect c n x d) ds k.1)
+pub trust_gone : (past : Collected) (c : Cluster) (n : ℕ) (x : Site) (ds : List Doing) → AllTrust ds → StartsKept ds → AllGone past c n x ds
+trust_gone past c n x [] k starts = tt
+trust_gone past c n x (d ∷ ds) k starts = (trust_one past x.node d k.0 starts.0, trust_gone past c n (effect c n x d) ds k.1 starts.1)
 
 pub readies_gone : (past : Collected) (c : Cluster) (n : ℕ) (x : UpNode) (disk : NodeRecord) (replies : List Reply) (o : Option ℕ) → ((d : ℕ) → o ≡ Some d → GoneIn past x)
     → AllGone past c n (site (Up x) disk) (under replies (distrusting_course x o))

@@ -92,7 +92,7 @@ not_true true e = absurd (false_true e)
 not_true false e = refl
 
 -- who has promised so
-pub sent_without : (h : Header) (ms : List Moment) (e d n : ℕ) (ps : List Promised) → IsDevice h d → ShowsNot ps d n → AllByRecursion (PromiseShown h ms e) ps → is_unregistered h e d ms n ≡ true
+sent_without : (h : Header) (ms : List Moment) (e d n : ℕ) (ps : List Promised) → IsDevice h d → ShowsNot ps d n → AllByRecursion (PromiseShown h ms e) ps → is_unregistered h e d ms n ≡ true
 sent_without h ms e d n [] is some k = absurd (false_true some)
 sent_without h ms e d n (p ∷ ps) is some k =
     by_cases (or_cases (is_from n p && not (has p.shown.valid d)) (list_any (λ q. is_from n q && not (has q.shown.valid d)) ps) some) k.0 (λ more. sent_without h ms e d n ps is more k.1)

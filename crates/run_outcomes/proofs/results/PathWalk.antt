@@ -203,7 +203,7 @@ written_path c n told g x to (body.SeizeQuorum e members d) at turn = sends_path
 written_path c n told g x to (body.SeizeData e members d) at turn = sends_path c n to (body.SeizeData e members d) g at turn
 written_path c n told g x to _ at turn = tt
 
-made_plain : (ch : Change) → MadeAt ch → IsPlain ch
+pub made_plain : (ch : Change) → MadeAt ch → IsPlain ch
 made_plain (Admits on command a d) k = absurd k
 made_plain _ k = tt
 

@@ -29,6 +29,7 @@ use Rattle.cl_base.specs.declared.method.Outcome as method
 use Rattle.run_history.specs.Stages.{site_of}
 use Rattle.device_queue.specs.Queue.{begins_plainly}
 use Rattle.run_outcomes.specs.results.Shown.{IsPlaced, IsShown, OfHeader, NodeShown, collected_in}
+use Rattle.run_outcomes.proofs.unregistered.Runs.{StartsAt}
 
 -- ---- a node readies itself for its command
 
@@ -45,12 +46,12 @@ ready_gone h s n now ends z k replies = by_node (s.nodes.node n) refl (k.nodes n
           (λ d begins some ahead. plainly_collected h s n d x z at begins shown),
     )
 
-pub takes_gone : (h : Header) (s : Scene) (n now : ℕ) (ends : method.Outcome) (i : Input) → IsWhole (first_cluster h) s → IsShown h s → (i ≡ input.CommandDue) ⊎ IsTrusting i → (replies : List Reply)
+pub takes_gone : (h : Header) (s : Scene) (n now : ℕ) (ends : method.Outcome) (i : Input) → IsWhole (first_cluster h) s → IsShown h s → (i ≡ input.CommandDue) ⊎ IsTrusting i → StartsAt (first_cluster h) n now ends i s.nodes → (replies : List Reply)
     → AllGone (collected_in s) (first_cluster h) n (site_of s.nodes n) (doings (first_cluster h) n now ends replies i (s.nodes.node n))
-takes_gone h s n now ends i z k (inl due) replies =
+takes_gone h s n now ends i z k (inl due) starts replies =
     subst (λ j. AllGone (collected_in s) (first_cluster h) n (site_of s.nodes n) (doings (first_cluster h) n now ends replies j (s.nodes.node n))) (sym due) (ready_gone h s n now ends z k replies)
-takes_gone h s n now ends i z k (inr trusts) replies =
-    trust_gone (collected_in s) (first_cluster h) n (site_of s.nodes n) _ (doings_trust (first_cluster h) n now ends replies i (s.nodes.node n) trusts)
+takes_gone h s n now ends i z k (inr trusts) starts replies =
+    trust_gone (collected_in s) (first_cluster h) n (site_of s.nodes n) _ (doings_trust (first_cluster h) n now ends replies i (s.nodes.node n) trusts) (starts replies)
 
 -- ---- the devices of the header
 

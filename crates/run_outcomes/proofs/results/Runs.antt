@@ -28,6 +28,7 @@ use Rattle.cl_base.specs.declared.header.Header.{Header}
 use Rattle.cl_base.specs.declared.packet.DropCause.{DropCause}
 use Rattle.cl_base.specs.declared.packet.DropCause.TheVariants as drop
 use Rattle.device_queue.specs.Queue.{next_of}
+use Rattle.history.specs.Attempts.{AllAccounted}
 use Rattle.history.specs.Contact.{AttemptsDiffer, IsNew}
 use Rattle.history.specs.Moment.{Moment, Part, Said, Told}
 use Rattle.history.specs.Order.{Always}
@@ -75,12 +76,13 @@ use Rattle.run_history.specs.Stages.{site_of}
 use Rattle.run_seizings.proofs.Progress.{begun_stays}
 use Rattle.run_outcomes.proofs.results.Stays.{Spares, letters_grow, letters_stay, node_grows, node_stays}
 use Rattle.run_outcomes.proofs.results.Steps.{plain_comes, step_shown}
-use Rattle.run_outcomes.specs.accounts.Laws.{AccountsOfEachRun, StartsExplained}
+use Rattle.run_outcomes.specs.accounts.Laws.{AllAccountedInEachRun}
 use Rattle.run_outcomes.specs.results.Laws.{ResultsOfEachRun}
 use Rattle.run_outcomes.specs.results.Shown.{AsksOf, EndsShown, HandShown, IsShown, LetterShown, SaysShown, StartShown, collected_in, installed_in}
 use Rattle.run_outcomes.specs.results.Tried.{Collected}
 use Rattle.run_outcomes.proofs.results.Readied.{takes_gone}
 use Rattle.run_outcomes.proofs.results.Readied.{of_header}
+use Rattle.run_outcomes.proofs.unregistered.Runs.{StartsSo, starts_at}
 
 -- ---- one moment more, and other links
 
@@ -176,6 +178,7 @@ record Known (h : Header) (s : Scene) (x : Happening) : Type 0 where
   few : length h.devices ≤ 16
   differ : AttemptsDiffer (happened (first_cluster h) s x).moments
   agrees : AgreesAt h s x
+  starts : StartsSo (first_cluster h) s x
 
 happening_shown : (h : Header) (s : Scene) (x : Happening) → MayHappen (first_cluster h) s x → Known h s x → IsShown h s → IsShown h (happened (first_cluster h) s x)
 happening_shown h s (Speaks e) may b k = armed_shown h (first_cluster h) e (adding (Said (line.Event e)) s) (more_shown h s s.links (Said (line.Event e)) tt (λ n. tt) tt k)
@@ -185,7 +188,7 @@ happening_shown h s (Takes n now ends i) may b k =
     let c : Cluster = first_cluster h in
     step_shown h c n now ends i s b.sized (ground_of c s b.stage) may.0 (plain_sent s.nodes i may.1)
     (plain_comes h (collected_in s) c (ground_of c s b.stage).machine n now ends i s.nodes _ b.sized (of_header h b.few) (plain_no i may.1) may.2 (b.stage.fits.nodes n)
-    (takes_gone h s n now ends i b.whole k (trusting_or i may.1)))
+    (takes_gone h s n now ends i b.whole k (trusting_or i may.1) b.starts))
     (plain_hand h (collected_in s) (installed_in s.nodes) s.moments i may.1) b.differ b.agrees k
 happening_shown h s (Arrives number x m now ends) may b k =
     let c : Cluster = first_cluster h in
@@ -194,7 +197,7 @@ happening_shown h s (Arrives number x m now ends) may b k =
     let come : IsShown h t = more_shown h s (removing s.links number) z tt (λ n. tt) tt k in
     step_shown h c x.to now ends (input.Packet x.from m) t b.sized (ground_of c s b.stage) may.3 may.4
     (plain_comes h (collected_in t) c (ground_of c s b.stage).machine x.to now ends (input.Packet x.from m) s.nodes _ b.sized (of_header h b.few) tt may.5 (b.stage.fits.nodes x.to)
-    (λ replies. trust_gone (collected_in t) c x.to (site_of s.nodes x.to) _ (doings_trust c x.to now ends replies (input.Packet x.from m) (s.nodes.node x.to) tt))) (
+    (λ replies. trust_gone (collected_in t) c x.to (site_of s.nodes x.to) _ (doings_trust c x.to now ends replies (input.Packet x.from m) (s.nodes.node x.to) tt) (b.starts replies))) (
       asks_so h (z ∷ s.moments) x.from m.body (arrived_hand h s.moments s.links number x m may.0 may.1 b.reading.carried).stands,
       among_shown h (collected_in t) (installed_in s.nodes) (z ∷ s.moments) x.from m.body s.nodes.sent may.4 come.sent,
     ) b.differ b.agrees come
@@ -214,14 +217,14 @@ happening_shown h s (Commands n d q now ends) may b k =
     (node_due h o.answer (s.nodes.node n) (due_own h s n d q (s.nodes.node n) b.whole may.2 low) (due_high h s n d q b.few b.places b.whole (b.paths.nodes n) may.2 low)) in
     step_shown h c n now ends (input.Answered o.answer) o.scene b.sized l.ground may.0 tt
     (λ replies m e so holds known tied less agrees g. answer_comes h (collected_in o.scene) c l.ground.machine (installed_in o.scene.nodes) n now ends o.answer (o.scene.nodes.node n) (o.scene.nodes.disk n).kept replies _
-    b.sized.fits.devices.attached (of_header h b.few) (low_number n may.0.1) due holds tied less m e so agrees g) tt b.differ b.agrees l.shown
+    b.sized.fits.devices.attached (of_header h b.few) (low_number n may.0.1) due holds tied less m e so agrees (b.starts replies) g) tt b.differ b.agrees l.shown
 happening_shown h s (Writes n d value now ends) may b k =
     let c : Cluster = first_cluster h in
     let o : Commanded = commanded s n d (command.Write value) in
     let l : Left h c s o = left_at h c s n d (command.Write value) (slice_get s.devices (d - 1)) (ground_of c s b.stage) k in
     step_shown h c n now ends (input.Wrote d value o.answer) o.scene b.sized l.ground may.0 tt
     (plain_comes h (collected_in o.scene) c l.ground.machine n now ends (input.Wrote d value o.answer) o.scene.nodes _ b.sized (of_header h b.few) tt may.2 (l.ground.fits.nodes n)
-    (λ replies. trust_gone (collected_in o.scene) c n (site_of o.scene.nodes n) _ (doings_trust c n now ends replies (input.Wrote d value o.answer) (o.scene.nodes.node n) tt))) tt b.differ b.agrees l.shown
+    (λ replies. trust_gone (collected_in o.scene) c n (site_of o.scene.nodes n) _ (doings_trust c n now ends replies (input.Wrote d value o.answer) (o.scene.nodes.node n) tt) (b.starts replies))) tt b.differ b.agrees l.shown
 happening_shown h s (Refuses n d value cause) may b k =
     more_shown h s s.links (Told (entry.Device (device_entry.Refused n d value cause))) tt (λ m. tt) tt k
 
@@ -264,6 +267,7 @@ comes_more h cells size disks s d x may due k =
         few = size.few;
         differ = differ;
         agrees = agrees_at h s d x due may b differ k.kept;
+        starts = starts_at h cells s x size at may;
       }) k.shown;
     }
 
@@ -280,7 +284,7 @@ start_told h ms (start e members held count) k = k
 start_told h ms (base e v words) k = k
 start_told h ms _ k = tt
 
-starts_told : (h : Header) (ms : List Moment) → Always (EndsShown h) ms → StartsExplained (setting_of h) ms
+starts_told : (h : Header) (ms : List Moment) → Always (EndsShown h) ms → AllAccounted (setting_of h) ms
 starts_told h [] k = tt
 starts_told h (x ∷ ms) k = (start_told h ms x k.0, starts_told h ms k.1)
 
@@ -293,8 +297,8 @@ results_of_each_run h cells hs few small disks may shaped =
     (lacking_of_each_run h cells hs few small may) (promised_in_each_run h cells hs few small may) (counted_of_each_run h cells hs few small may)
 
 -- each start accounts for its devices
-pub accounts_of_each_run : AccountsOfEachRun
-accounts_of_each_run h cells hs few small disks may shaped =
+pub all_accounted_in_each_run : AllAccountedInEachRun
+all_accounted_in_each_run h cells hs few small disks may shaped =
     let size : IsSmall h = record { few = few; small = small } in
     starts_told h (all_happened (first_cluster h) (first_scene h cells) hs).moments
     (run_shown h cells size disks hs (first_scene h cells) nothing nothing may shaped

@@ -92,11 +92,11 @@ gone_at past x ch d is gone = subst (λ z. DoingGone past (Up x) (Saves z)) is g
 
 -- the lines of a change that is saved
 saves_goes : (h : Header) (past : Collected) (c : Cluster) (n : ℕ) (told : Delivered) (f : ℕ → ℕ) (x : UpNode) (ch : Change) (last : Last) (s : Scene) → OfHeader h c → StartsBy h c x → MayChange c n told x ch → AtChange x ch
-    → Goes h past n told f (Up x) last s.moments → Goes h past n told f (Up x) last (passing n (first_lines n ch ++ saved_lines c n x ch) s).moments
-saves_goes h past c n told f x (Starts a q y) last s id votes may at k =
-    starts_goes h past c n told f x a q y last (telling (entry.Node n note.Saved) s) id votes may.0 may.1 may.2 may.3
+    → DoingGone past (Up x) (Saves ch) → Goes h past n told f (Up x) last s.moments → Goes h past n told f (Up x) last (passing n (first_lines n ch ++ saved_lines c n x ch) s).moments
+saves_goes h past c n told f x (Starts a q y) last s id votes may at gone k =
+    starts_goes h past c n told f x a q y last (telling (entry.Node n note.Saved) s) id votes may.0 may.1 may.2 may.3 gone
     (goes_last h past n told f (Up x) last (Told (entry.Node n note.Saved)) s.moments tt k)
-saves_goes h past c n told f x ch last s id votes may at k =
+saves_goes h past c n told f x ch last s id votes may at gone k =
     passing_lasts (Goes h past n told f (Up x) last) (goes_last h past n told f (Up x) last) n (first_lines n ch ++ saved_lines c n x ch) s (saved_calm c n x ch (at_plain x ch at) tt) k
 
 saves_done : (h : Header) (past : Collected) (c : Cluster) (n : ℕ) (told : Delivered) (f top : ℕ → ℕ) (x : UpNode) (ch : Change) (last : Last) (s : Scene) → All IsDevice c.attached → OfHeader h c → MayChange c n told x ch → AtChange x ch → NoneLate f x
@@ -108,7 +108,7 @@ saves_done h past c n told f top x ch last s fits id may at late others own disk
     let r : Scene = passing n os s in
     record {
       goes = λ differ.
-          let z : Now h past n told f (Up x) last r.moments = saves_goes h past c n told f x ch last s id votes may at k differ in
+          let z : Now h past n told f (Up x) last r.moments = saves_goes h past c n told f x ch last s id votes may at gone k differ in
           record {
             here = change_up h past c f r.moments n told x ch fits id may at z.hand (late, z.fresh) (begun_in c n x ch s differ) (enters h c n x disk ch s same others own agrees differ)
                 (λ d is. gone_at past x ch d is gone) z.here;
@@ -143,7 +143,7 @@ fresh_up h past c ms n disk = record { tasks = tt; held = tt; seat = λ some ahe
 pub doing_done : (h : Header) (past : Collected) (c : Cluster) (n : ℕ) (told : Delivered) (f top : ℕ → ℕ) (g : Hand) (node : Node) (disk : NodeRecord) (d : Doing) (last : Last) (s : Scene) → All IsDevice c.attached
     → OfHeader h c → May c n told (site node disk) d → AtDoing n told g (site node disk) d → DoingFits last (site node disk) d → DoingSo d → NoneIn n told f top disk node → DoingAgrees h n (site node disk) s.moments d → DoingGone past node d → StartsIn h c node → Goes h past n told f node last s.moments
     → Done h past n told f top (effect c n (site node disk) d).node (last_after last d) (gives c n (site node disk) d) (passing n (gives c n (site node disk) d) s).moments
-doing_done h past c n told f top g (Up x) disk (Does a) last s fits id may at ends so free agrees gone votes k = act_done h past c n told f top g x a last s fits id may at ends so free.late free.newer free.opens votes k
+doing_done h past c n told f top g (Up x) disk (Does a) last s fits id may at ends so free agrees gone votes k = act_done h past c n told f top g x a last s fits id may at ends so gone free.late free.newer free.opens votes k
 doing_done h past c n told f top g Down disk (Does a) last s fits id may at ends so free agrees gone votes k = absurd may
 doing_done h past c n told f top g (Up x) disk (Saves ch) last s fits id may at ends so free agrees gone votes k =
     saves_done h past c n told f top x ch last s fits id may at free.late (λ p is. free.others p (promise_asks c n told x ch p may is).0 (promise_asks c n told x ch p may is).1)

@@ -32,7 +32,7 @@ use Rattle.run_outcomes.proofs.shown.Tasks.{answer_fits, answer_plain, seize_fit
 -- ---- a task more
 
 -- a request without votes has come
-plain_asked : (L : List Letter) (told : Delivered) (kind : SeizeKind) (e members d : ℕ) → HandSent L told → Says (λ b. b ≡ request_as kind e members d) told → is_plain kind ≡ true → AsksData L e d
+pub plain_asked : (L : List Letter) (told : Delivered) (kind : SeizeKind) (e members d : ℕ) → HandSent L told → Says (λ b. b ≡ request_as kind e members d) told → is_plain kind ≡ true → AsksData L e d
 plain_asked L None kind e members d hand says is = absurd says
 plain_asked L (Some x) Plain e members d hand says is = record { from = x.0; members = members; among = subst (λ b. IsAmong x.0 b L) says hand }
 plain_asked L (Some x) Vote e members d hand says is = absurd (false_true is)
@@ -75,7 +75,7 @@ ActAt told (Accepts kind e members d) = Says (λ b. b ≡ request_as kind e memb
 ActAt told (Makes ch) = MadeAt ch
 ActAt told _ = Unit {0}
 
-made_device : (x : UpNode) (ch : Change) → MadeAt ch → AtDevice x ch
+pub made_device : (x : UpNode) (ch : Change) → MadeAt ch → AtDevice x ch
 made_device x (Starts a k s) m = tt
 made_device x (Sits s e) m = tt
 made_device x (Promises p) m = absurd m

@@ -74,7 +74,7 @@ asked_steps plan = record {
 call_asks : (s : AttemptState) (c : Call) → May s c → All (AskedBy (turn s c).after) (turn s c).steps
 call_asks s c may = (call_sends (HasPlan s.plan) (HasPlan s.plan) AskedBy s c (plan_steady s.plan c) (asked_steps s.plan) may refl).1
 
-past_of : (p : Phase) → IsSeizing p → IsPast p
+pub past_of : (p : Phase) → IsSeizing p → IsPast p
 past_of p (inl is) = subst IsPast (sym is) tt
 past_of p (inr is) = subst IsPast (sym is) tt
 
@@ -119,7 +119,7 @@ step_so : (t : AttemptState) (x : Step) → IsReached t → AskedBy t x → Step
 step_so t (step.Send n m) r k = body_step t n m.body r k
 step_so t _ r k = tt
 
-among : (P : Step → Type 0) (x : Step) (xs : List Step) → IsStep x xs → All P xs → P x
+pub among : (P : Step → Type 0) (x : Step) (xs : List Step) → IsStep x xs → All P xs → P x
 among P x [] is all = absurd is
 among P x (y ∷ ys) (inl same) all = subst P same (All-head P y ys all)
 among P x (y ∷ ys) (inr later) all = among P x ys later (All-tail P y ys all)

@@ -82,7 +82,7 @@ below a b c l m = omega (arith, l, m)
 session_in : (x : UpNode) (s : NodeState) → x.seat ≡ Forming s → s ≡ state_of x.seat
 session_in x s is = sym (ap state_of is)
 
-install_comes : (L : List Letter) (told : Delivered) (i : Install) (e : ℕ) → HandSent L told → Says (λ b. b ≡ body.Install i) told → i.epoch ≡ e → shown.Installs L e
+pub install_comes : (L : List Letter) (told : Delivered) (i : Install) (e : ℕ) → HandSent L told → Says (λ b. b ≡ body.Install i) told → i.epoch ≡ e → shown.Installs L e
 install_comes L None i e hand says epoch = absurd says
 install_comes L (Some d) i e hand says epoch = record { from = d.0; install = i; epoch = epoch; among = subst (λ b. IsAmong d.0 b L) says hand }
 

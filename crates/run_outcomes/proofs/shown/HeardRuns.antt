@@ -177,7 +177,7 @@ commanded_nodes : (s : Scene) (n d : ℕ) (o : Option Device) (k : PrCommand) �
 commanded_nodes s n d None k = refl
 commanded_nodes s n d (Some x) k = refl
 
-commanded_moments : (s : Scene) (n d : ℕ) (o : Option Device) (k : PrCommand) → (commanded_at s n d o k).scene.moments ≡ s.moments
+pub commanded_moments : (s : Scene) (n d : ℕ) (o : Option Device) (k : PrCommand) → (commanded_at s n d o k).scene.moments ≡ s.moments
 commanded_moments s n d None k = refl
 commanded_moments s n d (Some x) k = refl
 

@@ -117,7 +117,7 @@ step_so h c n now ends i s sized b is time was answer hand guard admits k =
 
 -- ---- each thing that happens
 
-armed_kept : (f : ℕ → DiskState) (n k calls : ℕ) (choice : Choice) → (put f n (armed (f n) calls choice) k).kept ≡ (f k).kept
+pub armed_kept : (f : ℕ → DiskState) (n k calls : ℕ) (choice : Choice) → (put f n (armed (f n) calls choice) k).kept ≡ (f k).kept
 armed_kept f n k calls choice = by_node (same_or_not k n)
   where
     by_node : (k ≡ n) ⊎ (k ≢ n) → (put f n (armed (f n) calls choice) k).kept ≡ (f k).kept
@@ -135,7 +135,7 @@ armed_so c (event.CrashAt n calls choice) s k = record {
 armed_so c (event.Fault n d done) s k = record { apart = k.apart; agree = k.agree; sites = k.sites; packets = k.packets; lines = k.lines }
 armed_so c _ s k = k
 
-plain_hand : (L : List Letter) (i : Input) → IsPlain i → HandSent L (delivered_by i)
+pub plain_hand : (L : List Letter) (i : Input) → IsPlain i → HandSent L (delivered_by i)
 plain_hand L (input.Packet from m) is = absurd is
 plain_hand L input.Boot is = tt
 plain_hand L input.Crash is = tt
@@ -253,7 +253,7 @@ first_so h cells = record {
   lines = tt;
 }
 
-whole_at : (h : Header) (cells : ℕ) (s : Scene) → IsSmall h → IsReached h cells s → IsWhole (first_cluster h) s
+pub whole_at : (h : Header) (cells : ℕ) (s : Scene) → IsSmall h → IsReached h cells s → IsWhole (first_cluster h) s
 whole_at h cells s size r = subst (IsWhole (first_cluster h)) r.is (runs_are_whole h cells r.happenings (runs_are_cut h cells r.happenings) size.few size.small r.may).scene
 
 pub run_so : (h : Header) (cells : ℕ) (hs : List Happening) → IsSmall h → MayAllHappen (first_cluster h) (first_scene h cells) hs → SceneSo (all_happened (first_cluster h) (first_scene h cells) hs)

@@ -35,7 +35,7 @@ use Rattle.run_outcomes.proofs.shown.Deeds.{AdmitSo, AllAdmit, change_device, ac
 abbrev pub Done : List Letter → Cluster → ℕ → Site → Hand → Doing → Type 0
 Done L c n x g d = After L (letters_of n (gives c n x d) ++ L) n (effect c n x d) (hand_after g d) (gives c n x d)
 
-doing_done : (h : Header) (L : List Letter) (c : Cluster) (n : ℕ) (told : Delivered) (g : Hand) (node : Node) (disk : NodeRecord) (d : Doing) → All IsDevice c.attached → HandSent L told
+pub doing_done : (h : Header) (L : List Letter) (c : Cluster) (n : ℕ) (told : Delivered) (g : Hand) (node : Node) (disk : NodeRecord) (d : Doing) → All IsDevice c.attached → HandSent L told
     → May c n told (site node disk) d → DoingMay h n told g (site node disk) d → AdmitSo (site node disk) d → Now L n (site node disk) g → Done L c n (site node disk) g d
 doing_done h L c n told g (Up x) disk (Does a) fits sent may at admit now = act_after h L c n told g x disk a fits sent may at now
 doing_done h L c n told g (Up x) disk (Saves ch) fits sent may at admit now =
@@ -73,7 +73,7 @@ outs_more L M [] f k = tt
 outs_more L M (Tells e ∷ os) f k = (tt, outs_more L M os f k.1)
 outs_more L M (Sends to b ∷ os) f k = (ask_more L M to b f k.0, outs_more L M os f k.1)
 
-sent_more : (L M : List Letter) (told : Delivered) → IsMore L M → HandSent L told → HandSent M told
+pub sent_more : (L M : List Letter) (told : Delivered) → IsMore L M → HandSent L told → HandSent M told
 sent_more L M None f h = tt
 sent_more L M (Some d) f h = f d.0 d.1.body h
 
@@ -124,7 +124,7 @@ among_right : (from : ℕ) (b : Body) (K L : List Letter) → IsAmong from b L �
 among_right from b [] L h = h
 among_right from b (l ∷ K) L h = inr (among_right from b K L h)
 
-among_split : (from : ℕ) (b : Body) (K L : List Letter) → IsAmong from b (K ++ L) → IsAmong from b K ⊎ IsAmong from b L
+pub among_split : (from : ℕ) (b : Body) (K L : List Letter) → IsAmong from b (K ++ L) → IsAmong from b K ⊎ IsAmong from b L
 among_split from b [] L h = inr h
 among_split from b (l ∷ K) L (inl h) = inl (inl h)
 among_split from b (l ∷ K) L (inr h) = by_side (among_split from b K L h)

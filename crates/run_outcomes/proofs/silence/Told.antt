@@ -39,12 +39,12 @@ use Rattle.run_outcomes.proofs.silence.Lacks.{Known, collecting_so, lacks_so}
 use Rattle.run_outcomes.proofs.silence.Runs.{run_told}
 use Rattle.world_model.specs.First.{first_cluster}
 
-record Here (h : Header) (s : Scene) (a : AttemptState) (m : ℕ) : Type 0 where
-  known : Known s.moments a
-  other : (m == a.plan.coordinator) ≡ false
-  member : is_other_node a.plan m ≡ true
+pub record Here (h : Header) (s : Scene) (a : AttemptState) (m : ℕ) : Type 0 where
+  pub known : Known s.moments a
+  pub other : (m == a.plan.coordinator) ≡ false
+  pub member : is_other_node a.plan m ≡ true
 
-here : (h : Header) (cells : ℕ) (hs : List Happening) (last : Due) → length h.devices ≤ most_devices → h.cluster < 2 ^ 32 → AreDisks h → MayAllHappen (first_cluster h) (first_scene h cells) hs
+pub here : (h : Header) (cells : ℕ) (hs : List Happening) (last : Due) → length h.devices ≤ most_devices → h.cluster < 2 ^ 32 → AreDisks h → MayAllHappen (first_cluster h) (first_scene h cells) hs
     → ShapedFrom (first_cluster h) (first_scene h cells) nothing hs last → NoneForeign (first_cluster h) (first_scene h cells) hs
     → (let s : Scene = all_happened (first_cluster h) (first_scene h cells) hs in nat_lt s.links.next (2 ^ 63) ≡ true → (n : ℕ) (a : AttemptState) → HasAttempt s n a → (m : ℕ) → is_other a s.moments m ≡ true → Here h s a m)
 here h cells hs last few small disks may shaped native left n a at m is = record { known = known; other = other; member = both (list_any (λ k. k == m) a.plan.nodes) (not (m == a.plan.coordinator)) two.0 two.1 }

@@ -71,7 +71,7 @@ collects_ask plan m (n ∷ ns) asked h = by_test (λ a k. collects_ask plan m ns
     by_test rest true is k = still_asked q (map (send_collect plan) ns) (((n == m) && true) || asked) (both (n == m) asked is)
     by_test rest false is k = rest (((n == m) && true) || asked) k
 
-in_filter : (p : ℕ → Bool) (m : ℕ) (ns : List ℕ) → p m ≡ true → list_any (λ k. k == m) ns ≡ true → list_any (λ k. k == m) (filter p ns) ≡ true
+pub in_filter : (p : ℕ → Bool) (m : ℕ) (ns : List ℕ) → p m ≡ true → list_any (λ k. k == m) ns ≡ true → list_any (λ k. k == m) (filter p ns) ≡ true
 in_filter p m [] is h = absurd (false_true h)
 in_filter p m (n ∷ ns) is h = by_tests (λ k. in_filter p m ns is k) (n == m) refl (p n) refl h
   where

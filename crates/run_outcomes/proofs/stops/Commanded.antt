@@ -1,5 +1,5 @@
 -- A node that takes the answer to its command: what it saves then, and where it goes down in that.
-use Rattle.std.specs.Prelude.{ℕ, ◌≡◌, ◌==◌, ◌&&◌, ◌||◌, not, Bool, true, false, List, [], ◌∷◌, filter, Option, None, Some}
+use Rattle.std.specs.Prelude.{ℕ, ◌≡◌, ◌==◌, ◌&&◌, ◌||◌, not, Bool, true, false, List, [], ◌∷◌, filter, if◌then◌else◌, is_some, Option, None, Some}
 use Rattle.std.specs.List.{list_any}
 use Rattle.std.proofs.Common.{refl, sym, ap, ◌∙◌, arith}
 use Rattle.cl_base.specs.Seizings.{SeizeResult}
@@ -14,6 +14,7 @@ use Rattle.device_queue.specs.declared.progress.Progress.TheVariants.{GoesOn, Jo
 use Rattle.device_queue.specs.declared.task.Task.{Task}
 use Rattle.device_queue.specs.declared.task.Work.{Work}
 use Rattle.device_queue.specs.declared.task.Work.TheVariants.{Joining, Seizing}
+use Rattle.history.specs.Member as member
 use Rattle.history.specs.Member.{attempt_of}
 use Rattle.history.specs.Moment.{Moment}
 use Rattle.history.specs.Order.{so_far, under_way}
@@ -55,7 +56,7 @@ use Rattle.run_history.proofs.Small.{AllSmall}
 use Rattle.run_history.specs.Scenes.{Scene, passing, telling}
 use Rattle.run_attempts.specs.endings.Laws.{epoch_of}
 use Rattle.run_devices.proofs.queues.Acts.{due_writes, line_of}
-use Rattle.run_devices.specs.queues.Laws.{Same, SameTask, SameWork}
+use Rattle.run_devices.specs.queues.Laws.{Same, SameTask, SameWork, queued}
 use Rattle.run_outcomes.specs.saves.Courses.{IsTried}
 use Rattle.run_outcomes.specs.saves.Kept.{IsOnWay}
 use Rattle.run_outcomes.specs.stops.Idle.{AllDisk, AllIdle, HasCommand, HasJoined}
@@ -109,6 +110,14 @@ still_told false false h = refl
 abbrev pub IsTold : Setting → ℕ → UpNode → List Moment → Type 0
 IsTold S n x ms = told.queue_is_open S n ms ≡ false → Same (filter is_queued x.tasks) (told.queued_of S n ms)
 
+-- what is first in a queue is the first task that is not over
+head_of_queue : (P : told.Task → Type 0) (S : Setting) (n : ℕ) (ms : List Moment) → IsHead P (told.queued_of S n ms) → IsHead P (queued (told.tasks_of S n ms))
+head_of_queue P S n ms k = by_test (is_some (member.member_of n ms)) k
+  where
+    by_test : (b : Bool) → IsHead P (if b then [] else queued (told.tasks_of S n ms)) → IsHead P (queued (told.tasks_of S n ms))
+    by_test true k = absurd k
+    by_test false k = k
+
 -- by this answer it has joined the device
 joined_told : (S : Setting) (n at : ℕ) (q : PrCommand) (a : Answer) (x : UpNode) (ms : List Moment) → told.is_write q ≡ false → is_joined_by (progress_after x.tasks a) ≡ true → IsTold S n x ms → HasJoined S n (line_of n at q a ∷ ms)
 joined_told S n at q a x ms off is queue = λ shut.
@@ -116,7 +125,7 @@ joined_told S n at q a x ms off is queue = λ shut.
     still_told (told.is_untold S n (attempt_of n (line_of n at q a ∷ ms)) (line_of n at q a ∷ ms)) (told.queue_is_open S n ms) shut in
     ap (λ us. list_any has_joined us) (line_tasks S n at q a ms off)
     ∙ with_own_any has_joined S n (attempt_of n ms) (line_of n at q a ∷ ms) (told.moved a (told.tasks_of S n ms))
-    (moved_joined a (told.tasks_of S n ms) (first_joined a x.tasks (told.queued_of S n ms) is (queue before)))
+    (moved_joined a (told.tasks_of S n ms) (head_of_queue (λ u. joined_by (told.work_after u.work a) ≡ true) S n ms (first_joined a x.tasks (told.queued_of S n ms) is (queue before))))
 
 -- ---- the line of the command
 

@@ -1,5 +1,6 @@
 -- In each run a node stops in a command at a device only where the rules let it save.
 use Rattle.std.specs.Prelude.{ℕ, ◌-◌, ◌≡◌, ◌^◌, nat_lt, Bool, true, false, List, [], ◌∷◌, Option, None, Some, slice_get}
+use Rattle.std.specs.List.{AllByRecursion}
 use Rattle.std.proofs.Common.{refl, ap, ◌∙◌}
 use Rattle.cl_base.specs.declared.header.Header.{Header}
 use Rattle.cl_base.specs.declared.method.Outcome as method
@@ -28,6 +29,7 @@ use Rattle.run_history.specs.Bringing.{IsBrought, IsDelivery}
 use Rattle.run_history.specs.Happenings.{Arrives, Begins, Commands, Happening, IsPlain, Loses, MayAllHappen, MayHappen, Misses, Notes, Refuses, Repeats, Speaks, Strays, Takes, Writes, all_happened, armed_by, commanded, commanded_at, given_by, happened, removed, taking}
 use Rattle.run_history.specs.Scenes.{Scene, adding, first_scene, telling, with_links}
 use Rattle.run_history.specs.Shapes.{Due, IsDue, ShapedFrom, due_after, nothing}
+use Rattle.run_packets.specs.native.Laws.{BootsInHeader}
 use Rattle.run_packets.specs.views.Laws.{NoneForeign}
 use Rattle.run_outcomes.specs.stops.AtDevices.{DiskStopsOfEachRun, is_disk}
 use Rattle.run_outcomes.specs.stops.Idle.{AllDisk}
@@ -36,7 +38,8 @@ use Rattle.run_outcomes.specs.tasks.Laws.{QueuesAreTold}
 use Rattle.run_outcomes.proofs.asks.Lines.{left_before}
 use Rattle.run_outcomes.proofs.stops.DiskRules.{NoDisk, dropped_disk, other_disk}
 use Rattle.run_outcomes.proofs.stops.Numbers.{all_next}
-use Rattle.run_outcomes.proofs.stops.Points.{Fresh, next_fresh, one_more, take_first}
+use Rattle.run_outcomes.proofs.points.Before.{first_before, one_more}
+use Rattle.run_outcomes.proofs.stops.Points.{Fresh, next_fresh, take_first}
 use Rattle.run_outcomes.proofs.stops.DiskSteps.{At, Run, answers, coordinator_idle, readies}
 
 -- ---- each thing that happens
@@ -135,12 +138,12 @@ happening_disk h b cells d s (Refuses n e value why) may is r left fresh so = (t
 -- ---- the run
 
 run_on : (h : Header) → Run h → (cells : ℕ) (hs : List Happening) (s : Scene) (d last : Due) → MayAllHappen (first_cluster h) s hs → ShapedFrom (first_cluster h) s d hs last → NoneForeign (first_cluster h) s hs
-    → nat_lt (all_happened (first_cluster h) s hs).links.next (2 ^ 63) ≡ true → At h cells d s → Fresh s.moments d.wants → AllDisk (setting_of h) s.moments → AllDisk (setting_of h) (all_happened (first_cluster h) s hs).moments
-run_on h b cells [] s d last may shaped native left r fresh so = so
-run_on h b cells (x ∷ hs) s d last may shaped native left r fresh so =
+    → AllByRecursion (BootsInHeader h) hs → nat_lt (all_happened (first_cluster h) s hs).links.next (2 ^ 63) ≡ true → At h cells d s → Fresh s.moments d.wants → AllDisk (setting_of h) s.moments → AllDisk (setting_of h) (all_happened (first_cluster h) s hs).moments
+run_on h b cells [] s d last may shaped native boots left r fresh so = so
+run_on h b cells (x ∷ hs) s d last may shaped native boots left r fresh so =
     let c : Cluster = first_cluster h in
     let t : Scene = happened c s x in
-    run_on h b cells hs t (due_after c t d x) last may.1 shaped.1 native.1 left (one_more c (first_scene h cells) d s x r may.0 shaped.0 native.0) (next_fresh c s d.wants d.rounds x fresh)
+    run_on h b cells hs t (due_after c t d x) last may.1 shaped.1 native.1 boots.1 left (one_more c (first_scene h cells) d s x r may.0 shaped.0 native.0 boots.0) (next_fresh c s d.wants d.rounds x fresh)
     (happening_disk h b cells d s x may.0 shaped.0 r (left_before s.links.next (all_happened c t hs).links.next (all_next c s (x ∷ hs)) left) fresh so)
 
 first_disk : (S : Setting) (h : Header) (cells : ℕ) → AllDisk S (first_scene h cells).moments
@@ -148,6 +151,6 @@ unfolding first_scene
 first_disk S h cells = tt
 
 pub disk_stops_from : QueuesAreTold → CommandsAreIdle → DiskStopsOfEachRun
-disk_stops_from queues idle h cells hs last few small disks may shaped native left =
-    run_on h (record { queues = queues; idle = idle; few = few; small = small; disks = disks }) cells hs (first_scene h cells) nothing last may shaped native left
-    (record { happenings = []; may = tt; shaped = refl; native = tt; is = refl }) tt (first_disk (setting_of h) h cells)
+disk_stops_from queues idle h cells hs last nodes few small disks may shaped native boots left =
+    run_on h (record { queues = queues; idle = idle; few_nodes = nodes; few = few; small = small; disks = disks }) cells hs (first_scene h cells) nothing last may shaped native boots left
+    (first_before (first_cluster h) (first_scene h cells)) tt (first_disk (setting_of h) h cells)

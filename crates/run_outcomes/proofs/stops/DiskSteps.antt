@@ -2,7 +2,7 @@
 use Rattle.std.specs.Prelude.{ℕ, ◌-◌, ◌≡◌, ◌≤◌, ◌<◌, ◌^◌, nat_lt, true, false, List, [], length, Option, None, Some, slice_get}
 use Rattle.std.specs.List.{list_any}
 use Rattle.std.proofs.Common.{refl, sym, ap, subst, ◌∙◌}
-use Rattle.cl_base.specs.Limits.{most_devices}
+use Rattle.cl_base.specs.Limits.{most_devices, most_nodes}
 use Rattle.cl_base.specs.Sets.{has}
 use Rattle.cl_base.specs.declared.header.Header.{Header}
 use Rattle.cl_base.specs.declared.method.Outcome as method
@@ -74,7 +74,8 @@ use Rattle.run_outcomes.proofs.stops.Named.{first_task_device}
 use Rattle.run_outcomes.proofs.stops.Readied.{Trusts, readied_disk}
 use Rattle.run_outcomes.proofs.stops.Starting.{acts_none}
 use Rattle.run_outcomes.proofs.stops.Unled.{unled_idle}
-use Rattle.run_outcomes.proofs.stops.Points.{Before, IsFirst}
+use Rattle.run_outcomes.proofs.points.Before.{Before}
+use Rattle.run_outcomes.proofs.stops.Points.{IsFirst}
 
 -- ---- what is known of a node
 
@@ -82,6 +83,7 @@ use Rattle.run_outcomes.proofs.stops.Points.{Before, IsFirst}
 pub record Run (h : Header) : Type 0 where
   pub queues : QueuesAreTold
   pub idle : CommandsAreIdle
+  pub few_nodes : h.nodes ≤ most_nodes
   pub few : length h.devices ≤ most_devices
   pub small : h.cluster < 2 ^ 32
   pub disks : AreDisks h
@@ -97,7 +99,7 @@ queue_at : (h : Header) → Run h → (cells : ℕ) (d : Due) (s : Scene) (n : �
 queue_at h b cells d s n x r left at =
     queue_of (setting_of h) n x (s.nodes.node n) s.moments at
     (subst (λ (t : Scene). nat_lt t.links.next (2 ^ 63) ≡ true → told.queue_is_open (setting_of h) n t.moments ≡ false → NodeQueue (t.nodes.node n) (told.queued_of (setting_of h) n t.moments)) r.is
-    (λ more shut. b.queues h cells r.happenings d b.few b.small b.disks r.may r.shaped r.native more n shut) left)
+    (λ more shut. b.queues h cells r.happenings d b.few_nodes b.few b.small b.disks r.may r.shaped r.native r.boots more n shut) left)
 
 way_at : (h : Header) → Run h → (cells : ℕ) (d : Due) (s : Scene) (n : ℕ) (x : UpNode) → Before (first_cluster h) (first_scene h cells) d s → s.nodes.node n ≡ Up x → IsOnWay n s.moments (Up x)
 way_at h b cells d s n x r at =
@@ -173,8 +175,10 @@ readies h b cells d s n now ends r left here first so = by_node (s.nodes.node n)
         subst (λ w. AllDisk S (passing n (stepped disk_rules c n now ends w (s.nodes.disk n) input.CommandDue).given t).moments) (sym at)
         (readying h n now ends x (s.nodes.disk n) t (trusts_at h b cells d s n x r at first) (comes_at h b cells d s n x r left at here so))
 
-pub idle_at : (h : Header) → Run h → (cells : ℕ) (d : Due) (s : Scene) → At h cells d s → IdleAsItSaves h s
-idle_at h b cells d s r = subst (IdleAsItSaves h) r.is (b.idle h cells r.happenings d b.few b.small b.disks r.may r.shaped r.native)
+pub idle_at : (h : Header) → Run h → (cells : ℕ) (d : Due) (s : Scene) → At h cells d s → nat_lt s.links.next (2 ^ 63) ≡ true → IdleAsItSaves h s
+idle_at h b cells d s r left =
+    subst (IdleAsItSaves h) r.is
+    (b.idle h cells r.happenings d b.few_nodes b.few b.small b.disks r.may r.shaped r.native r.boots (subst (λ (t : Scene). nat_lt t.links.next (2 ^ 63) ≡ true) (sym r.is) left))
 
 -- what is known of a coordinator
 leads_at : (h : Header) → Run h → (cells : ℕ) (d : Due) (s : Scene) (n : ℕ) (x : UpNode) (a : AttemptState) → At h cells d s → nat_lt s.links.next (2 ^ 63) ≡ true → s.nodes.node n ≡ Up x → x.attempt ≡ Some a
@@ -204,7 +208,7 @@ leads_at h b cells d s n x a r left at has_it = record {
     done : a.phase ≡ Installing → has_installed n (session_of x) s.moments ≡ true
     done phase = subst (λ e. has_installed n e s.moments ≡ true) g.so.epoch (g.so.installs phase)
 
-commanded_moments : (s : Scene) (n d : ℕ) (o : Option Device) (q : PrCommand) → s.moments ≡ (commanded_at s n d o q).scene.moments
+pub commanded_moments : (s : Scene) (n d : ℕ) (o : Option Device) (q : PrCommand) → s.moments ≡ (commanded_at s n d o q).scene.moments
 commanded_moments s n d None q = refl
 commanded_moments s n d (Some x) q = refl
 

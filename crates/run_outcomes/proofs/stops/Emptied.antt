@@ -49,7 +49,7 @@ not_both : (a b : Bool) → (a && true || b) ≡ false → a ≡ true → ⊥
 not_both true b h is = false_true (sym h)
 not_both false b h is = false_true is
 
-none_left : (ts : List Task) → joins ts ≡ false → AllJoin (filter is_queued ts) → filter is_queued ts ≡ []
+pub none_left : (ts : List Task) → joins ts ≡ false → AllJoin (filter is_queued ts) → filter is_queued ts ≡ []
 none_left [] none h = refl
 none_left (t ∷ ts) none h = by_test (is_queued t) none h (none_left ts)
   where

@@ -35,6 +35,6 @@ each S [] falls ruled tick disk = tt
 each S (x ∷ ms) falls ruled tick disk = (one S ms x falls.0 ruled.0 tick.0 disk.0, each S ms falls.1 ruled.1 tick.1 disk.1)
 
 pub stops_are_caused_from : AttemptsBeginAsWanted → QueuesAreTold → CommandsAreIdle → StopsAreCaused
-stops_are_caused_from wanted queues idle h cells hs last nodes few small disks may boots shaped native left =
+stops_are_caused_from wanted queues idle h cells hs last nodes few small disks may shaped native boots left =
     each (setting_of h) _ (stops_of_each_run h cells hs few small may) (letter_stops_of_each_run h cells hs few small may (setting_of h)) (tick_stops_of_each_run wanted h cells hs nodes few small may boots)
-    (disk_stops_from queues idle h cells hs last few small disks may shaped native left)
+    (disk_stops_from queues idle h cells hs last nodes few small disks may shaped native boots left)

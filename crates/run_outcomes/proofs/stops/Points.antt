@@ -1,6 +1,6 @@
--- Each point of a run, with what happened before it; a node readies itself for its command as the first thing in its event.
-use Rattle.std.specs.Prelude.{ℕ, ◌≡◌, ◌++◌, false, List, [], ◌∷◌, Option, None, Some, is_some}
-use Rattle.std.proofs.Common.{refl, sym, ap, subst, ◌∙◌}
+-- A node readies itself for its command as the first thing in its event.
+use Rattle.std.specs.Prelude.{ℕ, ◌≡◌, List, [], ◌∷◌, Option, None, Some, is_some}
+use Rattle.std.proofs.Common.{refl, sym, subst}
 use Rattle.cl_base.specs.declared.method.Outcome as method
 use Rattle.cmm_attempt.proofs.Basics.{if_either}
 use Rattle.history.specs.Moment.{Moment, Said}
@@ -11,53 +11,13 @@ use Rattle.node_model.specs.declared.input.Input.TheVariants as input
 use Rattle.schedule_text.specs.declared.event.Event.{Event}
 use Rattle.schedule_text.specs.declared.event.Event.TheVariants as event
 use Rattle.schedule_text.specs.declared.line.Line.TheVariants as line
-use Rattle.run_history.specs.Happenings.{Begins, Happening, MayAllHappen, MayHappen, Speaks, Takes, all_happened, armed_by, happened}
+use Rattle.run_history.specs.Happenings.{Begins, Happening, Speaks, Takes, armed_by, happened}
 use Rattle.run_history.specs.Rounds.{Progress}
 use Rattle.run_history.specs.Scenes.{Scene, adding}
 use Rattle.run_history.specs.Shapes.{Comes as IsNext, Due, IsDue, ShapedFrom, Want, brings, due_after, nothing, still}
 use Rattle.run_history.specs.Shapes as want
 use Rattle.run_devices.proofs.queues.Added.{IsAlone, brings_alone}
 use Rattle.run_devices.specs.validity.Laws.{IsReadied}
-use Rattle.run_packets.specs.views.Laws.{NoneForeign, TellsHere}
-
--- ---- runs up to a scene
-
--- what happened before it: each thing when it was due, and no packet that came was foreign
-pub record Before (c : Cluster) (first : Scene) (d : Due) (s : Scene) : Type 0 where
-  pub happenings : List Happening
-  pub may : MayAllHappen c first happenings
-  pub shaped : ShapedFrom c first nothing happenings d
-  pub native : NoneForeign c first happenings
-  pub is : all_happened c first happenings ≡ s
-
-may_more : (c : Cluster) (s : Scene) (xs : List Happening) (g : Happening) → MayAllHappen c s xs → MayHappen c (all_happened c s xs) g → MayAllHappen c s (xs ++ g ∷ [])
-may_more c s [] g all may = (may, tt)
-may_more c s (x ∷ xs) g all may = (all.0, may_more c (happened c s x) xs g all.1 may)
-
-shaped_more : (c : Cluster) (s : Scene) (from d : Due) (xs : List Happening) (g : Happening) → ShapedFrom c s from xs d → IsDue (all_happened c s xs) d g
-    → ShapedFrom c s from (xs ++ g ∷ []) (due_after c (happened c (all_happened c s xs) g) d g)
-shaped_more c s from d [] g shaped comes = (subst (λ z. IsDue s z g) (sym shaped) comes, ap (λ z. due_after c (happened c s g) z g) shaped)
-shaped_more c s from d (x ∷ xs) g shaped comes = (shaped.0, shaped_more c (happened c s x) (due_after c (happened c s x) from x) d xs g shaped.1 comes)
-
-native_more : (c : Cluster) (s : Scene) (xs : List Happening) (g : Happening) → NoneForeign c s xs → TellsHere c (all_happened c s xs) (λ before. false) g → NoneForeign c s (xs ++ g ∷ [])
-native_more c s [] g native here = (here, tt)
-native_more c s (x ∷ xs) g native here = (native.0, native_more c (happened c s x) xs g native.1 here)
-
-happened_more : (c : Cluster) (s : Scene) (xs : List Happening) (g : Happening) → all_happened c s (xs ++ g ∷ []) ≡ happened c (all_happened c s xs) g
-happened_more c s [] g = refl
-happened_more c s (x ∷ xs) g = happened_more c (happened c s x) xs g
-
-pub one_more : (c : Cluster) (first : Scene) (d : Due) (s : Scene) (g : Happening) → Before c first d s → MayHappen c s g → IsDue s d g → TellsHere c s (λ before. false) g
-    → Before c first (due_after c (happened c s g) d g) (happened c s g)
-one_more c first d s g r may comes here = record {
-  happenings = r.happenings ++ g ∷ [];
-  may = may_more c first r.happenings g r.may (subst (λ z. MayHappen c z g) (sym r.is) may);
-  shaped =
-      subst (λ z. ShapedFrom c first nothing (r.happenings ++ g ∷ []) (due_after c (happened c z g) d g)) r.is
-      (shaped_more c first nothing d r.happenings g r.shaped (subst (λ z. IsDue z d g) (sym r.is) comes));
-  native = native_more c first r.happenings g r.native (subst (λ z. TellsHere c z (λ before. false) g) (sym r.is) here);
-  is = happened_more c first r.happenings g ∙ ap (λ z. happened c z g) r.is;
-}
 
 -- ---- a node readies itself as the first in its event
 

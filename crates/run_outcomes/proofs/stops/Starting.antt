@@ -44,7 +44,7 @@ use Rattle.run_seizings.proofs.Progress.{if_not, if_so}
 use Rattle.run_seizings.specs.Seized.{has_installed}
 use Rattle.run_devices.proofs.queues.Acts.{line_of}
 use Rattle.run_devices.specs.queues.Kept.{joins_in}
-use Rattle.run_devices.specs.queues.Laws.{queued}
+use Rattle.run_devices.specs.queues.Laws.{Same, queued}
 use Rattle.run_outcomes.specs.stops.Idle.{AllIdle, IsIdle, LostIdle}
 use Rattle.run_outcomes.proofs.saves.Trying.{Tries, deciding_t, gone_t, steps_t}
 use Rattle.run_outcomes.proofs.stops.Commanded.{IsTold}
@@ -54,13 +54,13 @@ use Rattle.run_outcomes.proofs.stops.Unled.{NotTried, Still, still_idle}
 
 -- ---- courses that start first, or save nothing of the attempt
 
-tries_still : (k : Course) → Tries NotTried k → Still k
+pub tries_still : (k : Course) → Tries NotTried k → Still k
 tries_still Stops h = tt
 tries_still (Acts a rest) h = tries_still rest h.1
 tries_still (Keeps change rest) h = (h.0, tries_still rest h.1)
 tries_still (Falls why) h = tt
 
-joined_still : (c : Cluster) (n : ℕ) (x : UpNode) (k : Course) (next : UpNode → Course) → Still k → ((y : UpNode) → Still (next y)) → Still (joined c n x k next)
+pub joined_still : (c : Cluster) (n : ℕ) (x : UpNode) (k : Course) (next : UpNode → Course) → Still k → ((y : UpNode) → Still (next y)) → Still (joined c n x k next)
 joined_still c n x Stops next h f = f x
 joined_still c n x (Acts a rest) next h f = joined_still c n (acted c n x a) rest next h f
 joined_still c n x (Keeps change rest) next h f = (h.0, joined_still c n (changed c n x change) rest next h.1 f)
@@ -157,7 +157,7 @@ turned_once c n x a = by_phase a.phase refl
     by_phase SeizingOthers is = none
     by_phase Over is = none
 
-if_started_still : (c : Cluster) (n : ℕ) (steps : List Step) (y : UpNode) → Still (if_started c n steps y)
+pub if_started_still : (c : Cluster) (n : ℕ) (steps : List Step) (y : UpNode) → Still (if_started c n steps y)
 if_started_still c n steps y = if_either Still (starts_in steps) (deciding_course c n y) Stops (tries_still (deciding_course c n y) (deciding_t NotTried c n y)) tt
 
 -- where it has a joining left it does nothing
@@ -184,10 +184,14 @@ own_none S n (Some e) ms us none =
     first_no false b c h = refl
     first_no true b c h = absurd (false_true (sym h))
 
-idle_of : (S : Setting) (n : ℕ) (ms : List Moment) → queued (told.tasks_of S n ms) ≡ [] → told.has_work S n ms ≡ false
-idle_of S n ms none = ap (λ us. nat_lt 0 (length (map (λ (t : told.Task). t.device) us))) none
+pub idle_of : (S : Setting) (n : ℕ) (ms : List Moment) → queued (told.tasks_of S n ms) ≡ [] → told.has_work S n ms ≡ false
+idle_of S n ms none = by_test (is_some (member.member_of n ms))
+  where
+    by_test : (b : Bool) → nat_lt 0 (length (map (λ (t : told.Task). t.device) (if b then [] else queued (told.tasks_of S n ms)))) ≡ false
+    by_test true = refl
+    by_test false = ap (λ us. nat_lt 0 (length (map (λ (t : told.Task). t.device) us))) none
 
-still_told : (a b : Bool) → (a || (b && not false)) ≡ false → b ≡ false
+pub still_told : (a b : Bool) → (a || (b && not false)) ≡ false → b ≡ false
 still_told true b h = absurd (false_true (sym h))
 still_told false true h = absurd (false_true (sym h))
 still_told false false h = refl
@@ -196,9 +200,17 @@ pub line_idle : (S : Setting) (n at : ℕ) (q : PrCommand) (b : Answer) (x : UpN
     → joins (after_answer x.tasks b) ≡ false → IsTold S n x ms → IsIdle S n (line_of n at q b ∷ ms)
 line_idle S n at q b x ms off acts only none queue = λ shut.
     let before : told.queue_is_open S n ms ≡ false = still_told (told.is_untold S n (attempt_of n (line_of n at q b ∷ ms)) (line_of n at q b ∷ ms)) (told.queue_is_open S n ms) shut in
-    idle_of S n (line_of n at q b ∷ ms)
-    (ap queued (line_tasks S n at q b ms off ∙ own_none S n (attempt_of n ms) (line_of n at q b ∷ ms) (told.moved b (told.tasks_of S n ms)) acts)
-    ∙ told_emptied x.tasks (told.tasks_of S n ms) b (queue before) (node_emptied x.tasks b only none))
+    by_test (is_some (member.member_of n ms)) refl (queue before)
+  where
+    after : List Moment
+    after = line_of n at q b ∷ ms
+
+    by_test : (t : Bool) → is_some (member.member_of n ms) ≡ t → Same (filter is_queued x.tasks) (if t then [] else queued (told.tasks_of S n ms)) → told.has_work S n after ≡ false
+    by_test true is k = ap (λ t. nat_lt 0 (length (map (λ (u : told.Task). u.device) (if t then [] else queued (told.tasks_of S n after))))) is
+    by_test false is k =
+        idle_of S n after
+        (ap queued (line_tasks S n at q b ms off ∙ own_none S n (attempt_of n ms) after (told.moved b (told.tasks_of S n ms)) acts)
+        ∙ told_emptied x.tasks (told.tasks_of S n ms) b k (node_emptied x.tasks b only none))
 
 itself : (n : ℕ) → (n == n) ≡ true
 itself n = grind arith
@@ -215,7 +227,9 @@ saved_idle S n ms idle = λ shut. by_test (in_collect n ms) refl shut
         let none : test ≡ false = ap (λ b. b && in_collect n ms) (itself n) ∙ is in
         let before : told.queue_is_open S n ms ≡ false =
         still_told (told.is_untold S n (attempt_of n (saved n ∷ ms)) (saved n ∷ ms)) (told.queue_is_open S n ms) (sym (ap (λ b. told.is_untold S n (attempt_of n (saved n ∷ ms)) (saved n ∷ ms) || (told.queue_is_open S n ms && not b)) none) ∙ shut) in
-        ap (λ us. nat_lt 0 (length (map (λ (t : told.Task). t.device) (queued us)))) (if_not test [] (told.tasks_of S n ms) none) ∙ idle before
+        ap
+        (λ b. nat_lt 0 (length (map (λ (t : told.Task). t.device) (if is_some (if b then None else member.member_of n ms) then [] else queued (if b then [] else told.tasks_of S n ms))))) none
+        ∙ idle before
 
 -- it acts for no epoch any more
 pub acts_none : (n q : ℕ) (ms : List Moment) → member.session_of n ms ≡ Some q → has_installed n q ms ≡ true → (e : ℕ) → acts_for n e ms ≡ false

@@ -121,7 +121,7 @@ session_attempt : (n : ℕ) (ms : List Moment) (e : AttemptEntry) → QuietAttem
 session_attempt n ms (tried.Begun e members) k = if_off (coordinator e == n) (Some e) (session_of n ms) (differs (coordinator e) n k)
 session_attempt n ms _ k = refl
 
-session_one : (n : ℕ) (ms : List Moment) (x : Moment) → IsQuiet n ms x → session_of n (x ∷ ms) ≡ session_of n ms
+pub session_one : (n : ℕ) (ms : List Moment) (x : Moment) → IsQuiet n ms x → session_of n (x ∷ ms) ≡ session_of n ms
 session_one n ms (Told (entry.Node m e)) k = session_node n m ms e k
 session_one n ms (Told (entry.Attempt e)) k = session_attempt n ms e k
 session_one n ms _ k = refl

@@ -153,7 +153,7 @@ plain_first : (plan : Plan) (a : AttachedDevice) (n : ℕ) → LedBy plan → fi
     → PlainSo plan (record { attached = a; kind = Plain; seizer = Some n; asked = set_with 0 n; result = None })
 plain_first plan a n l is = record { kind = refl; own = first_own plan l (λ m. has a.nodes m) n is }
 
-plains_first : (s : AttemptState) (votes : List Seizing) → LedBy s.plan → (xs : List AttachedDevice)
+pub plains_first : (s : AttemptState) (votes : List Seizing) → LedBy s.plan → (xs : List AttachedDevice)
     → (devices_in (filter_map (plain_new s.plan votes) xs) ≡ filter (is_left s.plan votes) xs) × AllByRecursion (PlainSo s.plan) (filter_map (plain_new s.plan votes) xs)
 plains_first s votes l [] = (refl, tt)
 plains_first s votes l (a ∷ xs) = by_test (is_seized votes a.device) (plains_first s votes l xs)

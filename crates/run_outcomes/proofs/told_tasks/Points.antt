@@ -159,7 +159,7 @@ not_installing Installing is = absurd (false_true is)
 not_installing Over is = refl
 
 -- an attempt that seizes devices has not installed
-seizing_before : (p : Phase) → is_seizing p ≡ true → IsBefore p
+pub seizing_before : (p : Phase) → is_seizing p ≡ true → IsBefore p
 seizing_before Collecting is = tt
 seizing_before Choosing is = tt
 seizing_before SeizingVotes is = tt

@@ -34,7 +34,7 @@ pub off_first : (a b : Bool) → a ≡ false → (a && b) ≡ false
 off_first true b is = absurd (false_true (sym is))
 off_first false b is = refl
 
-off_second : (a b : Bool) → b ≡ false → (a && b) ≡ false
+pub off_second : (a b : Bool) → b ≡ false → (a && b) ≡ false
 off_second true b is = is
 off_second false b is = refl
 

@@ -74,10 +74,10 @@ abbrev as_quorum : (plan other : Plan) (ps qs : List Promised) (g k : Option Bot
 as_quorum plan other ps qs g k es p q r h = record { votes = h.votes; behind = h.behind; parts = h.parts; first = as_votes plan other ps qs g k h.votes p q r h.first; alone = h.alone }
 
 -- its answer, and how the coordinator's own seizing ended
-abbrev Now : Plan → List Moment → Seizing → Type 0
+abbrev pub Now : Plan → List Moment → Seizing → Type 0
 Now plan ms e = (m : ℕ) → e.seizer ≡ Some m → m ≢ plan.coordinator → told.seized_by plan.epoch e.attached.device m ms ≡ e.result
 
-abbrev Own : Plan → List Task → Seizing → Type 0
+abbrev pub Own : Plan → List Task → Seizing → Type 0
 Own plan tasks e = e.seizer ≡ Some plan.coordinator → own_result e.attached.device tasks ≡ e.result
 
 -- on plans and Promises that are the same
@@ -86,7 +86,7 @@ turned_as : (plan other : Plan) (ps qs : List Promised) (tasks : List Task) (ms 
 turned_as plan other ps qs tasks ms vs l p q f =
     subst (λ z. AllByRecursion (IsTurned plan z l tasks ms) vs) (sym q) (subst (λ (z : Plan). (m : LedBy z) → AllByRecursion (IsTurned z qs m tasks ms) vs) (sym p) f l)
 
-turned_by_call : (b : AttemptState) (tasks : List Task) (ms : List Moment) (l : LedBy b.plan) → coordinator b.plan.epoch ≡ b.plan.coordinator → (k : ByCall b tasks ms) (p : Quorum b.plan b.promises b.votes b.devices) → is_seizing b.phase ≡ true
+pub turned_by_call : (b : AttemptState) (tasks : List Task) (ms : List Moment) (l : LedBy b.plan) → coordinator b.plan.epoch ≡ b.plan.coordinator → (k : ByCall b tasks ms) (p : Quorum b.plan b.promises b.votes b.devices) → is_seizing b.phase ≡ true
     → AllByRecursion (Now b.plan ms) p.votes → AllByRecursion (Own b.plan tasks) p.votes → AllByRecursion (IsTurned b.plan b.promises l tasks ms) p.votes
 turned_by_call b tasks ms l lead k p seizing now own =
     turned_as b.plan a.plan b.promises a.promises tasks ms p.votes l k.plan k.promises

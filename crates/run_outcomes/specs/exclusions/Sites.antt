@@ -9,7 +9,7 @@ use Rattle.cmm_attempt.specs.declared.step.AttemptEnd.TheVariants as end
 use Rattle.history.specs.Member.{last_installed}
 use Rattle.history.specs.Moment.{Moment}
 use Rattle.history.specs.Order.{Always}
-use Rattle.history.specs.Trace.{sent}
+use Rattle.history.specs.Trace.{installed, sent}
 use Rattle.membership_machine.specs.State.{Memberships}
 use Rattle.node_model.specs.declared.node.Node.{Node}
 use Rattle.node_model.specs.declared.node.Node.TheVariants.{Down, Up}
@@ -71,9 +71,15 @@ LastTied M (Some l) = (m : ℕ) → end_in (turn l.0 l.1).steps ≡ Some (end.Ex
 
 -- ---- each moment
 
+-- what a node installs is greater than what it has installed
+abbrev pub Rises : List Moment → Moment → Type 0
+Rises before (installed n e) = last_installed n before < e
+Rises before _ = Unit {0}
+
 pub record Judged (before : List Moment) (x : Moment) : Type 0 where
   pub says : SaysSo before x
   pub excluded : EndsExcluded before x
+  pub rises : Rises before x
 
 abbrev pub AllJudged : List Moment → Type 0
 AllJudged moments = Always Judged moments

@@ -17,7 +17,6 @@ use Rattle.schedule_text.specs.declared.event.Event.TheVariants as event
 use Rattle.schedule_text.specs.declared.line.Line.{Line}
 use Rattle.schedule_text.specs.declared.line.Line.TheVariants as line
 use Rattle.world_model.specs.First.{first_cluster}
-use Rattle.run_outcomes.specs.tasks.Laws.{QueuesAreTold}
 
 -- a line names a node of the header, where it boots one, and a device by a number from 1 on, where it writes
 abbrev pub IsFitting : Header → Line → Type 0
@@ -32,7 +31,3 @@ LinesAreAnswered = (h : Header) (cells : ℕ) (hs : List Happening) → h.nodes 
     → (setting_of h).cells ≡ cells → MayAllHappen (first_cluster h) (first_scene h cells) hs → IsShaped (first_cluster h) (first_scene h cells) hs
     → NoneForeign (first_cluster h) (first_scene h cells) hs → AllByRecursion (IsFitting h) (lines_of (all_happened (first_cluster h) (first_scene h cells) hs).moments)
     → IsShort (all_happened (first_cluster h) (first_scene h cells) hs).moments → LinesAnswered (setting_of h) (all_happened (first_cluster h) (first_scene h cells) hs).moments
-
--- So it is where the lines tell the queue of each node.
-abbrev pub LinesByQueues : Type 0
-LinesByQueues = QueuesAreTold → LinesAreAnswered

@@ -1,12 +1,12 @@
 -- What is proved of each run of the world, as things that happen: requests to seize and Installs are answered, and what is owed after the last device command of a task.
 use Rattle.std.specs.Prelude.{ℕ, ◌%◌, ◌<◌, ◌≡◌, ◌≢◌, ◌≤◌, ◌^◌, false, true, List, ◌∷◌, Some, length}
 use Rattle.std.specs.List.{AllByRecursion}
-use Rattle.cl_base.specs.Limits.{most_devices}
+use Rattle.cl_base.specs.Limits.{most_devices, most_nodes}
 use Rattle.cl_base.specs.declared.header.Header.{Header}
 use Rattle.device_queue.specs.declared.task.Task.{Task}
 use Rattle.node_model.specs.Members.{ready_of}
 use Rattle.node_model.specs.declared.node.UpNode.{UpNode}
-use Rattle.run_outcomes.specs.tasks.Laws.{OfEachPoint, QueuesAreTold}
+use Rattle.run_outcomes.specs.tasks.Laws.{OfEachPoint}
 use Rattle.run_owed.specs.prepares.Proposals.{IsShort}
 use Rattle.run_packets.specs.admitted.Known.{WorkFew}
 use Rattle.history.specs.Letters.{Letter, letter_of, reached_since}
@@ -28,6 +28,7 @@ use Rattle.run_history.specs.Scenes.{first_scene}
 use Rattle.run_history.specs.Shapes.{IsShaped}
 use Rattle.run_history.specs.WorldLines.{AreDisks}
 use Rattle.run_lines.specs.Laws.{NumberIsLeft}
+use Rattle.run_packets.specs.native.Laws.{BootsInHeader}
 use Rattle.run_packets.specs.views.Laws.{NoneForeign}
 use Rattle.wire.specs.Reads.{whole_of}
 use Rattle.wire.specs.declared.message.Body.{Body}
@@ -35,11 +36,11 @@ use Rattle.wire.specs.declared.message.Body.TheVariants as body
 use Rattle.wire.specs.declared.message.Message.{Message}
 use Rattle.world_model.specs.First.{first_cluster}
 
--- P of each event of a run of whole lines behind which a packet number is left. No packet is foreign to its receiver, and links have as many cells as the setting says.
+-- P of each event of a run of whole lines behind which a packet number is left. No packet is foreign to its receiver, nodes of the header alone boot, and links have as many cells as the setting says.
 abbrev pub OfEachEvent : (Setting → List Moment → Moment → List Moment → Type 0) → Type 0
-OfEachEvent P = (h : Header) (cells : ℕ) (hs : List Happening) → length h.devices ≤ most_devices → h.cluster < 2 ^ 32 → AreDisks h → (setting_of h).cells ≡ cells
+OfEachEvent P = (h : Header) (cells : ℕ) (hs : List Happening) → h.nodes ≤ most_nodes → length h.devices ≤ most_devices → h.cluster < 2 ^ 32 → AreDisks h → (setting_of h).cells ≡ cells
     → MayAllHappen (first_cluster h) (first_scene h cells) hs → IsShaped (first_cluster h) (first_scene h cells) hs → NoneForeign (first_cluster h) (first_scene h cells) hs
-    → EachEvent (λ before x entries. NumberIsLeft (setting_of h) (onto (x ∷ before) entries) → P (setting_of h) before x entries) (all_happened (first_cluster h) (first_scene h cells) hs).moments
+    → AllByRecursion (BootsInHeader h) hs → EachEvent (λ before x entries. NumberIsLeft (setting_of h) (onto (x ∷ before) entries) → P (setting_of h) before x entries) (all_happened (first_cluster h) (first_scene h cells) hs).moments
 
 -- a request to seize a device, or an Install
 abbrev pub AsksTask : Name → Type 0
@@ -65,6 +66,7 @@ ReportsOfEachRun = OfEachEvent (λ S before x entries. ReportsDisk S before x (e
 
 -- it goes to another node
 abbrev pub IsToOther : ℕ → ℕ → Name → Type 0
+IsToOther n to name.Collect = to ≢ n
 IsToOther n to (name.SeizeQuorum d) = to ≢ n
 IsToOther n to (name.SeizeData d) = to ≢ n
 IsToOther n to name.Install = to ≢ n
@@ -80,7 +82,7 @@ abbrev pub AsksSo : List Moment → Moment → Type 0
 AsksSo before (sent p n to called bytes) = IsToOther n to (named called) × ((m : Message) → whole_of bytes ≡ Some m → AsksFor before n m.body)
 AsksSo before _ = Unit {0}
 
--- each request to seize, and each Install, goes to another node; and a request is of the last attempt of its sender
+-- each request to seize, each Collect, and each Install, goes to another node; and a request is of the last attempt of its sender
 abbrev pub RequestsAreOfAttempts : Type 0
 RequestsAreOfAttempts = OfEachRun (Always AsksSo)
 
@@ -101,13 +103,3 @@ abbrev pub InstallsHaveCome : Type 0
 InstallsHaveCome = OfEachPoint (λ h s. (n : ℕ) (x : UpNode) → s.nodes.node n ≡ Up x → is_member x.seat ≡ false → 0 < session_of x → session_of x % 64 ≢ n
     → (reached_since (is_boot n) (is_install_of n s.moments) s.moments ≡ true → installed_of x ≡ session_of x)
     × (installed_of x ≡ session_of x → reached_since (is_boot n) (is_install_of n s.moments) s.moments ≡ true))
-
--- ---- together
-
--- The requests are answered where queues are told, where requests are of attempts, and Readies fit.
-abbrev pub TasksAreAnsweredWhereTold : Type 0
-TasksAreAnsweredWhereTold = QueuesAreTold → RequestsAreOfAttempts → ReadiesAreShort → TasksAreAnsweredInEachRun
-
--- So is what is owed after device commands sent, where moreover what is installed has come.
-abbrev pub ReportsWhereTold : Type 0
-ReportsWhereTold = QueuesAreTold → RequestsAreOfAttempts → ReadiesAreShort → InstallsHaveCome → ReportsOfEachRun

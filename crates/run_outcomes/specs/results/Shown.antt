@@ -22,7 +22,7 @@ use Rattle.device_queue.specs.Tasks.{is_queued}
 use Rattle.device_queue.specs.declared.task.Task.{Task}
 use Rattle.device_queue.specs.declared.task.Work.{Work}
 use Rattle.device_queue.specs.declared.task.Work.TheVariants.{Joining as Joins, Seizing as Seizes}
-use Rattle.history.specs.Attempts.{is_ended_so, reads_keys, reserves}
+use Rattle.history.specs.Attempts.{IsAccounted, is_ended_so, reads_keys, reserves}
 use Rattle.history.specs.Moment.{Moment}
 use Rattle.history.specs.Order.{Always, since}
 use Rattle.history.specs.Seizing.{is_attempt}
@@ -46,7 +46,6 @@ use Rattle.seize.specs.declared.step.SeizeStep.TheVariants as step
 use Rattle.wire.specs.declared.message.Body.{Body}
 use Rattle.wire.specs.declared.message.Body.TheVariants as body
 use Rattle.world_model.specs.First.{attached_from}
-use Rattle.run_outcomes.specs.accounts.Laws.{IsExplained}
 use Rattle.run_outcomes.specs.results.Tried.{Collected, SeatHeld, TasksHeld, Tried, Unheld, Without}
 
 -- ---- how a seizing ended
@@ -70,7 +69,7 @@ ObstacleShown h e d before (obstacle.Seizing end) = is_ended_so h e d before end
 
 -- where a start is complete, it accounts for each device
 abbrev pub StartShown : Setting → List Moment → Type 0
-StartShown S moments = IfSome (completed moments) (λ s. IsExplained S moments s (base_so_far moments))
+StartShown S moments = IfSome (completed moments) (λ s. IsAccounted S moments s (base_so_far moments))
 
 -- for want of votes it ends with results that are shown; where it starts, it accounts for each device
 abbrev pub EndsShown : Header → List Moment → Moment → Type 0

@@ -1,5 +1,5 @@
 -- What carries the proofs, of a command at a device: where an attempt installs or starts in it, the lines tell of no more work.
-use Rattle.std.specs.Prelude.{ℕ, ◌≡◌, ◌^◌, nat_lt, true, List, Some}
+use Rattle.std.specs.Prelude.{ℕ, ◌≡◌, List, Some}
 use Rattle.cl_base.specs.Seizings.{SeizeResult}
 use Rattle.cl_base.specs.declared.header.Header.{Header}
 use Rattle.cl_base.specs.declared.method.Outcome as method
@@ -18,14 +18,14 @@ use Rattle.refinement.specs.Runs.{Nodes}
 use Rattle.run_history.specs.Happenings.{Commands, MayHappen, commanded}
 use Rattle.run_history.specs.Scenes.{Scene}
 use Rattle.run_outcomes.specs.stops.Idle.{AllIdle}
-use Rattle.run_outcomes.specs.tasks.Laws.{OfEachPoint}
+use Rattle.run_outcomes.specs.tasks.Laws.{OfEachLeft}
 use Rattle.world_model.specs.First.{first_cluster}
 
--- of a command of a coordinator that is due in this scene, and that ends a seizing of its own, while a packet number is left
+-- of a command of a coordinator that is due in this scene, and that ends a seizing of its own
 abbrev pub IdleAsItSaves : Header → Scene → Type 0
-IdleAsItSaves h s = nat_lt s.links.next (2 ^ 63) ≡ true → (n d now : ℕ) (q : PrCommand) (ends : method.Outcome) (x : UpNode) (a : AttemptState) → MayHappen (first_cluster h) s (Commands n d q now ends) → s.nodes.node n ≡ Up x → x.attempt ≡ Some a
+IdleAsItSaves h s = (n d now : ℕ) (q : PrCommand) (ends : method.Outcome) (x : UpNode) (a : AttemptState) → MayHappen (first_cluster h) s (Commands n d q now ends) → s.nodes.node n ≡ Up x → x.attempt ≡ Some a
     → (e : ℕ) (r : SeizeResult) → progress_after x.tasks (commanded s n d q).answer ≡ Seized e r → (replies : List Reply) (v : Nodes)
     → AllIdle (setting_of h) (first_cluster h) n (site (Up x) (s.nodes.disk n).kept) (doings (first_cluster h) n now ends replies (input.Answered (commanded s n d q).answer) (Up x)) (record (commanded s n d q).scene { nodes = v })
 
 abbrev pub CommandsAreIdle : Type 0
-CommandsAreIdle = OfEachPoint IdleAsItSaves
+CommandsAreIdle = OfEachLeft IdleAsItSaves

@@ -52,6 +52,13 @@ OfEachPoint P = (h : Header) (cells : ℕ) (hs : List Happening) (last : Due) �
     → MayAllHappen (first_cluster h) (first_scene h cells) hs → ShapedFrom (first_cluster h) (first_scene h cells) nothing hs last
     → NoneForeign (first_cluster h) (first_scene h cells) hs → P h (all_happened (first_cluster h) (first_scene h cells) hs)
 
+-- .. where a packet number is left, and nodes of the header alone boot
+abbrev pub OfEachLeft : (Header → Scene → Type 0) → Type 0
+OfEachLeft P = (h : Header) (cells : ℕ) (hs : List Happening) (last : Due) → h.nodes ≤ most_nodes → length h.devices ≤ most_devices → h.cluster < 2 ^ 32 → AreDisks h
+    → MayAllHappen (first_cluster h) (first_scene h cells) hs → ShapedFrom (first_cluster h) (first_scene h cells) nothing hs last
+    → NoneForeign (first_cluster h) (first_scene h cells) hs → AllByRecursion (BootsInHeader h) hs
+    → nat_lt (all_happened (first_cluster h) (first_scene h cells) hs).links.next (2 ^ 63) ≡ true → P h (all_happened (first_cluster h) (first_scene h cells) hs)
+
 -- P of each attempt that a node has there, and of the lines up to there
 abbrev pub OfEachInHand : (AttemptState → List Moment → Type 0) → Type 0
 OfEachInHand P = OfEachPoint (λ h s. (n : ℕ) (a : AttemptState) → HasAttempt s n a → P a s.moments)
@@ -169,4 +176,4 @@ NodeQueue (Up x) tasks = Same (filter is_queued x.tasks) tasks
 
 -- While a packet number is left, the tasks that a node has queued are those of `history`, on their devices and as far, in order, but where that leaves them open.
 abbrev pub QueuesAreTold : Type 0
-QueuesAreTold = OfEachPoint (λ h s. nat_lt s.links.next (2 ^ 63) ≡ true → (n : ℕ) → told.queue_is_open (setting_of h) n s.moments ≡ false → NodeQueue (s.nodes.node n) (told.queued_of (setting_of h) n s.moments))
+QueuesAreTold = OfEachLeft (λ h s. (n : ℕ) → told.queue_is_open (setting_of h) n s.moments ≡ false → NodeQueue (s.nodes.node n) (told.queued_of (setting_of h) n s.moments))

@@ -1,8 +1,5 @@
 -- The tasks of nodes that do not lead, where what they hold valid counts, and what it rests on.
-use Rattle.std.specs.Prelude.{ℕ, ◌^◌, ◌≡◌, ◌≢◌, ◌<◌, ◌≤◌, nat_lt, Bool, false, true, List, length, Option, None, Some}
-use Rattle.std.specs.List.{AllByRecursion}
-use Rattle.cl_base.specs.Limits.{most_devices, most_nodes}
-use Rattle.cl_base.specs.declared.header.Header.{Header}
+use Rattle.std.specs.Prelude.{ℕ, ◌≡◌, ◌≢◌, Bool, false, true, List, Option, None, Some}
 use Rattle.history.specs.Letters.{Letter, letter_of, says}
 use Rattle.history.specs.Member as member
 use Rattle.history.specs.Moment.{Moment}
@@ -19,26 +16,14 @@ use Rattle.node_model.specs.Seats.{installed_of, session_of}
 use Rattle.node_model.specs.declared.node.Node.TheVariants.{Up}
 use Rattle.node_model.specs.declared.node.UpNode.{UpNode}
 use Rattle.run_devices.specs.queues.Told.{is_plain, leads, told_tasks}
-use Rattle.run_history.specs.Happenings.{Happening, MayAllHappen, all_happened}
-use Rattle.run_history.specs.Scenes.{Scene, first_scene}
-use Rattle.run_history.specs.Shapes.{Due, ShapedFrom, nothing}
-use Rattle.run_history.specs.WorldLines.{AreDisks, IsDevice}
-use Rattle.run_packets.specs.native.Laws.{BootsInHeader}
-use Rattle.run_packets.specs.views.Laws.{NoneForeign}
+use Rattle.run_history.specs.WorldLines.{IsDevice}
 use Rattle.wire.specs.declared.message.Body.{Body}
 use Rattle.wire.specs.declared.message.Body.TheVariants as body
 use Rattle.world_model.specs.First.{first_cluster}
-use Rattle.run_outcomes.specs.tasks.Laws.{OfEachPoint, seizes_plainly}
+use Rattle.run_outcomes.specs.tasks.Laws.{OfEachLeft, OfEachPoint, seizes_plainly}
 use Rattle.run_outcomes.specs.tasks.Left.{HasQueue, IsClosed}
 
--- P of each point of a run where a packet number is left, and nodes of the header alone boot
-abbrev pub OfEachLeft : (Header → Scene → Type 0) → Type 0
-OfEachLeft P = (h : Header) (cells : ℕ) (hs : List Happening) (last : Due) → h.nodes ≤ most_nodes → length h.devices ≤ most_devices → h.cluster < 2 ^ 32 → AreDisks h
-    → MayAllHappen (first_cluster h) (first_scene h cells) hs → ShapedFrom (first_cluster h) (first_scene h cells) nothing hs last
-    → NoneForeign (first_cluster h) (first_scene h cells) hs → AllByRecursion (BootsInHeader h) hs
-    → nat_lt (all_happened (first_cluster h) (first_scene h cells) hs).links.next (2 ^ 63) ≡ true → P h (all_happened (first_cluster h) (first_scene h cells) hs)
-
--- `OthersHave`, there
+-- A node in another's session, or one that has installed, has the queue that is told, where the tasks come from what was open to it as it stopped in a save.
 abbrev pub OthersHaveTold : Type 0
 OthersHaveTold = OfEachLeft (λ h s. (n : ℕ) (x : UpNode) → s.nodes.node n ≡ Up x → leads n s.moments ≡ false → told_tasks (setting_of h) n s.moments ≡ None
     → IsClosed h s n → HasQueue h s n x)

@@ -79,26 +79,26 @@ crowding_next l number from to =
     if_either (λ (o : net.Outcome). o.after.next ≡ l.next) (nat_lt most_packets (count_on l.packets from to)) (dropping l number (oldest_on l.packets from to)) _
     (dropping_next l number (oldest_on l.packets from to)) refl
 
-sending_next : (l : Links) (from to : ℕ) (bytes : List ℕ) → l.next ≤ (sending l from to bytes).after.next
+pub sending_next : (l : Links) (from to : ℕ) (bytes : List ℕ) → l.next ≤ (sending l from to bytes).after.next
 sending_next l from to bytes =
     if_either (λ (o : net.Outcome). l.next ≤ o.after.next) _ (refusing l) (crowding (appending l from to bytes) l.next from to) (one_more l.next)
     (le_is l.next (l.next + 1) _ (crowding_next (appending l from to bytes) l.next from to) (one_more l.next))
 
 -- ---- what is known
 
-abbrev ready_of : (c : Cluster) (s : Scene) → All IsDevice c.attached → Stage c s → Ready c s
+abbrev pub ready_of : (c : Cluster) (s : Scene) → All IsDevice c.attached → Stage c s → Ready c s
 ready_of c s fits b = record { fits = fits; machine = b.machine; holds = b.holds; stands = b.stands; started = b.started; presides = stage_presides c s b }
 
-told_among : (M : Memberships) (from : ℕ) (b : Body) (ls : List Letter) → IsAmong from b ls → AllByRecursion (λ (l : Letter). MessageTold M l.from l.body) ls → MessageTold M from b
+pub told_among : (M : Memberships) (from : ℕ) (b : Body) (ls : List Letter) → IsAmong from b ls → AllByRecursion (λ (l : Letter). MessageTold M l.from l.body) ls → MessageTold M from b
 told_among M from b [] h all = absurd h
 told_among M from b (l ∷ ls) (inl e) all = subst (λ z. MessageTold M z b) e.0 (subst (λ z. MessageTold M l.from z) e.1 all.0)
 told_among M from b (l ∷ ls) (inr h) all = told_among M from b ls h all.1
 
-plain_known : (M : Memberships) (i : Input) → IsPlain i → Known M (delivered_by i)
+pub plain_known : (M : Memberships) (i : Input) → IsPlain i → Known M (delivered_by i)
 plain_known M (input.Packet from m) plain = absurd plain
 plain_known M _ plain = tt
 
-commanded_ready : (c : Cluster) (s : Scene) (n d : ℕ) (o : Option Device) (k : PrCommand) → Ready c s → Ready c (commanded_at s n d o k).scene
+pub commanded_ready : (c : Cluster) (s : Scene) (n d : ℕ) (o : Option Device) (k : PrCommand) → Ready c s → Ready c (commanded_at s n d o k).scene
 commanded_ready c s n d None k r = r
 commanded_ready c s n d (Some x) k r = record { fits = r.fits; machine = r.machine; holds = r.holds; stands = r.stands; started = r.started; presides = r.presides }
 
@@ -123,7 +123,7 @@ dropped_held : (o : Option (ℕ × DropCause)) (s : Scene) → ((n : ℕ) → No
 dropped_held None s presides h = h
 dropped_held (Some x) s presides h = idle_held (Told (entry.Packet (packet.Dropped x.0 x.1))) s.moments s.nodes.node (record { ticks = λ j a v ms. refl; places = λ f ms. refl; any = λ f w ms. refl; last = λ f w ms. refl; starts = λ f ms. refl }) presides h
 
-dropped_left : (o : Option (ℕ × DropCause)) (s : Scene) → IsLeft (dropped_so o s).links.next → IsLeft s.links.next
+pub dropped_left : (o : Option (ℕ × DropCause)) (s : Scene) → IsLeft (dropped_so o s).links.next → IsLeft s.links.next
 dropped_left None s left = left
 dropped_left (Some x) s left = left
 

@@ -186,7 +186,7 @@ node_covers_none : (n : ℕ) (z : Node) → Covers [] n z
 node_covers_none n Down = tt
 node_covers_none n (Up x) = covers_none n (is_some x.presidency) x.seat
 
-given_own : (c : Cluster) (M : Memberships) (n now : ℕ) (ends : method.Outcome) (i : Input) (replies : List Reply) (node : Node) (kept : NodeRecord) → All IsDevice c.attached → Holds (setting_of c) M → Known M (delivered_by i)
+pub given_own : (c : Cluster) (M : Memberships) (n now : ℕ) (ends : method.Outcome) (i : Input) (replies : List Reply) (node : Node) (kept : NodeRecord) → All IsDevice c.attached → Holds (setting_of c) M → Known M (delivered_by i)
     → NodeTied c M n kept node → MayAll c n (delivered_by i) (site node kept) (doings c n now ends replies i node) → AreSo [] n (given_all c n (site node kept) (doings c n now ends replies i node))
 given_own c M n now ends i replies node kept fits holds known tied may =
     (all_so c M [] n (delivered_by i) (site node kept) (doings c n now ends replies i node) fits holds known (λ e is. absurd (false_true is)) tied may (doings_own c n now ends replies i kept node) (node_covers_none n node)).so
@@ -225,7 +225,7 @@ Held s = HeldIn s.moments s.nodes.node
 abbrev pub HeldIf : Scene → Type 0
 HeldIf s = IsLeft s.links.next → Held s
 
-put_all : (P : ℕ → Node → Type 0) (f : ℕ → Node) (n : ℕ) (x : Node) → P n x → ((k : ℕ) → k ≢ n → P k (f k)) → (k : ℕ) → P k (put f n x k)
+pub put_all : (P : ℕ → Node → Type 0) (f : ℕ → Node) (n : ℕ) (x : Node) → P n x → ((k : ℕ) → k ≢ n → P k (f k)) → (k : ℕ) → P k (put f n x k)
 put_all P f n x here others k = go (same_or_not k n)
   where
     go : (k ≡ n) ⊎ (k ≢ n) → P k (put f n x k)

@@ -7,13 +7,13 @@ use Rattle.replay.proofs.driver.run.Goals as goal
 
 pub returns-in-Err : goal.returns-in-Err
 returns-in-Err g c = record {
-  run = read_failed c.told_cycles_have_names.ensures.names c.args.task c.args.agents _ _ _ _ _ _ _ _ _ c.pieces.reader c.pieces.invariant.reads c.pieces.invariant.whole c.pieces.invariant.written c.in-Err.ensures.bytes
+  run = read_failed c.traces_of_each_run.ensures c.args.task c.args.agents _ _ _ _ _ _ _ _ _ c.pieces.reader c.pieces.invariant.reads c.pieces.invariant.whole c.pieces.invariant.written c.in-Err.ensures.bytes
       (subst (λ n. Rose n (g.S.Source.faults c.read_some.new.source)) c.pieces.invariant.source c.in-Err.ensures.cause.failed) c.pieces.invariant.sink;
 }
 
 pub returns-then-count-eq0 : goal.returns-then-count-eq0
 returns-then-count-eq0 g c = record {
-  run = closed_run c.told_cycles_have_names.ensures.names c.args.task c.args.agents _ _ _ _ _ _ _ _ _ _ _ c.pieces.reader [] true c.finish-stop.result c.finish-stop.new.self.lines c.finish-stop.new.self.text.items c.close.result
+  run = closed_run c.traces_of_each_run.ensures c.args.task c.args.agents _ _ _ _ _ _ _ _ _ _ _ c.pieces.reader [] true c.finish-stop.result c.finish-stop.new.self.lines c.finish-stop.new.self.text.items c.close.result
       c.pieces.invariant.reads c.pieces.invariant.whole (none_taken _ _ c.in-Ok-read_some.count c.read_some.new.buffer c.if-count-eq0.true c.in-Ok-read_some.ensures.bytes.0) (omega arith)
       (λ e. c.in-Ok-read_some.ensures.bytes.1 c.if-count-eq0.true (omega (arith, c.read_some.ensures.length))) c.finish-stop.ensures
       (c.in-Ok-read_some.ensures.same ∙ c.pieces.invariant.source) c.pieces.invariant.sink c.close.ensures.closed;
@@ -21,14 +21,14 @@ returns-then-count-eq0 g c = record {
 
 pub returns-in-Err-take_piece : goal.returns-in-Err-take_piece
 returns-in-Err-take_piece g c = record {
-  run = closed_in c.told_cycles_have_names.ensures.names (Unit {0}) c.args.task c.args.agents _ _ _ _ _ _ _ _ _ _ _ c.pieces.reader c.take_piece.new.self (take c.in-Ok-read_some.count c.read_some.new.buffer) c.in-Err-take_piece.stop c.close-in-Err-take_piece.result
+  run = closed_in c.traces_of_each_run.ensures (Unit {0}) c.args.task c.args.agents _ _ _ _ _ _ _ _ _ _ _ c.pieces.reader c.take_piece.new.self (take c.in-Ok-read_some.count c.read_some.new.buffer) c.in-Err-take_piece.stop c.close-in-Err-take_piece.result
       c.pieces.invariant.reads c.pieces.invariant.whole c.in-Ok-read_some.ensures.bytes.0 (short_take c.in-Ok-read_some.count 4096 c.read_some.new.buffer (omega (arith, c.read_some.ensures.length)))
       c.in-Err-take_piece.ensures.taken (c.in-Ok-read_some.ensures.same ∙ c.pieces.invariant.source) c.pieces.invariant.sink c.close-in-Err-take_piece.ensures.closed;
 }
 
 pub returns-in-Err-write_all : goal.returns-in-Err-write_all
 returns-in-Err-write_all g c = record {
-  run = write_failed c.told_cycles_have_names.ensures.names (Unit {0}) c.in_default-take_piece.field-0 c.args.task c.args.agents _ _ _ _ _ _ _ _ _ _ c.pieces.reader c.take_piece.new.self (take c.in-Ok-read_some.count c.read_some.new.buffer)
+  run = write_failed c.traces_of_each_run.ensures (Unit {0}) c.in_default-take_piece.field-0 c.args.task c.args.agents _ _ _ _ _ _ _ _ _ _ c.pieces.reader c.take_piece.new.self (take c.in-Ok-read_some.count c.read_some.new.buffer)
       c.pieces.invariant.reads c.pieces.invariant.whole c.in-Ok-read_some.ensures.bytes.0 (short_take c.in-Ok-read_some.count 4096 c.read_some.new.buffer (omega (arith, c.read_some.ensures.length)))
       c.in_default-take_piece.ensures.taken (c.in-Ok-read_some.ensures.same ∙ c.pieces.invariant.source)
       (subst (λ (t : List ℕ). AppendsFront (g.K.Sink.held c.pieces.sink) (g.K.Sink.held c.write_all.new.sink) t) c.as_slice.ensures.value c.in-Err-write_all.ensures.err)

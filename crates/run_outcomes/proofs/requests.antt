@@ -1,0 +1,9 @@
+pub mod Turns
+pub mod Presidents
+pub mod Asking
+pub mod Beside
+pub mod Attempts
+pub mod Courses
+pub mod Given
+pub mod Doings
+pub mod Runs

@@ -1,0 +1,4 @@
+pub mod Beside
+pub mod Among
+pub mod AmongRuns
+pub mod Members

@@ -1,0 +1,9 @@
+pub mod Fresh
+pub mod Lines
+pub mod Steps
+pub mod Asked
+pub mod Behind
+pub mod Marks
+pub mod Own
+pub mod Coming
+pub mod Begin

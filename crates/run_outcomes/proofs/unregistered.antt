@@ -1,0 +1,6 @@
+pub mod Entries
+pub mod Tasks
+pub mod Acts
+pub mod Tells
+pub mod Walk
+pub mod Runs
