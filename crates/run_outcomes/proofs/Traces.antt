@@ -33,7 +33,7 @@ use Rattle.run_lines.specs.rounds.Laws.{AsksSome}
 use Rattle.run_messages.proofs.Runs.{heartbeats_of_each_run}
 use Rattle.run_messages.proofs.Spelling.{spelled_of_each_run}
 use Rattle.run_messages.proofs.records.Runs.{installed_base_of_each_run, newest_base_of_each_run, newest_of_each_run, records_of_each_run}
-use Rattle.run_owed.specs.waiting.Laws.{CommandIsShort, CommandsAreShort}
+use Rattle.run_packets.specs.waiting.Laws.{CommandIsShort, CommandsAreShort}
 use Rattle.run_packets.proofs.fits.Lines.{all_lines, events_are_of}
 use Rattle.run_packets.proofs.native.Boots.{boots_are_of_the_header}
 use Rattle.run_packets.specs.admitted.Laws.{AttemptsBeginAsWanted, NoneIsForeignInEachRun}

@@ -2,3 +2,9 @@ pub mod views
 pub mod native
 pub mod admitted
 pub mod fits
+pub mod prepares
+pub mod repeats
+pub mod replies
+pub mod waiting
+pub mod installs
+pub mod again

@@ -42,11 +42,11 @@ use Rattle.run_history.specs.Scenes.{Scene, first_scene, telling}
 use Rattle.run_history.specs.Stages.{Stage, site_of}
 use Rattle.run_lines.proofs.Outputs.{gives_entries}
 use Rattle.run_messages.proofs.Reaching.{IsReached, IsSmall, stage_of}
-use Rattle.run_owed.proofs.prepares.Adds.{adds_passing}
-use Rattle.run_owed.proofs.prepares.Courses.{doings_own}
-use Rattle.run_owed.proofs.prepares.Doings.{all_so}
-use Rattle.run_owed.specs.prepares.Events.{AddsOf}
-use Rattle.run_owed.specs.prepares.Proposals.{AreSo, AreStarted, Covers, CoversIn}
+use Rattle.run_packets.proofs.prepares.Adds.{adds_passing}
+use Rattle.run_packets.proofs.prepares.Courses.{doings_own}
+use Rattle.run_packets.proofs.prepares.Doings.{all_so}
+use Rattle.run_packets.specs.prepares.Events.{AddsOf}
+use Rattle.run_packets.specs.prepares.Proposals.{AreSo, AreStarted, Covers, CoversIn}
 use Rattle.run_seizings.proofs.Moments.{plain_sent}
 use Rattle.status_report.specs.declared.entry.Entry.TheVariants as entry
 use Rattle.status_report.specs.declared.packet_entry.PacketEntry.TheVariants as packet

@@ -7,7 +7,7 @@ use Rattle.history.specs.Moment.{Moment, Told}
 use Rattle.history.specs.Setting.{coordinator}
 use Rattle.pgr_device.specs.declared.command.PrCommand.{PrCommand}
 use Rattle.pgr_device.specs.declared.command.PrCommand.TheVariants as command
-use Rattle.run_owed.specs.prepares.Events.{EntriesOf}
+use Rattle.run_packets.specs.prepares.Events.{EntriesOf}
 use Rattle.status_report.specs.declared.attempt_entry.AttemptEntry.{AttemptEntry}
 use Rattle.status_report.specs.declared.attempt_entry.AttemptEntry.TheVariants as tried
 use Rattle.status_report.specs.declared.device_entry.DeviceEntry.{DeviceEntry}

@@ -8,8 +8,8 @@ use Rattle.history.specs.Names as name
 use Rattle.history.specs.Names.{Name}
 use Rattle.history.specs.Setting.{Setting}
 use Rattle.history.specs.Trace.{delivered}
-use Rattle.run_owed.specs.prepares.Laws.{IsOfOne}
-use Rattle.run_owed.specs.replies.Laws.{CollectReplies, OrderReplies, PrepareReplies}
+use Rattle.run_packets.specs.prepares.Laws.{IsOfOne}
+use Rattle.run_packets.specs.replies.Laws.{CollectReplies, OrderReplies, PrepareReplies}
 use Rattle.run_outcomes.specs.reports.Laws.{AsksTask, TaskReplies}
 use Rattle.run_outcomes.proofs.histories.Joined.{EventLaw}
 

@@ -35,16 +35,16 @@ use Rattle.run_history.specs.WorldLines.{AreDisks}
 use Rattle.run_messages.proofs.Runs.{heartbeats_of_each_run}
 use Rattle.run_messages.proofs.Spelling.{spelled_of_each_run}
 use Rattle.run_messages.proofs.records.Runs.{installed_base_of_each_run, newest_base_of_each_run, newest_of_each_run, records_of_each_run}
-use Rattle.run_owed.proofs.again.Runs.{requests_again_of_each_run}
-use Rattle.run_owed.proofs.installs.Sound.{each_install_of_each_run}
-use Rattle.run_owed.proofs.prepares.Runs as owed
-use Rattle.run_owed.specs.prepares.Laws.{IsOfOne}
-use Rattle.run_owed.proofs.repeats.Runs.{prepares_again_of_each_run}
-use Rattle.run_owed.proofs.replies.Collects.{collects_are_answered_in_each_run}
-use Rattle.run_owed.proofs.replies.Prepares.{prepares_are_answered_in_each_run}
-use Rattle.run_owed.proofs.replies.Runs.{orders_are_answered_in_each_run}
-use Rattle.run_owed.proofs.waiting.Runs.{requests_of_each_run}
-use Rattle.run_owed.specs.replies.Laws.{CollectReplies, OrderReplies, PrepareReplies}
+use Rattle.run_packets.proofs.again.Runs.{requests_again_of_each_run}
+use Rattle.run_packets.proofs.installs.Sound.{each_install_of_each_run}
+use Rattle.run_packets.proofs.prepares.Runs as owed
+use Rattle.run_packets.specs.prepares.Laws.{IsOfOne}
+use Rattle.run_packets.proofs.repeats.Runs.{prepares_again_of_each_run}
+use Rattle.run_packets.proofs.replies.Collects.{collects_are_answered_in_each_run}
+use Rattle.run_packets.proofs.replies.Prepares.{prepares_are_answered_in_each_run}
+use Rattle.run_packets.proofs.replies.Runs.{orders_are_answered_in_each_run}
+use Rattle.run_packets.proofs.waiting.Runs.{requests_of_each_run}
+use Rattle.run_packets.specs.replies.Laws.{CollectReplies, OrderReplies, PrepareReplies}
 use Rattle.run_lines.specs.Laws.{NumberIsLeft}
 use Rattle.run_outcomes.specs.reports.Laws.{TaskReplies}
 use Rattle.run_outcomes.specs.tasks.AsksGiven.{IsLeft}

@@ -31,7 +31,7 @@ use Rattle.run_history.specs.Stages.{Sized, Stage}
 use Rattle.run_messages.proofs.Reaching.{IsReached, IsSmall, stage_of, taking_good}
 use Rattle.run_messages.proofs.records.Sizes.{header_sized}
 use Rattle.run_messages.specs.Laws.{IsSeated, membership_in}
-use Rattle.run_owed.proofs.replies.Delivered.{Known, known_of, OfLine, letter_bytes, line_of}
+use Rattle.run_packets.proofs.replies.Delivered.{Known, known_of, OfLine, letter_bytes, line_of}
 use Rattle.run_packets.specs.views.Laws.{NoneForeign, TellsHere}
 use Rattle.run_seizings.proofs.Moments.{plain_sent}
 use Rattle.run_seizings.proofs.Steps.{Ground, ground_of}

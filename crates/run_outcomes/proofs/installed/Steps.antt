@@ -42,7 +42,7 @@ use Rattle.refinement.specs.Events.{of_doing}
 use Rattle.refinement.specs.Guards.{MayAll, Says}
 use Rattle.refinement.specs.Steps.{disk_rules}
 use Rattle.refinement.specs.Ties.{Delivered, GoesOn, InstallTold, Known, NodeTied, SiteTied, setting_of}
-use Rattle.run_owed.proofs.replies.Promising.{le_test}
+use Rattle.run_packets.proofs.replies.Promising.{le_test}
 use Rattle.run_seizings.proofs.Promising.{and_both}
 use Rattle.wire.specs.declared.message.Body.{Body}
 use Rattle.wire.specs.declared.message.Body.TheVariants as body

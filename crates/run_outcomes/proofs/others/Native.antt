@@ -34,7 +34,7 @@ use Rattle.run_history.specs.Causes.{Posted}
 use Rattle.run_history.specs.Happenings.{Happening, IsUp, MayAllHappen, MayHappen, all_happened, armed_by, commanded, commanded_at, given_by, happened, removed, taking}
 use Rattle.run_history.specs.Happenings.Happening.{Arrives, Begins, Commands, Loses, Misses, Notes, Refuses, Repeats, Speaks, Strays, Takes, Writes}
 use Rattle.run_history.specs.Scenes.{Scene, adding, dropped_so, first_scene, passing, posting, sent_as, telling, with_links}
-use Rattle.run_owed.proofs.replies.Delivered.{Known, OfLine, known_of, letter_bytes, line_of}
+use Rattle.run_packets.proofs.replies.Delivered.{Known, OfLine, known_of, letter_bytes, line_of}
 use Rattle.run_packets.specs.views.Laws.{NoneForeign, TellsHere, is_foreign_to}
 use Rattle.schedule_text.specs.declared.event.Event.{Event}
 use Rattle.schedule_text.specs.declared.event.Event.TheVariants as event

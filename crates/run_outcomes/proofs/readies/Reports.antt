@@ -16,8 +16,8 @@ use Rattle.rg_props.specs.declared.group.Resource.{Resource}
 use Rattle.rgm_member.specs.Reports.{group_report, group_reports, has_mark, has_past, report_of, resource_report, resource_reports}
 use Rattle.rgm_member.specs.State.{WorkerState, marks_of, past_of}
 use Rattle.rgm_member.specs.declared.past.Past.{Past}
-use Rattle.run_owed.proofs.replies.Promising.{le_test, texts_shorter}
-use Rattle.run_owed.specs.prepares.Proposals.{IsShort}
+use Rattle.run_packets.proofs.replies.Promising.{le_test, texts_shorter}
+use Rattle.run_packets.specs.prepares.Proposals.{IsShort}
 use Rattle.run_packets.specs.fits.Rooms.{HasRoom}
 use Rattle.wire.proofs.Lengths.{spellings}
 use Rattle.wire.specs.Lengths.{group_length, report_length, resource_length}

@@ -20,9 +20,9 @@ use Rattle.run_history.specs.Shapes.{IsThis, Want, brings, coming_to, delivering
 use Rattle.run_history.specs.Shapes as want
 use Rattle.run_lines.specs.Laws.{NumberIsLeft}
 use Rattle.run_outcomes.specs.tasks.Laws.{QueuesAreTold}
-use Rattle.run_owed.proofs.replies.Delivered.{OfLine, letter_bytes, line_of}
-use Rattle.run_owed.specs.prepares.Events.{IsLeftAfter}
-use Rattle.run_owed.specs.repeats.Events.{EventLaw, StartsElse}
+use Rattle.run_packets.proofs.replies.Delivered.{OfLine, letter_bytes, line_of}
+use Rattle.run_packets.specs.prepares.Events.{IsLeftAfter}
+use Rattle.run_packets.specs.repeats.Events.{EventLaw, StartsElse}
 use Rattle.node_model.specs.Members.{is_foreign}
 use Rattle.run_packets.specs.views.Laws.{TellsHere, is_foreign_to}
 use Rattle.schedule_text.specs.declared.event.Event.{Event}

@@ -34,10 +34,10 @@ use Rattle.run_history.specs.Guards.{request_as}
 use Rattle.run_history.specs.Happenings.{given_by, happened, removed}
 use Rattle.run_history.specs.Happenings.Happening.{Arrives}
 use Rattle.run_history.specs.Scenes.{Scene, adding, telling}
-use Rattle.run_owed.proofs.replies.Delivered.{letter_bytes, or_later}
-use Rattle.run_owed.specs.prepares.Events.{IsLeft, IsLeftAfter}
-use Rattle.run_owed.specs.prepares.Proposals.{IsShort}
-use Rattle.run_owed.specs.repeats.Events.{AreSent}
+use Rattle.run_packets.proofs.replies.Delivered.{letter_bytes, or_later}
+use Rattle.run_packets.specs.prepares.Events.{IsLeft, IsLeftAfter}
+use Rattle.run_packets.specs.prepares.Proposals.{IsShort}
+use Rattle.run_packets.specs.repeats.Events.{AreSent}
 use Rattle.run_packets.specs.admitted.Known.{ResultFew}
 use Rattle.seize.specs.declared.kind.SeizeKind.{SeizeKind}
 use Rattle.seize.specs.declared.kind.SeizeKind.TheVariants.{Plain, Vote}

@@ -17,8 +17,8 @@ use Rattle.run_history.specs.Happenings.Happening.{Commands, Loses, Misses, Note
 use Rattle.run_history.specs.Scenes.{Scene}
 use Rattle.run_history.specs.Shapes.{IsThis, Want, asking, booting, brings, commanding, if_up, losing, of_oldest, of_packet, probing, repeating, still, writing}
 use Rattle.run_history.specs.Shapes as want
-use Rattle.run_owed.proofs.replies.Others.{IsNoDelivery}
-use Rattle.run_owed.specs.repeats.Events.{StartsElse}
+use Rattle.run_packets.proofs.replies.Others.{IsNoDelivery}
+use Rattle.run_packets.specs.repeats.Events.{StartsElse}
 use Rattle.schedule_text.specs.declared.event.Event.{Event}
 use Rattle.schedule_text.specs.declared.event.Event.TheVariants as event
 use Rattle.status_report.specs.declared.device_entry.WriteRefusal.{WriteRefusal}

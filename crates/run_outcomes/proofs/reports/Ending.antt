@@ -12,8 +12,8 @@ use Rattle.refinement.specs.Courses.Course.{Acts, Falls, Keeps, Stops}
 use Rattle.refinement.specs.Courses.Reply.{Done, Lost_new, Lost_old}
 use Rattle.refinement.specs.Doings.{Act, Site, acted, after_all, changed, effect, first_lines, given_all, gone_line, said, saved_lines, site}
 use Rattle.refinement.specs.Doings.Doing.{Saves}
-use Rattle.run_owed.proofs.repeats.Leading.{behind_first, behind_later}
-use Rattle.run_owed.specs.prepares.Proposals.{IsBehind}
+use Rattle.run_packets.proofs.repeats.Leading.{behind_first, behind_later}
+use Rattle.run_packets.specs.prepares.Proposals.{IsBehind}
 use Rattle.status_report.specs.declared.node_entry.DownCause.{DownCause}
 use Rattle.status_report.specs.declared.node_entry.DownCause.TheVariants as down
 use Rattle.wire.specs.declared.message.Body.{Body}

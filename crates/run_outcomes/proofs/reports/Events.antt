@@ -43,10 +43,10 @@ use Rattle.run_lines.proofs.Adds as adding_to
 use Rattle.run_lines.proofs.Runs.{armed_moments}
 use Rattle.run_messages.proofs.Reaching.{IsSmall, stage_of, taking_good}
 use Rattle.run_messages.specs.Outputs.{AreGood}
-use Rattle.run_owed.proofs.prepares.Steps.{IsLinkedTo}
-use Rattle.run_owed.proofs.repeats.Sent.{Left, left_taking}
-use Rattle.run_owed.specs.prepares.Events.{IsLeft}
-use Rattle.run_owed.specs.repeats.Events.{AlongRun, AreSent, EventLaw, StartsElse}
+use Rattle.run_packets.proofs.prepares.Steps.{IsLinkedTo}
+use Rattle.run_packets.proofs.repeats.Sent.{Left, left_taking}
+use Rattle.run_packets.specs.prepares.Events.{IsLeft}
+use Rattle.run_packets.specs.repeats.Events.{AlongRun, AreSent, EventLaw, StartsElse}
 use Rattle.run_packets.specs.views.Laws.{NoneForeign, TellsHere}
 use Rattle.run_outcomes.specs.reports.Events.{Awaits, Ends, Leaves, LeftBy, Opening}
 

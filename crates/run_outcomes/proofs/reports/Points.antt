@@ -28,8 +28,8 @@ use Rattle.run_history.specs.WorldLines.{AreDisks}
 use Rattle.run_history.specs.Sites.{SiteAt}
 use Rattle.run_history.specs.Wholes.{IsWhole}
 use Rattle.run_messages.proofs.Reaching.{IsReached, IsSmall}
-use Rattle.run_owed.proofs.replies.Delivered.{known_of}
-use Rattle.run_owed.specs.repeats.Events.{AlongRun}
+use Rattle.run_packets.proofs.replies.Delivered.{known_of}
+use Rattle.run_packets.specs.repeats.Events.{AlongRun}
 use Rattle.run_outcomes.specs.tasks.Laws.{QueuesAreTold}
 use Rattle.run_packets.specs.native.Laws.{BootsInHeader}
 use Rattle.run_packets.specs.views.Laws.{NoneForeign}

@@ -29,13 +29,13 @@ use Rattle.run_devices.specs.readings.Sites.{UpIn, UpSo}
 use Rattle.run_history.specs.Scenes.{Scene}
 use Rattle.run_messages.specs.Laws.{IsSeated, membership_in}
 use Rattle.run_outcomes.specs.tasks.Laws.{NodeQueue}
-use Rattle.run_owed.specs.prepares.Proposals.{IsBehind, IsShort}
+use Rattle.run_packets.specs.prepares.Proposals.{IsBehind, IsShort}
 use Rattle.run_packets.specs.admitted.Known.{ResultFew}
 use Rattle.refinement.specs.Guards.{OfUp}
 use Rattle.run_history.specs.Guards.{request_as}
 use Rattle.run_devices.specs.queues.Laws.{Same}
 use Rattle.device_queue.specs.Tasks.{is_queued}
-use Rattle.run_owed.specs.prepares.Events.{IsLeft}
+use Rattle.run_packets.specs.prepares.Events.{IsLeft}
 use Rattle.seize.specs.declared.kind.SeizeKind.{SeizeKind}
 use Rattle.seize.specs.declared.kind.SeizeKind.TheVariants.{Plain, Vote}
 use Rattle.wire.specs.declared.message.Install.{Install}

@@ -37,9 +37,9 @@ use Rattle.run_history.specs.Shapes.{IsThis, Want, brings, commanding, if_up, st
 use Rattle.run_history.specs.Shapes as want
 use Rattle.run_lines.specs.Laws.{NumberIsLeft}
 use Rattle.run_outcomes.specs.tasks.Laws.{QueuesAreTold}
-use Rattle.run_owed.proofs.prepares.Numbers.{left_before, lines_next}
-use Rattle.run_owed.specs.prepares.Events.{IsLeft, IsLeftAfter}
-use Rattle.run_owed.specs.repeats.Events.{EventLaw}
+use Rattle.run_packets.proofs.prepares.Numbers.{left_before, lines_next}
+use Rattle.run_packets.specs.prepares.Events.{IsLeft, IsLeftAfter}
+use Rattle.run_packets.specs.repeats.Events.{EventLaw}
 use Rattle.run_packets.specs.admitted.Known.{WorkFew}
 use Rattle.schedule_text.specs.declared.event.Event.{Event}
 use Rattle.schedule_text.specs.declared.event.Event.TheVariants as event

@@ -31,10 +31,10 @@ use Rattle.run_history.specs.Happenings.Happening.{Commands, Takes}
 use Rattle.run_history.specs.Scenes.{Scene}
 use Rattle.run_history.specs.Shapes.{IsThis, Want, still}
 use Rattle.run_history.specs.Shapes as want
-use Rattle.run_owed.proofs.prepares.Numbers.{left_before, lines_next}
-use Rattle.run_owed.specs.prepares.Events.{IsLeft, IsLeftAfter}
-use Rattle.run_owed.specs.prepares.Proposals.{IsBehind, IsShort}
-use Rattle.run_owed.specs.repeats.Events.{AreSent}
+use Rattle.run_packets.proofs.prepares.Numbers.{left_before, lines_next}
+use Rattle.run_packets.specs.prepares.Events.{IsLeft, IsLeftAfter}
+use Rattle.run_packets.specs.prepares.Proposals.{IsBehind, IsShort}
+use Rattle.run_packets.specs.repeats.Events.{AreSent}
 use Rattle.seize.specs.Answers.{Answer}
 use Rattle.wire.specs.declared.message.Body.{Body}
 use Rattle.world_model.specs.Devices.{due_at}

@@ -37,8 +37,8 @@ use Rattle.refinement.specs.Worlds.{AllFit}
 use Rattle.run_downs.proofs.Packets.{IsNoPacket}
 use Rattle.run_history.specs.Guards.{Hand, hand_after}
 use Rattle.run_history.specs.Scenes.{Scene, passing, posting}
-use Rattle.run_owed.proofs.replies.Promising.{promise_short}
-use Rattle.run_owed.specs.prepares.Proposals.{IsShort}
+use Rattle.run_packets.proofs.replies.Promising.{promise_short}
+use Rattle.run_packets.specs.prepares.Proposals.{IsShort}
 use Rattle.run_packets.specs.fits.Known.{IfUp}
 use Rattle.run_packets.specs.fits.Rooms.{HasRoom}
 use Rattle.run_seizings.proofs.Asked.{AllMay}

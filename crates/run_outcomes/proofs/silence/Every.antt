@@ -22,7 +22,7 @@ use Rattle.node_model.specs.declared.node.UpNode.{UpNode}
 use Rattle.run_history.specs.Happenings.{all_happened}
 use Rattle.run_history.specs.Scenes.{Scene, first_scene}
 use Rattle.run_messages.proofs.Reaching.{IsSmall}
-use Rattle.run_owed.specs.installs.Passing.{IsMember}
+use Rattle.run_packets.specs.installs.Passing.{IsMember}
 use Rattle.run_seizings.specs.Seized.{has_installed}
 use Rattle.world_model.specs.First.{first_cluster}
 use Rattle.run_outcomes.proofs.phases.LiveRuns.{none_is_over}

@@ -14,7 +14,7 @@ use Rattle.history.specs.Setting.{coordinator}
 use Rattle.history.specs.Trace.{attempt, delivered, installed, sent}
 use Rattle.history.specs.UnderWay.{is_under_way}
 use Rattle.run_lines.proofs.Adds.{onto}
-use Rattle.run_owed.specs.installs.Passing.{AllGoOut, IsMember}
+use Rattle.run_packets.specs.installs.Passing.{AllGoOut, IsMember}
 use Rattle.run_outcomes.proofs.phases.Lines.{way_before}
 use Rattle.run_outcomes.specs.silence.Asked.{Query, asked_in, asks, comes}
 use Rattle.run_outcomes.specs.silence.AskedCourses.{to_install}

@@ -38,12 +38,12 @@ use Rattle.run_lines.proofs.Adds.{onto}
 use Rattle.run_lines.proofs.Outputs.{gives_entries}
 use Rattle.run_packets.proofs.fits.Steps.{Grown}
 use Rattle.run_seizings.specs.Seized.{AttemptSo, has_installed}
-use Rattle.run_owed.proofs.installs.Known.{Takeable}
-use Rattle.run_owed.proofs.installs.Sent.{AreShort, Left, left_passing}
-use Rattle.run_owed.proofs.installs.Short.{sent_short}
-use Rattle.run_owed.proofs.installs.Taking.{Stand, TakenOut, lined_of, taken_out}
-use Rattle.run_owed.proofs.waiting.Numbers.{left_before, passing_next}
-use Rattle.run_owed.specs.installs.Passing.{AllGoOut, IsLined, IsMember, IsWaiting, NodeLined, NodeListed, UpLined}
+use Rattle.run_packets.proofs.installs.Known.{Takeable}
+use Rattle.run_packets.proofs.installs.Sent.{AreShort, Left, left_passing}
+use Rattle.run_packets.proofs.installs.Short.{sent_short}
+use Rattle.run_packets.proofs.installs.Taking.{Stand, TakenOut, lined_of, taken_out}
+use Rattle.run_packets.proofs.waiting.Numbers.{left_before, passing_next}
+use Rattle.run_packets.specs.installs.Passing.{AllGoOut, IsLined, IsMember, IsWaiting, NodeLined, NodeListed, UpLined}
 use Rattle.run_outcomes.proofs.phases.Taken.{HasIn, Ways, has_of}
 use Rattle.run_outcomes.proofs.silence.Outgoing.{any_cases, asked_more, gone_among, members_more, none_again, way_more}
 use Rattle.run_outcomes.specs.silence.Asked.{asked_in}

@@ -34,12 +34,12 @@ use Rattle.run_history.specs.Sites.{OwnIn}
 use Rattle.run_history.specs.Stages.{Stage}
 use Rattle.run_history.specs.Wholes.{IsWhole}
 use Rattle.run_messages.proofs.Reaching.{IsReached, IsSmall, stage_of}
-use Rattle.run_owed.proofs.installs.Known.{Bound, Takeable, arrives_so, bound_at, commands_so, devices_known, first_known, happening_known, takes_so, writes_so}
-use Rattle.run_owed.proofs.installs.Mine.{MeIn}
-use Rattle.run_owed.proofs.installs.Steps.{node_listed}
-use Rattle.run_owed.proofs.installs.Taking.{Stand}
-use Rattle.run_owed.proofs.waiting.Numbers.{left_before, sending_next}
-use Rattle.run_owed.specs.installs.Passing.{NodeListed}
+use Rattle.run_packets.proofs.installs.Known.{Bound, Takeable, arrives_so, bound_at, commands_so, devices_known, first_known, happening_known, takes_so, writes_so}
+use Rattle.run_packets.proofs.installs.Mine.{MeIn}
+use Rattle.run_packets.proofs.installs.Steps.{node_listed}
+use Rattle.run_packets.proofs.installs.Taking.{Stand}
+use Rattle.run_packets.proofs.waiting.Numbers.{left_before, sending_next}
+use Rattle.run_packets.specs.installs.Passing.{NodeListed}
 use Rattle.run_packets.proofs.fits.Runs.{Fitting, first_fits, happening_fits, sized}
 use Rattle.run_packets.proofs.fits.Steps.{Grown}
 use Rattle.run_packets.proofs.native.Runs.{Known as Bounded, first_named, happening_named, whole_at}

@@ -11,7 +11,7 @@ use Rattle.run_history.specs.Scenes.{first_scene}
 use Rattle.run_history.specs.Shapes.{IsShaped}
 use Rattle.run_history.specs.WorldLines.{AreDisks}
 use Rattle.run_lines.specs.rounds.Laws.{AllAskSome}
-use Rattle.run_owed.specs.waiting.Laws.{CommandsAreShort}
+use Rattle.run_packets.specs.waiting.Laws.{CommandsAreShort}
 use Rattle.run_packets.specs.fits.Laws.{IsShort}
 use Rattle.run_packets.specs.views.Laws.{NoneForeign}
 use Rattle.world_model.specs.First.{first_cluster}

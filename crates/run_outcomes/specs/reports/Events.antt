@@ -11,7 +11,7 @@ use Rattle.run_history.specs.Happenings.{Happening, MayHappen, commanded, given_
 use Rattle.run_history.specs.Happenings.Happening.{Arrives, Commands, Notes, Speaks, Strays, Takes}
 use Rattle.run_history.specs.Scenes.{Scene, adding}
 use Rattle.run_history.specs.Shapes.{IsThis, Want, brings, still}
-use Rattle.run_owed.specs.repeats.Events.{AreSent, EventLaw, StartsElse}
+use Rattle.run_packets.specs.repeats.Events.{AreSent, EventLaw, StartsElse}
 use Rattle.run_packets.specs.views.Laws.{TellsHere}
 use Rattle.schedule_text.specs.declared.event.Event.{Event}
 use Rattle.schedule_text.specs.declared.line.Line.TheVariants as line

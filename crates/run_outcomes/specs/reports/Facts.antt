@@ -18,9 +18,9 @@ use Rattle.run_devices.specs.queues.Kept.{NoJoins, joins_in}
 use Rattle.run_devices.specs.readings.Sites.{IsReading}
 use Rattle.run_history.specs.Scenes.{Scene}
 use Rattle.run_outcomes.specs.tasks.Laws.{NodeQueue}
-use Rattle.run_owed.proofs.prepares.Steps.{IsLinkedTo}
-use Rattle.run_owed.proofs.replies.Delivered.{Known}
-use Rattle.run_owed.specs.prepares.Proposals.{IsShort}
+use Rattle.run_packets.proofs.prepares.Steps.{IsLinkedTo}
+use Rattle.run_packets.proofs.replies.Delivered.{Known}
+use Rattle.run_packets.specs.prepares.Proposals.{IsShort}
 use Rattle.run_packets.specs.admitted.Known.{WorkFew}
 use Rattle.world_model.specs.First.{first_cluster}
 use Rattle.run_outcomes.specs.reports.Laws.{AsksSo}

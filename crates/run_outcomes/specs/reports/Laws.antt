@@ -7,7 +7,7 @@ use Rattle.device_queue.specs.declared.task.Task.{Task}
 use Rattle.node_model.specs.Members.{ready_of}
 use Rattle.node_model.specs.declared.node.UpNode.{UpNode}
 use Rattle.run_outcomes.specs.tasks.Laws.{OfEachPoint}
-use Rattle.run_owed.specs.prepares.Proposals.{IsShort}
+use Rattle.run_packets.specs.prepares.Proposals.{IsShort}
 use Rattle.run_packets.specs.admitted.Known.{WorkFew}
 use Rattle.history.specs.Letters.{Letter, letter_of, reached_since}
 use Rattle.history.specs.Member.{attempt_of}

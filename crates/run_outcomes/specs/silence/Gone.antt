@@ -5,8 +5,8 @@ use Rattle.history.specs.Setting.{coordinator}
 use Rattle.history.specs.UnderWay.{is_under_way}
 use Rattle.node_model.specs.declared.cluster.Cluster.{Cluster}
 use Rattle.run_history.specs.Scenes.{Scene}
-use Rattle.run_owed.proofs.installs.Taking.{NodeFine}
-use Rattle.run_owed.specs.installs.Passing.{IsMember}
+use Rattle.run_packets.proofs.installs.Taking.{NodeFine}
+use Rattle.run_packets.specs.installs.Passing.{IsMember}
 use Rattle.run_seizings.specs.Seized.{has_installed}
 use Rattle.run_outcomes.specs.silence.Asked.{asked_in}
 use Rattle.run_outcomes.specs.silence.AskedCourses.{to_install}

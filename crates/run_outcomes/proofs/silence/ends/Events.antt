@@ -35,7 +35,7 @@ use Rattle.run_history.specs.Shapes.{Due, IsShaped, IsThis, ShapedFrom, brings, 
 use Rattle.run_history.specs.Shapes as want
 use Rattle.run_history.specs.WorldLines.{AreDisks}
 use Rattle.run_lines.proofs.Outputs.{gives_entries}
-use Rattle.run_owed.specs.repeats.Events.{AlongRun, EventLaw}
+use Rattle.run_packets.specs.repeats.Events.{AlongRun, EventLaw}
 use Rattle.run_packets.specs.native.Laws.{BootsInHeader}
 use Rattle.run_packets.specs.views.Laws.{NoneForeign}
 use Rattle.schedule_text.specs.declared.event.Event.{Event}

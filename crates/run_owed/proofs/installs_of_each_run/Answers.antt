@@ -1,5 +1,0 @@
-use Rattle.run_owed.proofs.installs.Runs as proof
-use Rattle.run_owed.proofs.installs_of_each_run.Goals as goal
-
-pub returns : goal.returns
-returns c = proof.installs_of_each_run

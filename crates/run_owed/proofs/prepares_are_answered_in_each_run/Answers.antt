@@ -1,5 +1,0 @@
-use Rattle.run_owed.proofs.replies.Prepares as proof
-use Rattle.run_owed.proofs.prepares_are_answered_in_each_run.Goals as goal
-
-pub returns : goal.returns
-returns c = proof.prepares_are_answered_in_each_run

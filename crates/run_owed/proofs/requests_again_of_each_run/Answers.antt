@@ -1,5 +1,0 @@
-use Rattle.run_owed.proofs.again.Runs as proof
-use Rattle.run_owed.proofs.requests_again_of_each_run.Goals as goal
-
-pub returns : goal.returns
-returns c = proof.requests_again_of_each_run

@@ -1,5 +1,0 @@
-use Rattle.run_owed.proofs.waiting.Runs as proof
-use Rattle.run_owed.proofs.requests_of_each_run.Goals as goal
-
-pub returns : goal.returns
-returns c = proof.requests_of_each_run

@@ -1,6 +1,0 @@
-pub mod prepares
-pub mod repeats
-pub mod replies
-pub mod waiting
-pub mod installs
-pub mod again
