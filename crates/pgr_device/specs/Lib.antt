@@ -4,6 +4,7 @@ pub mod Allowed
 pub mod Device
 pub mod Keys
 pub mod Registered
+pub mod Replies
 pub mod Runs
 pub mod Spc
 pub mod Statements

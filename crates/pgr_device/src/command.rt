@@ -55,3 +55,26 @@ pub enum PrAnswer {
     /// The word, which is not the one expected: nothing is changed.
     Miscompare(u64),
 }
+
+/// What a device answers, where the keys that a command asks for stay with the device.
+#[derive(Clone, Copy, Debug, PartialEq, Eq)]
+pub enum Reply {
+    /// Status GOOD: it is done.
+    Good,
+    /// Status RESERVATION CONFLICT (18h): nothing is changed.
+    Conflict,
+    /// Status CHECK CONDITION, INVALID RELEASE OF PERSISTENT RESERVATION: nothing is changed.
+    InvalidRelease,
+    /// The sender has no path to the device, and nothing is changed.
+    NoPath,
+    /// The keys that the device has registered.
+    Keys,
+    /// The holder's key and the reservation's type, if one stands.
+    Holder(Option<(u64, PrKind)>),
+    /// The word.
+    Word(u64),
+    /// The data.
+    Value(u64),
+    /// The word, which is not the one expected: nothing is changed.
+    Miscompare(u64),
+}

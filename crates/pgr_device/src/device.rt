@@ -1,10 +1,14 @@
-ghost use Rattle.std.specs.Prelude.{◌≡◌};
+ghost use Rattle.std.specs.Prelude.{◌≡◌, ◌≤◌, length};
 ghost use Rattle.pgr_device.specs.Allowed.{IsAllowed};
 ghost use Rattle.pgr_device.specs.Device.{Device, fresh, with_keys};
 ghost use Rattle.pgr_device.specs.Keys.{HasNoZeroKey};
+ghost use Rattle.pgr_device.specs.Registered.{keys_of};
+ghost use Rattle.pgr_device.specs.Replies.{answer_of};
 ghost use Rattle.pgr_device.specs.Spc.{step};
 
-use crate::command::{PrAnswer, PrCommand};
+use crate::command::{PrAnswer, PrCommand, Reply};
+use crate::key_list::KeyList;
+use crate::registration::{self, Registration};
 use crate::state::State;
 use cl_base::{NodeId, NodeSet};
 use std::marker::Model;
@@ -58,10 +62,46 @@ impl Pgr {
         ensures answer { result ≡ (step self.old from command).answer }
         ensures keys { HasNoZeroKey result }
     {
+        match self.reply(from, command) {
+            Reply::Good => PrAnswer::Good,
+            Reply::Conflict => PrAnswer::Conflict,
+            Reply::InvalidRelease => PrAnswer::InvalidRelease,
+            Reply::NoPath => PrAnswer::NoPath,
+            Reply::Keys => PrAnswer::Keys(self.keys()),
+            Reply::Holder(held) => PrAnswer::Holder(held),
+            Reply::Word(word) => PrAnswer::Word(word),
+            Reply::Value(value) => PrAnswer::Value(value),
+            Reply::Miscompare(word) => PrAnswer::Miscompare(word),
+        }
+    }
+
+    /// The same, but that the keys that a command asks for stay with the device: an answer that may
+    /// hold them is large.
+    pub fn reply(&mut self, from: NodeId, command: PrCommand) -> Reply
+        requires { IsAllowed command }
+        ensures after { self.new ≡ (step self.old from command).after }
+        ensures answer { answer_of self.new result ≡ (step self.old from command).answer }
+        ensures keys { HasNoZeroKey (answer_of self.new result) }
+    {
         if !self.state.paths.has(from) {
-            return PrAnswer::NoPath;
+            return Reply::NoPath;
         }
         self.state.carry_out(from, command)
+    }
+
+    /// The registered keys, in order of registration.
+    pub fn keys(&self) -> KeyList
+        ensures { result ≡ keys_of self.now.registrations }
+    {
+        registration::keys_of(self.registrations())
+    }
+
+    /// The registrations, in order.
+    pub fn registrations(&self) -> &[Registration]
+        ensures value { result.now ≡ self.now.registrations }
+        ensures most { length result.now ≤ 32 }
+    {
+        self.state.registrations.as_slice()
     }
 
     /// The device loses its power and comes back: nothing changes, since registrations and the

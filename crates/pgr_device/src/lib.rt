@@ -16,7 +16,7 @@ mod registration;
 mod run;
 mod state;
 
-pub use command::{PrAnswer, PrCommand};
+pub use command::{PrAnswer, PrCommand, Reply};
 pub use device::Pgr;
 pub use key_list::KeyList;
 pub use kind::PrKind;

@@ -1,12 +1,13 @@
 ghost use Rattle.std.specs.Prelude.{◌≡◌, ◌<◌, ◌==◌, length, None, Some};
 ghost use Rattle.pgr_device.specs.Device.{fresh, with_keys};
 ghost use Rattle.pgr_device.specs.Registered.{registered_key};
+ghost use Rattle.pgr_device.specs.Replies.{answer_of};
 ghost use Rattle.pgr_device.specs.Seen.{seen};
 ghost use Rattle.pgr_device.specs.Spc.{answers, good, with_key, registering, reserving, releasing, cleared, registered_only, is_holders, preempting, reservation_of, reading, may_read, may_write, carried_out, released_by, shows_key};
-ghost use Rattle.pgr_device.specs.declared.command.PrAnswer.TheVariants as answer;
+ghost use Rattle.pgr_device.specs.declared.command.Reply.TheVariants as reply;
 ghost use Rattle.pgr_device.specs.declared.command.PrCommand.TheVariants as command;
 
-use crate::command::{PrAnswer, PrCommand};
+use crate::command::{PrCommand, Reply};
 use crate::kind::PrKind;
 use crate::registration::{self, Registration, Registrations, Reservation};
 use arrayvec::ArrayVec;
@@ -45,10 +46,10 @@ impl State {
     }
 
     /// Carries out the command of a node that has a path. An unregistered node finds room.
-    pub(crate) fn carry_out(&mut self, from: NodeId, command: PrCommand) -> PrAnswer
+    pub(crate) fn carry_out(&mut self, from: NodeId, command: PrCommand) -> Reply
         requires { registered_key self.old.registrations.items from ≡ None → length self.old.registrations.items < 32 }
         ensures after { seen self.new ≡ (carried_out (seen self.old) from command).after }
-        ensures answer { result ≡ (carried_out (seen self.old) from command).answer }
+        ensures answer { answer_of (seen self.new) result ≡ (carried_out (seen self.old) from command).answer }
     {
         match command {
             PrCommand::Register { key, new } => self.register(from, key, new),
@@ -57,10 +58,10 @@ impl State {
             PrCommand::Release { kind, key } => self.release(from, kind, key),
             PrCommand::Clear { key } => self.clear(from, key),
             PrCommand::Preempt { kind, key, victim } => self.preempt(from, kind, key, victim),
-            PrCommand::Keys => PrAnswer::Keys(registration::keys_of(self.registrations.as_slice())),
-            PrCommand::Holder => PrAnswer::Holder(self.holder()),
-            PrCommand::Read => self.read(from, PrAnswer::Value(self.value)),
-            PrCommand::Word => self.read(from, PrAnswer::Word(self.word)),
+            PrCommand::Keys => Reply::Keys,
+            PrCommand::Holder => Reply::Holder(self.holder()),
+            PrCommand::Read => self.read(from, Reply::Value(self.value)),
+            PrCommand::Word => self.read(from, Reply::Word(self.word)),
             PrCommand::Write { value } => self.write(from, value),
             PrCommand::Swap { expect, new } => self.swap(from, expect, new),
         }
@@ -72,21 +73,21 @@ impl State {
         registration::registered_key(self.registrations.as_slice(), node)
     }
 
-    fn register(&mut self, from: NodeId, shown: u64, new: u64) -> PrAnswer
+    fn register(&mut self, from: NodeId, shown: u64, new: u64) -> Reply
         requires { registered_key self.old.registrations.items from ≡ None → length self.old.registrations.items < 32 }
         ensures after { seen self.new ≡ (registering (seen self.old) from shown new (registered_key self.old.registrations.items from)).after }
-        ensures answer { result ≡ (registering (seen self.old) from shown new (registered_key self.old.registrations.items from)).answer }
+        ensures answer { answer_of (seen self.new) result ≡ (registering (seen self.old) from shown new (registered_key self.old.registrations.items from)).answer }
     {
         if shown != self.registered_key(from).unwrap_or(0) {
-            return PrAnswer::Conflict;
+            return Reply::Conflict;
         }
         self.set_key(from, new)
     }
 
-    fn set_key(&mut self, from: NodeId, new: u64) -> PrAnswer
+    fn set_key(&mut self, from: NodeId, new: u64) -> Reply
         requires { registered_key self.old.registrations.items from ≡ None → length self.old.registrations.items < 32 }
         ensures after { seen self.new ≡ with_key (seen self.old) from new (registered_key self.old.registrations.items from) }
-        ensures answer { result ≡ answer.Good }
+        ensures answer { result ≡ reply.Good }
     {
         match self.registered_key(from) {
             None if new == 0 => {}
@@ -97,7 +98,7 @@ impl State {
             Some(_) if new == 0 => self.unregister(from),
             Some(_) => registration::rekey(self.registrations.as_mut_slice(), from, new),
         }
-        PrAnswer::Good
+        Reply::Good
     }
 
     fn unregister(&mut self, node: NodeId)
@@ -117,71 +118,71 @@ impl State {
         }
     }
 
-    fn reserve(&mut self, from: NodeId, kind: PrKind, key: u64) -> PrAnswer
+    fn reserve(&mut self, from: NodeId, kind: PrKind, key: u64) -> Reply
         ensures after { seen self.new ≡ (registered_only (seen self.old) from key (reserving (seen self.old) from kind self.old.reservation)).after }
-        ensures answer { result ≡ (registered_only (seen self.old) from key (reserving (seen self.old) from kind self.old.reservation)).answer }
+        ensures answer { answer_of (seen self.new) result ≡ (registered_only (seen self.old) from key (reserving (seen self.old) from kind self.old.reservation)).answer }
     {
         if !self.shows_key(from, key) {
-            return PrAnswer::Conflict;
+            return Reply::Conflict;
         }
         let reservation = self.reservation;
         match reservation {
             None => {
                 self.reservation = Some(Reservation { holder: from, kind });
-                PrAnswer::Good
+                Reply::Good
             }
-            Some(held) if held.holder == from && held.kind == kind => PrAnswer::Good,
-            Some(_) => PrAnswer::Conflict,
+            Some(held) if held.holder == from && held.kind == kind => Reply::Good,
+            Some(_) => Reply::Conflict,
         }
     }
 
-    fn release(&mut self, from: NodeId, kind: PrKind, key: u64) -> PrAnswer
+    fn release(&mut self, from: NodeId, kind: PrKind, key: u64) -> Reply
         ensures after { seen self.new ≡ (registered_only (seen self.old) from key (releasing (seen self.old) from kind self.old.reservation)).after }
-        ensures answer { result ≡ (registered_only (seen self.old) from key (releasing (seen self.old) from kind self.old.reservation)).answer }
+        ensures answer { answer_of (seen self.new) result ≡ (registered_only (seen self.old) from key (releasing (seen self.old) from kind self.old.reservation)).answer }
     {
         if !self.shows_key(from, key) {
-            return PrAnswer::Conflict;
+            return Reply::Conflict;
         }
         let reservation = self.reservation;
         match reservation {
             Some(held) if held.holder == from => {
                 if held.kind != kind {
-                    return PrAnswer::InvalidRelease;
+                    return Reply::InvalidRelease;
                 }
                 self.reservation = None;
-                PrAnswer::Good
+                Reply::Good
             }
-            _ => PrAnswer::Good,
+            _ => Reply::Good,
         }
     }
 
-    fn clear(&mut self, from: NodeId, key: u64) -> PrAnswer
+    fn clear(&mut self, from: NodeId, key: u64) -> Reply
         ensures after { seen self.new ≡ (registered_only (seen self.old) from key (good (cleared (seen self.old)))).after }
-        ensures answer { result ≡ (registered_only (seen self.old) from key (good (cleared (seen self.old)))).answer }
+        ensures answer { answer_of (seen self.new) result ≡ (registered_only (seen self.old) from key (good (cleared (seen self.old)))).answer }
     {
         if !self.shows_key(from, key) {
-            return PrAnswer::Conflict;
+            return Reply::Conflict;
         }
         self.registrations.clear();
         self.reservation = None;
-        PrAnswer::Good
+        Reply::Good
     }
 
-    fn preempt(&mut self, from: NodeId, kind: PrKind, key: u64, victim: u64) -> PrAnswer
+    fn preempt(&mut self, from: NodeId, kind: PrKind, key: u64, victim: u64) -> Reply
         ensures after { seen self.new ≡ (registered_only (seen self.old) from key (preempting (seen self.old) from kind victim)).after }
-        ensures answer { result ≡ (registered_only (seen self.old) from key (preempting (seen self.old) from kind victim)).answer }
+        ensures answer { answer_of (seen self.new) result ≡ (registered_only (seen self.old) from key (preempting (seen self.old) from kind victim)).answer }
     {
         if !self.shows_key(from, key) {
-            return PrAnswer::Conflict;
+            return Reply::Conflict;
         }
         if !registration::has_key(self.registrations.as_slice(), victim) {
-            return PrAnswer::Conflict;
+            return Reply::Conflict;
         }
         if self.is_holders(victim) {
             self.reservation = Some(Reservation { holder: from, kind });
         }
         registration::remove_key(&mut self.registrations, victim);
-        PrAnswer::Good
+        Reply::Good
     }
 
     /// Whether the reservation's holder has this key.
@@ -222,39 +223,39 @@ impl State {
         held.kind.allows_write(held.holder == node, registered)
     }
 
-    /// This answer, or a conflict where the node may not read.
-    fn read(&self, from: NodeId, answer: PrAnswer) -> PrAnswer
-        ensures { result ≡ (reading (seen self.now) from (answers (seen self.now) answer)).answer }
+    /// This reply, or a conflict where the node may not read.
+    fn read(&self, from: NodeId, reply: Reply) -> Reply
+        ensures { answer_of (seen self.now) result ≡ (reading (seen self.now) from (answers (seen self.now) (answer_of (seen self.now) reply))).answer }
     {
         if !self.may_read(from) {
-            return PrAnswer::Conflict;
+            return Reply::Conflict;
         }
-        answer
+        reply
     }
 
-    fn write(&mut self, from: NodeId, value: u64) -> PrAnswer
+    fn write(&mut self, from: NodeId, value: u64) -> Reply
         ensures after { seen self.new ≡ (carried_out (seen self.old) from (command.Write value)).after }
-        ensures answer { result ≡ (carried_out (seen self.old) from (command.Write value)).answer }
+        ensures answer { answer_of (seen self.new) result ≡ (carried_out (seen self.old) from (command.Write value)).answer }
     {
         if !self.may_write(from) {
-            return PrAnswer::Conflict;
+            return Reply::Conflict;
         }
         self.value = value;
-        PrAnswer::Good
+        Reply::Good
     }
 
-    fn swap(&mut self, from: NodeId, expect: u64, new: u64) -> PrAnswer
+    fn swap(&mut self, from: NodeId, expect: u64, new: u64) -> Reply
         ensures after { seen self.new ≡ (carried_out (seen self.old) from (command.Swap expect new)).after }
-        ensures answer { result ≡ (carried_out (seen self.old) from (command.Swap expect new)).answer }
+        ensures answer { answer_of (seen self.new) result ≡ (carried_out (seen self.old) from (command.Swap expect new)).answer }
     {
         if !self.may_write(from) {
-            return PrAnswer::Conflict;
+            return Reply::Conflict;
         }
         if self.word != expect {
-            return PrAnswer::Miscompare(self.word);
+            return Reply::Miscompare(self.word);
         }
         self.word = new;
-        PrAnswer::Good
+        Reply::Good
     }
 }
 

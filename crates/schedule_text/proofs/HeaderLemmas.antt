@@ -1,5 +1,5 @@
 -- A header with one more device, and the numbers of a line.
-use Rattle.std.proofs.Common.{◌≡◌, ◌==◌, ◌<◌, ℕ, Bool, ◌&&◌, not, if◌then◌else◌, List, ◌++◌, [], ◌∷◌, length, map, Ok, Err, Some, None, refl, sym, ap, subst, arith, length-append, Bor}
+use Rattle.std.proofs.Common.{◌≡◌, ◌==◌, ◌<◌, ℕ, ◌&&◌, not, if◌then◌else◌, List, ◌++◌, [], ◌∷◌, length, map, Ok, Err, Some, None, refl, sym, ap, subst, arith, length-append, Bor}
 use Rattle.std.specs.List.{list_all}
 use Rattle.std.proofs.lemmas.List.{length-map}
 use Rattle.schedule_text.specs.declared.kind.Kind.TheVariants as kind

@@ -1,54 +1,88 @@
 -- What a word of digits is as a number.
-use Rattle.std.proofs.Common.{◌≡◌, ◌≢◌, nat_le, ℕ, ◌^◌, ◌<◌, ◌≤◌, ◌==◌, nat_lt, if◌then◌else◌, Bool, true, false, not, ◌&&◌, List, [], ◌∷◌, length, slice_index, Option, Some, None, unwrap_or, Result, Ok, Err, OkIff, zero, suc, refl, ap, ◌∙◌, subst, arith, rules}
+use Rattle.std.proofs.Common.{◌≡◌, ◌≢◌, nat_le, ℕ, ◌+◌, ◌-◌, ◌*◌, ◌^◌, ◌<◌, ◌≤◌, ◌==◌, nat_lt, if◌then◌else◌, Bool, true, false, not, ◌&&◌, List, [], ◌∷◌, length, slice_index, take, drop, Option, Some, None, unwrap_or, Result, Ok, Err, OkIff, zero, suc, refl, sym, ap, ◌∙◌, subst, arith}
 use Rattle.std.specs.Result.{result_ok}
 use Rattle.std.specs.List.{list_all}
 use Rattle.std.specs.Char.{is_ascii_digit, digit_value}
 use Rattle.std.specs.Str.{IsUtf8}
-use Rattle.std.specs.Str.Parse.{digits_value, ParsesUnsigned, AllDigits, IsNumeral, without_leading_plus}
-use Rattle.std.proofs.lemmas.Str.Parse.{IsNumeralModel, numerals_by_value, parse_digits, without_leading_plus_none}
-use Rattle.std.proofs.lemmas.Fmt.{IsAscii-from_digits}
+use Rattle.std.specs.Str.Parse.{digits_value, digits_value_after, ParsesUnsigned, AllDigits, IsNumeral, without_leading_plus}
+use Rattle.std.proofs.lemmas.Str.Parse.{without_leading_plus_none}
 use Rattle.std.proofs.lemmas.Str.{IsUtf8-from_ascii}
 use Rattle.std.proofs.lemmas.Int.Digits.{digits_value-lt}
 use Rattle.std.proofs.Math.Nat.{pow-le-pow_right}
-use Rattle.std.proofs.lemmas.Bool.{le-ltb, ltb-false, ltb-true, le-leb, leb-true}
+use Rattle.std.proofs.lemmas.Bool.{le-ltb, ltb-false, le-leb, leb-true}
 use Rattle.std.proofs.lemmas.Bool.Decides.{nat_tests}
-use Rattle.schedule_text.specs.declared.number.Numeral.TheVariants.{Beyond}
-use Rattle.schedule_text.specs.Words.{is_decimal, numeral_of, decimal_in, has_no_leading_zero, is_key, is_key_digit, key_in, cluster_in}
+use Rattle.std.proofs.lemmas.List.{drop_all, at_drop_more, take_rest}
+use Rattle.schedule_text.specs.declared.number.Numeral.{Numeral}
+use Rattle.schedule_text.specs.declared.number.Numeral.TheVariants.{Within, Beyond}
+use Rattle.schedule_text.specs.Words.{numeral_of, followed_by, decimal_in, has_no_leading_zero, is_key, is_key_digit, key_in, cluster_in}
 
-abbrev Digits : List ℕ → Type 0
-Digits w = list_all is_ascii_digit w ≡ true
-
-digits : IsNumeralModel Digits (digits_value 10)
-digits = numerals_by_value Digits (search rules)
+first : (a b : Bool) → (a && b) ≡ true → a ≡ true
+first true b h = refl
+first false b h = h
 
 second : (a b : Bool) → (a && b) ≡ true → b ≡ true
 second true true h = refl
 second true false h = h
 second false b h = absurd (cc)
 
-pub digits_of_decimal : (w : List ℕ) → is_decimal w ≡ true → Digits w
-digits_of_decimal w h = second (not (length w == 0) && has_no_leading_zero w) (list_all is_ascii_digit w) h
-
-pub utf8_of_decimal : (w : List ℕ) → is_decimal w ≡ true → IsUtf8 w
-utf8_of_decimal w h = IsUtf8-from_ascii w (IsAscii-from_digits w (digits.to w (digits_of_decimal w h)))
-
 beyond : (n : ℕ) → 2 ^ 64 ≤ n → numeral_of n ≡ Beyond
 beyond n h = rw (le-ltb n (2 ^ 64) h) refl
 
-nonempty : (w : List ℕ) → is_decimal w ≡ true → 0 < length w
-nonempty [] h = absurd (cc)
-nonempty (x ∷ w) h = omega arith
+goes_on_from : (n digit : ℕ) (t : Bool) → nat_lt n (2 ^ 64) ≡ t → followed_by (numeral_of n) digit ≡ numeral_of (n * 10 + digit)
+goes_on_from n digit true is = rw is refl
+goes_on_from n digit false is =
+    let great : 2 ^ 64 ≤ n = ltb-false n (2 ^ 64) is in
+    rw (is, beyond (n * 10 + digit) (omega arith)) refl
 
-at_least : (n : ℕ) (t : Bool) → nat_lt n (2 ^ 64) ≡ t → (n < 2 ^ 64 → ⊥) → 2 ^ 64 ≤ n
-at_least n true is never = absurd (never (ltb-true n (2 ^ 64) is))
-at_least n false is never = ltb-false n (2 ^ 64) is
+-- the number that digits behind it make, if all are digits (from 48 on)
+abbrev pub read_on : Numeral → List ℕ → Option Numeral
+read_on number [] = Some number
+read_on number (b ∷ word) = if is_ascii_digit b then read_on (followed_by number (b - 48)) word else None
 
--- a decimal word that `parse` does not read is too great for 64 bits
-pub unread_decimal : {E : Type 0} (text w : List ℕ) (e : E) → text ≡ w → is_decimal w ≡ true → ParsesUnsigned 64 10 text (Err e) → decimal_in w ≡ Some Beyond
-unread_decimal {E} text w e same h parsed =
-    let fails = parse_digits digits 64 w (Err e) (subst (λ (t : List ℕ). ParsesUnsigned {E = E} 64 10 t (Err e)) same parsed) (digits_of_decimal w h) in
-    let great : 2 ^ 64 ≤ digits_value 10 w = at_least (digits_value 10 w) (nat_lt (digits_value 10 w) (2 ^ 64)) refl (λ lt. fails (nonempty w h, lt)) in
-    rw (h, beyond (digits_value 10 w) great) refl
+digit_is : (b : ℕ) → is_ascii_digit b ≡ true → digit_value b ≡ b - 48
+digit_is b is = grind (arith, nat_tests)
+
+read_digit : (n b : ℕ) (word : List ℕ) (t : Bool) → is_ascii_digit b ≡ t
+    → ((m : ℕ) → read_on (numeral_of m) word ≡ (if list_all is_ascii_digit word then Some (numeral_of (digits_value_after 10 m word)) else None))
+    → read_on (numeral_of n) (b ∷ word) ≡ (if list_all is_ascii_digit (b ∷ word) then Some (numeral_of (digits_value_after 10 n (b ∷ word))) else None)
+read_digit n b word true is rest =
+    rw (is, goes_on_from n (b - 48) (nat_lt n (2 ^ 64)) refl, rest (n * 10 + (b - 48)), digit_is b is) refl
+read_digit n b word false is rest = rw is refl
+
+read_all : (n : ℕ) (word : List ℕ)
+    → read_on (numeral_of n) word ≡ (if list_all is_ascii_digit word then Some (numeral_of (digits_value_after 10 n word)) else None)
+read_all n [] = refl
+read_all n (b ∷ word) = read_digit n b word (is_ascii_digit b) refl (λ m. read_all m word)
+
+read_word : (word : List ℕ) → (length word == 0) ≡ false → has_no_leading_zero word ≡ true → read_on (Within 0) word ≡ decimal_in word
+read_word word some leads = read_all 0 word ∙ sym (rw (some, leads) refl)
+
+-- a word without a leading zero is read digit by digit
+pub decimal_read : (number : ℕ) (word : List ℕ) (count : ℕ) → length word ≤ count → read_on (Within number) (drop count word) ≡ read_on (Within 0) word
+    → (length word == 0) ≡ false → has_no_leading_zero word ≡ true → Some (Within number) ≡ decimal_in word
+decimal_read number word count end same some leads =
+    ap (λ (left : List ℕ). read_on (Within number) left) (sym (drop_all count word end)) ∙ same ∙ read_word word some leads
+
+beyond_digit : (b : ℕ) (word : List ℕ) (t : Bool) → is_ascii_digit b ≡ t → read_on Beyond word ≡ (if list_all is_ascii_digit word then Some Beyond else None)
+    → read_on Beyond (b ∷ word) ≡ (if list_all is_ascii_digit (b ∷ word) then Some Beyond else None)
+beyond_digit b word true is rest = rw is rest
+beyond_digit b word false is rest = rw is refl
+
+-- behind a number that is too great all are digits, or none is read
+pub read_beyond : (word : List ℕ) → read_on Beyond word ≡ (if list_all is_ascii_digit word then Some Beyond else None)
+read_beyond [] = refl
+read_beyond (b ∷ word) = beyond_digit b word (is_ascii_digit b) refl (read_beyond word)
+
+-- the number is too great with the digit at this place
+pub overflows : (number : ℕ) (word : List ℕ) (place : ℕ) → place < length word → is_ascii_digit (slice_index word place) ≡ true
+    → followed_by (Within number) (slice_index word place - 48) ≡ Beyond → read_on (Within number) (drop place word) ≡ read_on (Within 0) word
+    → (length word == 0) ≡ false → has_no_leading_zero word ≡ true
+    → (if list_all is_ascii_digit (take (length word - (place + 1)) (drop (place + 1) word)) then Some Beyond else None) ≡ decimal_in word
+overflows number word place within digit over same some leads =
+    let rest : List ℕ = drop (place + 1) word in
+    let here : read_on (Within number) (drop place word) ≡ read_on Beyond rest = at_drop_more (λ (left : List ℕ). read_on (Within number) left) word place 0 within ∙ rw (digit, over) refl in
+    ap (λ (left : List ℕ). if list_all is_ascii_digit left then Some Beyond else None) (take_rest word (place + 1))
+    ∙ sym (read_beyond rest) ∙ sym here ∙ same ∙ read_word word some leads
 
 -- keys
 
@@ -60,10 +94,6 @@ key_digit b h = (grind (arith, nat_tests), grind (arith, nat_tests))
 
 key_digit_no_plus : (b : ℕ) → is_key_digit b ≡ true → b ≢ 43
 key_digit_no_plus b h = grind (arith, nat_tests)
-
-first : (a b : Bool) → (a && b) ≡ true → a ≡ true
-first true b h = refl
-first false b h = h
 
 key_digits : (w : List ℕ) → KeyDigits w → AllDigits 16 w
 key_digits [] h = tt

@@ -1,5 +1,5 @@
 -- Printed numbers and keys as words, and the words of a line that is joined of them.
-use Rattle.std.proofs.Common.{◌≡◌, ◌≢◌, ℕ, ◌+◌, ◌-◌, ◌*◌, ◌/◌, ◌%◌, ◌^◌, ◌<◌, ◌≤◌, ◌==◌, not, ◌&&◌, ◌||◌, nat_le, if◌then◌else◌, Bool, true, false, List, [], ◌∷◌, ◌++◌, length, slice_index, slice_set, take, drop, map, All, Bor, Option, Some, None, Err, refl, sym, ap, ◌∙◌, add-one, append_assoc, arith, zero, suc, lt-ltb, le-leb}
+use Rattle.std.proofs.Common.{◌≡◌, ◌≢◌, ℕ, ◌+◌, ◌-◌, ◌/◌, ◌%◌, ◌^◌, ◌<◌, ◌≤◌, ◌==◌, not, ◌&&◌, if◌then◌else◌, Bool, true, false, List, [], ◌∷◌, ◌++◌, length, slice_index, slice_set, take, drop, map, All, Bor, Option, Some, None, Err, refl, sym, ap, ◌∙◌, add-one, append_assoc, arith, zero, suc, lt-ltb, le-leb}
 use Rattle.std.specs.Char.{is_ascii_digit}
 use Rattle.std.specs.Fmt.{decimal, digits, digits_onto, digit_glyph}
 use Rattle.std.specs.List.{list_all, AllByRecursion}
@@ -16,7 +16,7 @@ use Rattle.schedule_text.specs.declared.number.Numeral.{Numeral}
 use Rattle.schedule_text.specs.declared.number.Numeral.TheVariants.{Within}
 use Rattle.schedule_text.specs.Lines.{command_line, named, words_line}
 use Rattle.schedule_text.specs.Names.{name_in}
-use Rattle.schedule_text.specs.Words.{words_of, is_decimal, decimal_in, has_no_leading_zero, is_key, is_key_digit, key_in}
+use Rattle.schedule_text.specs.Words.{words_of, is_decimal, decimal_in, has_no_leading_zero, is_key_digit, key_in}
 
 -- no space, 32, in it
 abbrev pub has_no_space : List ℕ → Bool

@@ -19,7 +19,7 @@ name_text Word = codes "word"
 name_text Swap = codes "swap"
 
 abbrev pub all_names : List CommandName
-all_names = Register ∷ Ignore ∷ Reserve ∷ Release ∷ Clear ∷ Preempt ∷ Keys ∷ Holder ∷ Read ∷ Write ∷ Word ∷ Swap ∷ []
+all_names = Read ∷ Write ∷ Keys ∷ Holder ∷ Word ∷ Swap ∷ Register ∷ Ignore ∷ Reserve ∷ Release ∷ Clear ∷ Preempt ∷ []
 
 -- the command that a word names
 unfoldable pub name_in : List ℕ → Option CommandName

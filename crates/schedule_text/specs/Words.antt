@@ -1,5 +1,5 @@
 -- The words of a line, and the numbers and keys among them.
-use Rattle.std.specs.Prelude.{ℕ, ◌^◌, ◌==◌, nat_lt, nat_le, Bool, not, ◌&&◌, ◌||◌, if◌then◌else◌, List, length, slice_index, Option, Some, None}
+use Rattle.std.specs.Prelude.{ℕ, ◌+◌, ◌*◌, ◌^◌, ◌==◌, nat_lt, nat_le, Bool, not, ◌&&◌, ◌||◌, if◌then◌else◌, List, length, slice_index, Option, Some, None}
 use Rattle.std.specs.List.{slice_split, list_all, list_any}
 use Rattle.std.specs.Char.{is_ascii_digit}
 use Rattle.std.specs.Str.Parse.{digits_value}
@@ -29,6 +29,11 @@ is_key word = not (length word == 0) && nat_le (length word) 16 && has_no_leadin
 -- a number as far as 64 bits hold it
 abbrev pub numeral_of : ℕ → Numeral
 numeral_of n = if nat_lt n (2 ^ 64) then Within n else Beyond
+
+-- the number that one more digit behind it makes
+abbrev pub followed_by : Numeral → ℕ → Numeral
+followed_by (Within n) digit = numeral_of (n * 10 + digit)
+followed_by Beyond digit = Beyond
 
 -- the number that a word is, if it is one
 abbrev pub decimal_in : List ℕ → Option Numeral

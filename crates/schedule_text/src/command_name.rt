@@ -19,20 +19,20 @@ pub enum CommandName {
     Swap,
 }
 
-/// All of them.
+/// All of them, those of most lines first.
 const COMMANDS: [CommandName; 12] = [
+    CommandName::Read,
+    CommandName::Write,
+    CommandName::Keys,
+    CommandName::Holder,
+    CommandName::Word,
+    CommandName::Swap,
     CommandName::Register,
     CommandName::Ignore,
     CommandName::Reserve,
     CommandName::Release,
     CommandName::Clear,
     CommandName::Preempt,
-    CommandName::Keys,
-    CommandName::Holder,
-    CommandName::Read,
-    CommandName::Write,
-    CommandName::Word,
-    CommandName::Swap,
 ];
 
 /// The command that the word names, if it names one.

@@ -1,7 +1,8 @@
-ghost use Rattle.std.specs.Prelude.{◌≡◌};
+ghost use Rattle.std.specs.Prelude.{◌≡◌, ◌≤◌, if◌then◌else◌, Some, None};
 ghost use Rattle.std.specs.List.{list_all};
 ghost use Rattle.std.specs.Char.{is_ascii_digit};
-ghost use Rattle.schedule_text.specs.Words.{decimal_in, cluster_in, is_decimal, is_key, is_key_digit, has_no_leading_zero, key_in};
+ghost use Rattle.schedule_text.specs.declared.number.Numeral.TheVariants.{Beyond};
+ghost use Rattle.schedule_text.specs.Words.{decimal_in, followed_by, cluster_in, is_decimal, is_key, is_key_digit, has_no_leading_zero, key_in};
 
 /// A decimal number of a schedule.
 #[derive(Clone, Copy)]
@@ -12,20 +13,55 @@ pub enum Numeral {
     Beyond,
 }
 
-/// The decimal number that the word is, if it is one.
+impl Numeral {
+    /// The number that one more digit behind it makes.
+    fn followed_by(self, digit: u8) -> Numeral
+        requires { digit ≤ 9 }
+        ensures { result ≡ followed_by self digit }
+    {
+        let Numeral::Within(number) = self else {
+            return Numeral::Beyond;
+        };
+        let Some(tens) = number.checked_mul(10) else {
+            return Numeral::Beyond;
+        };
+        match tens.checked_add(digit as u64) {
+            Some(number) => Numeral::Within(number),
+            None => Numeral::Beyond,
+        }
+    }
+}
+
+/// The decimal number that the word is, if it is one. It is read in one pass: most words of a schedule
+/// are numbers.
 pub fn decimal(word: &[u8]) -> Option<Numeral>
     ensures { result ≡ decimal_in word.now }
 {
-    if !is_decimal(word) {
+    if word.is_empty() || !has_no_leading_zero(word) {
         return None;
     }
-    let Ok(text) = std::str::from_utf8(word) else {
-        return None;
-    };
-    match text.parse::<u64>() {
-        Ok(number) => Some(Numeral::Within(number)),
-        Err(_) => Some(Numeral::Beyond),
+    let mut number = 0;
+    for place in 0..word.len() {
+        let digit = word[place];
+        if !digit.is_ascii_digit() {
+            return None;
+        }
+        match Numeral::Within(number).followed_by(digit - b'0') {
+            Numeral::Within(more) => number = more,
+            Numeral::Beyond => return beyond(&word[place + 1..]),
+        }
     }
+    Some(Numeral::Within(number))
+}
+
+/// The number that these make behind one that is too great, if all are digits.
+fn beyond(digits: &[u8]) -> Option<Numeral>
+    ensures { result ≡ (if list_all is_ascii_digit digits.now then Some Beyond else None) }
+{
+    if !all_digits(digits) {
+        return None;
+    }
+    Some(Numeral::Beyond)
 }
 
 /// The key that the word is, if it is one.

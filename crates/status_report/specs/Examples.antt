@@ -1,5 +1,5 @@
 -- Entries, and the lines that the document of the trace wants of them, one by one.
-use Rattle.std.specs.Prelude.{ℕ, Bool, true, false, List, [], ◌∷◌, Option, Some, None, codes}
+use Rattle.std.specs.Prelude.{ℕ, true, false, List, [], ◌∷◌, Option, Some, None, codes}
 use Rattle.cl_base.specs.declared.method.Method.TheVariants as method
 use Rattle.cl_base.specs.declared.method.Outcome.TheVariants.{Success, Failure, Timeout}
 use Rattle.cl_base.specs.declared.packet.DropCause.TheVariants as dropped

@@ -34,7 +34,7 @@ mod update_text;
 mod words;
 
 pub use address_entry::AddressEntry;
-pub use answer_print::{print_answer, print_powered};
+pub use answer_print::{print_powered, print_reply};
 pub use attempt_entry::AttemptEntry;
 pub use call_entry::{CallEntry, ProbeResult};
 pub use command_entry::{Answer, CommandEntry};

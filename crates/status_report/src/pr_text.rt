@@ -32,7 +32,7 @@ pub fn push_answer(text: &mut String, answer: PrAnswer) -> Result<(), AllocError
     }
 }
 
-fn push_keys(text: &mut String, keys: &[u64]) -> Result<(), AllocError>
+pub(crate) fn push_keys(text: &mut String, keys: &[u64]) -> Result<(), AllocError>
     ensures { OnOk result (string_bytes text.new ≡ string_bytes text.old ++ keys_text keys.now) }
 {
     if keys.is_empty() {
@@ -45,7 +45,10 @@ fn push_keys(text: &mut String, keys: &[u64]) -> Result<(), AllocError>
     Ok(())
 }
 
-fn push_holder(text: &mut String, holder: Option<(u64, PrKind)>) -> Result<(), AllocError>
+pub(crate) fn push_holder(
+    text: &mut String,
+    holder: Option<(u64, PrKind)>,
+) -> Result<(), AllocError>
     ensures { OnOk result (string_bytes text.new ≡ string_bytes text.old ++ holder_text holder) }
 {
     match holder {

@@ -93,7 +93,7 @@ pub fn print_sent(
 }
 
 /// Appends the number and the byte that stands after it.
-fn push_number(text: &mut Vec<u8>, number: u64, after: u8) -> Result<(), AllocError>
+pub(crate) fn push_number(text: &mut Vec<u8>, number: u64, after: u8) -> Result<(), AllocError>
     ensures { OnOk result (text.new.items ≡ (text.old.items ++ decimal number) ++ after ∷ []) }
 {
     push_decimal(text, number)?;

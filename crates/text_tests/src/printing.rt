@@ -1,8 +1,10 @@
 // Printing, where there is memory; what each entry prints as stands in the law on examples.
+ghost use Rattle.pgr_device.specs.Allowed.{IsAllowed};
+
 use cl_base::{Bytes, Epoch, MessageKind, MessageName, Name, NodeId, NodeSet};
-use pgr_device::{KeyList, PrAnswer, PrKind};
+use pgr_device::{Pgr, PrCommand, PrKind};
 use status_report::{
-    AddressEntry, AttemptEntry, Entry, PacketEntry, print, print_answer, print_onto, print_powered,
+    AddressEntry, AttemptEntry, Entry, PacketEntry, print, print_onto, print_powered, print_reply,
 };
 use std::alloc::Global;
 use std::process::Abort;
@@ -76,17 +78,48 @@ fn entries(rt: HostRuntime) -> Result<(), Fail> {
     expect(&rt, alloc, served(one)?, b"served web 10 80 1\n")
 }
 
-fn print_answers(text: &mut String) -> Result<(), Fail> {
-    print_answer(text, PrAnswer::Keys(KeyList::new(&[161, 178])))?;
-    print_powered(text)?;
-    let holder = PrAnswer::Holder(Some((161, PrKind::ExclusiveAccess)));
-    Ok(print_answer(text, holder)?)
+/// A device, and what it has answered.
+#[derive(Drop)]
+struct Answered {
+    device: Pgr,
+    text: Vec<u8>,
+    words: String,
+}
+
+impl Answered {
+    fn send(&mut self, sender: NodeId, command: PrCommand) -> Result<(), Fail>
+        requires { IsAllowed command }
+    {
+        let reply = self.device.reply(sender, command);
+        Ok(print_reply(&mut self.text, &mut self.words, &self.device, reply)?)
+    }
+}
+
+fn answered(alloc: Global) -> Result<Answered, Fail> {
+    let (one, two) = (NodeId::new(1)?, NodeId::new(2)?);
+    let kind = PrKind::ExclusiveAccess;
+    let mut answered = Answered {
+        device: Pgr::new(NodeSet::empty().with(one).with(two)),
+        text: Vec::new(alloc),
+        words: String::new(alloc),
+    };
+    answered.send(one, PrCommand::Keys)?;
+    answered.send(one, PrCommand::Register { key: 0, new: 161 })?;
+    answered.send(two, PrCommand::Register { key: 0, new: 178 })?;
+    answered.send(one, PrCommand::Reserve { kind, key: 161 })?;
+    answered.send(two, PrCommand::Keys)?;
+    answered.send(two, PrCommand::Holder)?;
+    answered.send(two, PrCommand::Read)?;
+    answered.send(one, PrCommand::Word)?;
+    print_powered(&mut answered.text)?;
+    Ok(answered)
 }
 
 #[test]
 fn answers_in_a_kept_text(rt: HostRuntime) -> Result<(), Fail> {
-    let mut text = String::new(rt.alloc());
-    print_answers(&mut text)?;
-    assert!(&rt; text.as_str() == "keys a1 b2\npowered\nreservation a1 3\n");
+    let answered = answered(rt.alloc())?;
+    let lines =
+        b"keys none\ngood\ngood\ngood\nkeys a1 b2\nreservation a1 3\nconflict\nword 0\npowered\n";
+    assert!(&rt; answered.text.as_slice() == lines.as_slice());
     Ok(())
 }

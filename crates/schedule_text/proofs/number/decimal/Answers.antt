@@ -1,14 +1,12 @@
-use Rattle.std.proofs.Common.{sym, ◌∙◌}
-use Rattle.schedule_text.proofs.NumberLemmas.{utf8_of_decimal, unread_decimal}
+use Rattle.std.proofs.Common.{sym, ◌∙◌, arith}
+use Rattle.schedule_text.proofs.NumberLemmas.{decimal_read, overflows}
 use Rattle.schedule_text.proofs.number.decimal.Goals as goal
 
-pub returns-in_default : goal.returns-in_default
-returns-in_default c =
-    let cases = c.in_default.ensures.cases in
-    absurd (cases.0 (utf8_of_decimal c.args.word.now (sym c.is_decimal.ensures ∙ c.if-not-is_decimal.false)))
+pub returns-in-Beyond : goal.returns-in-Beyond
+returns-in-Beyond c = c.beyond.ensures ∙ overflows c.loop-place.number c.args.word.now c.loop-place.place c.loop-place-test.true
+    (sym c.is_ascii_digit.ensures.value ∙ c.if-not-is_ascii_digit.false) (sym c.followed_by.ensures ∙ c.in-Beyond.is) c.loop-place.invariant
+    (sym c.is_empty.ensures ∙ c.if-is_empty.false) (sym c.has_no_leading_zero.ensures ∙ c.if-not-has_no_leading_zero.false)
 
-pub returns-in-Err : goal.returns-in-Err
-returns-in-Err c =
-    let cases = c.in-Ok.ensures.cases in
-    let parsed = c.in-Err.ensures.value.0 in
-    sym (unread_decimal c.in-Ok.text.now c.args.word.now c.in-Err.field-0 cases.0 (sym c.is_decimal.ensures ∙ c.if-not-is_decimal.false) parsed)
+pub returns : goal.returns
+returns c = decimal_read c.loop-place.number c.args.word.now c.loop-place.place (omega (arith, c.loop-place-test.false)) c.loop-place.invariant
+    (sym c.is_empty.ensures ∙ c.if-is_empty.false) (sym c.has_no_leading_zero.ensures ∙ c.if-not-has_no_leading_zero.false)

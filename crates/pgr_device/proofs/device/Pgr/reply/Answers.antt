@@ -6,7 +6,7 @@ use Rattle.pgr_device.specs.Seen.{seen}
 use Rattle.pgr_device.proofs.Keeps.{carried_out_keeps}
 use Rattle.pgr_device.proofs.Room.{room}
 use Rattle.pgr_device.proofs.ZeroKeys.{carried_out_gives}
-use Rattle.pgr_device.proofs.device.Pgr.execute.Goals as goal
+use Rattle.pgr_device.proofs.device.Pgr.reply.Goals as goal
 
 pub carry_out-requires : goal.carry_out-requires
 carry_out-requires c = λ none. room c.self.inside.state.paths c.self.inside.state.registrations.items c.args.from c.has.ensures.low c.has.ensures.high c.self.invariant.apart none
