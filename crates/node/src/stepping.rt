@@ -15,7 +15,6 @@ use cl_base::{NodeId, Outcome};
 use node_model::{Cluster, Input, Node, Output, Stop};
 use record_disk::RecordDisk;
 use std::alloc::{AllocError, Global};
-use std::mem;
 use wire::Message;
 
 /// What happens to the node at the second `now` of the clock. A method that it calls in this ends so:
@@ -121,7 +120,7 @@ fn step_at_boot<K: RecordDisk>(
     };
     match boot(alloc, cluster, me, disk, out) {
         Ok(up) => {
-            drop(mem::replace(node, Node::Up(up)));
+            *node = Node::Up(up);
             Ok(())
         }
         Err(Stop::Down(why)) => tell_down(me, why, out),

@@ -11,7 +11,6 @@ use Rattle.rg_view.specs.declared.view.GroupView.{GroupView}
 use Rattle.rgm_president.specs.Acts.{with_done}
 use Rattle.rgm_president.specs.State.{PresidentState}
 use Rattle.rgm_state.specs.Outcomes as order
-use Rattle.sent_orders.specs.Ages as ages
 use Rattle.node_model.specs.declared.cluster.Cluster.{Cluster}
 use Rattle.node_model.specs.declared.node.UpNode.{UpNode}
 use Rattle.node_model.specs.declared.output.Output.{Output}
@@ -34,31 +33,6 @@ not_found s number now outcome v (Some o) fails = ap (λ b. if b then order.ende
 
 pub not_done : (s : ConfigState) (from number now : ℕ) (outcome : Outcome) (p : PresidentState) → order.is_due p.view from number ≡ false → with_done s from number outcome now p ≡ p
 not_done s from number now outcome p fails = ap (λ v. record p { view = v }) (not_found s number now outcome p.view (order_of p.view.outstanding from) fails)
-
--- What it leaves of the presidency, by whether it is outstanding.
-
-if_due : (due : Bool) (p q : Presidency) → due ≡ true → (if due then q else p) ≡ q
-if_due due p q is = ap (λ b. if b then q else p) is
-
-if_none : (due : Bool) (p q : Presidency) → due ≡ false → (if due then q else p) ≡ p
-if_none due p q is = ap (λ b. if b then q else p) is
-
-pub ended_due : (s : ConfigState) (from number now : ℕ) (outcome : Outcome) (p q : Presidency) (taken : Bool) → taken ≡ order.is_due p.groups.view from number → taken ≡ true
-    → q ≡ record p { groups = with_done s from number outcome now p.groups; sent = ages.with_ended p.sent from } → q ≡ ended_under s from number outcome now p
-unfolding ended_under
-ended_due s from number now outcome p q taken due is same =
-    same ∙ sym (if_due (order.is_due p.groups.view from number) p (record p { groups = with_done s from number outcome now p.groups; sent = ages.with_ended p.sent from }) (sym due ∙ is))
-
-pub ended_not : (s : ConfigState) (from number now : ℕ) (outcome : Outcome) (p q : Presidency) (taken : Bool) → taken ≡ order.is_due p.groups.view from number → taken ≡ false
-    → q ≡ record p { groups = with_done s from number outcome now p.groups } → q ≡ ended_under s from number outcome now p
-unfolding ended_under
-ended_not s from number now outcome p q taken due is same =
-    same ∙ ap (λ g. record p { groups = g }) (not_done s from number now outcome p.groups (sym due ∙ is))
-    ∙ sym (if_none (order.is_due p.groups.view from number) p (record p { groups = with_done s from number outcome now p.groups; sent = ages.with_ended p.sent from }) (sym due ∙ is))
-
-pub due_there : (from number : ℕ) (p : Presidency) (taken : Bool) → taken ≡ order.is_due p.groups.view from number → taken ≡ ends_at p from number
-unfolding ends_at
-due_there from number p taken is = is
 
 -- It counts.
 

@@ -106,7 +106,7 @@ fn take_outcome(
     Ok(taken)
 }
 
-#[tactic(auto, using(crate::proofs::Endings::ended_due, crate::proofs::Endings::ended_not, crate::proofs::Endings::due_there))]
+#[tactic(auto, using(crate::proofs::Endings::not_done), unfolding(crate::specs::Ending::ends_at, crate::specs::Ending::ended_under))]
 /// The same, where this is the configuration in force.
 fn end_under(
     alloc: Global,
@@ -120,14 +120,15 @@ fn end_under(
     ensures taken { IfOk result (λ taken. taken ≡ ends_at presidency.old from number) }
     ensures after { OnOk result (presidency.new ≡ ended_under config.now from number outcome now presidency.old) }
 {
-    let Ok(is_due) = presidency
+    match presidency
         .groups
         .done(alloc, from, number, outcome, config, now)
-    else {
-        return Err(AllocError);
-    };
-    if is_due {
-        presidency.sent.ended(from);
+    {
+        Ok(true) => {
+            presidency.sent.ended(from);
+            Ok(true)
+        }
+        Ok(false) => Ok(false),
+        Err(_) => Err(AllocError),
     }
-    Ok(is_due)
 }

@@ -40,7 +40,6 @@ pub fn checked(
 }
 
 /// How long the node's record may become without what one more update adds.
-#[tactic(auto, using(crate::proofs::Lengths::shortened, crate::proofs::Lengths::is_short))]
 fn record_length(alloc: Global, cluster: &Cluster, seat: &Seat) -> Result<u64, AllocError>
     ensures value { IfOk result (λ n. n ≡ length_at cluster.now seat.now) }
     ensures most { IfOk result (λ n. n ≤ most_bytes) }
