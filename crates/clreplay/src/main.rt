@@ -4,7 +4,7 @@
 ghost use Rattle.std.specs.Prelude.{◌≡◌, ◌≢◌, ◌⊎◌, ◌↔◌, map, None};
 ghost use Rattle.std.specs.String.{string_bytes};
 ghost use Rattle.replay.specs.Gens.{making_of};
-ghost use Rattle.replay.specs.Tasks.{task_of};
+ghost use Rattle.interpreter.specs.Tasks.{task_of};
 ghost use Rattle.replay.specs.Statuses.{code_of};
 ghost use Rattle.clreplay.specs.Exits.{IsExit, IsGenExit};
 
@@ -14,7 +14,8 @@ use agents::{EveryThird, Obedient, StockAgent};
 use cl_base::Name;
 use cl_io::{StdinSource, StdoutSink};
 use help::{Answer, early_answer};
-use replay::{Status, read_making, read_task, run_words};
+use interpreter::read_task;
+use replay::{Status, read_making, run_words};
 use std::alloc::Global;
 use std::io::ErrorKind;
 use std::process::ExitCode;

@@ -20,7 +20,7 @@ use Rattle.grammar_laws.proofs.Heads.{IsFineHead, IsFineState, head_fine, state_
 use Rattle.refinement.specs.Worlds.{IsNamed}
 use Rattle.run_history.specs.Telling.{IsInHeader}
 use Rattle.run_outcomes.specs.Traces.{IsPlain}
-use Rattle.replay.specs.Sessions.{first_so_far}
+use Rattle.interpreter.specs.Sessions.{first_so_far}
 use Rattle.replay.specs.Replays.{OfCluster, OfDevice, Schedule, behind, events_of, schedule_of, stepped, with_event}
 use Rattle.replay.specs.Histories.{AreAllowed}
 

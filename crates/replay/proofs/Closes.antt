@@ -5,20 +5,20 @@ use Rattle.std.specs.Io.KnownBytes.{Appends, Consumes, Keeps, IsAtEnd}
 use Rattle.agents.specs.Calls.{AgentState}
 use Rattle.cl_io.specs.Causes.{Rose, AppendsFront}
 use Rattle.cl_io.proofs.KnownLemmas.{appends_then, consumes_then, keeps_consumes}
-use Rattle.replay.specs.declared.reader.Reader as reader
+use Rattle.interpreter.specs.declared.reader.Reader as reader
 use Rattle.replay.specs.declared.status.Status.{Status}
 use Rattle.replay.specs.declared.status.Status.TheVariants as status
-use Rattle.replay.specs.declared.stop.Stop.{Stop}
-use Rattle.replay.specs.declared.stop.Stop.TheVariants as stop
-use Rattle.replay.specs.declared.task.Task.{Task}
-use Rattle.replay.specs.Sessions.{start}
-use Rattle.replay.specs.Outcomes.{Open, Outcome, outcome_of, whole_text, closing, after}
-use Rattle.replay.specs.Readers.{IsReader, Stops, TakesBytes, with_more, ending_of}
+use Rattle.interpreter.specs.declared.stop.Stop.{Stop}
+use Rattle.interpreter.specs.declared.stop.Stop.TheVariants as stop
+use Rattle.interpreter.specs.declared.task.Task.{Task}
+use Rattle.interpreter.specs.Sessions.{start}
+use Rattle.interpreter.specs.Outcomes.{Open, Outcome, outcome_of, whole_text, closing, after}
+use Rattle.interpreter.specs.Readers.{IsReader, Stops, TakesBytes, with_more, ending_of}
 use Rattle.replay.specs.Closings.{Closed, SinkCaused, status_of}
 use Rattle.replay.specs.Loops.{ReadsOn}
 use Rattle.replay.specs.Runs.{IsRun, IsCaused, ReadsNoFurther, Says, Writes}
-use Rattle.replay.proofs.Bytes.{after_after}
-use Rattle.replay.proofs.Ends.{is_open}
+use Rattle.interpreter.proofs.Bytes.{after_after}
+use Rattle.interpreter.proofs.Ends.{is_open}
 use Rattle.run_outcomes.specs.Traces.{TracesOfEachRun}
 use Rattle.replay.proofs.Histories.{tells_run}
 use Rattle.replay.proofs.Texts.{starts_with_behind, starts_with_front, starts_with_more}
@@ -115,13 +115,13 @@ wanted task agents left left' held held' now whole on =
     let all : outcome_of task agents false (on.taken ++ []) ≡ after on.written (with_more task false now []) = on.goes_on false [] in
     ap (λ (xs : List ℕ). (outcome_of task agents false xs).ending) (sym (append-nil on.taken)) ∙ (ap (λ (o : Outcome). o.ending) all ∙ ap (λ (o : Outcome). o.ending) (is_open task now whole))
 
-no_further : (task : Task) (agents : List AgentState) (left left' held held' : Option (List ℕ)) (now : reader.Reader) (piece : List ℕ) → IsReader now → (on : ReadsOn task agents left left' held held' now) → length piece ≤ 4096
+no_further : (task : Task) (agents : List AgentState) (left left' held held' : Option (List ℕ)) (now : reader.Reader) (piece : List ℕ) → IsReader now → (on : ReadsOn task agents left left' held held' now) → length piece ≤ 16384
     → ReadsNoFurther task agents (on.taken ++ piece)
 no_further task agents left left' held held' now piece whole on few = record { before = on.taken; last = piece; parts = refl; piece = few; wanted = wanted task agents left left' held held' now whole on }
 
 -- reading stopped, in a piece or at the end
 pub closed_run : TracesOfEachRun → (task : Task) (agents : List AgentState) (left left' left'' held held' held'' : Option (List ℕ)) (reads reads' writes writes' writes'' : ℕ) (now : reader.Reader) (piece : List ℕ) (ended : Bool) (why : Stop) (lines : ℕ) (text : List ℕ) (result : Status)
-    → ReadsOn task agents left left' held held' now → IsReader now → Consumes left' left'' piece → length piece ≤ 4096 → (ended ≡ true → IsAtEnd left'')
+    → ReadsOn task agents left left' held held' now → IsReader now → Consumes left' left'' piece → length piece ≤ 16384 → (ended ≡ true → IsAtEnd left'')
     → Stops why (with_more task ended now piece) lines text → reads' ≡ reads → writes' ≡ writes → Closed task why lines text result held' held'' writes' writes''
     → IsRun task agents left left'' held held'' reads reads' writes writes'' result
 closed_run traces task agents left left' left'' held held' held'' reads reads' writes writes' writes'' now piece ended why lines text result on whole consumed few gone stops same kept closed =
@@ -142,7 +142,7 @@ closed_run traces task agents left left' left'' held held' held'' reads reads' w
 
 -- in a piece
 pub closed_in : TracesOfEachRun → (A : Type 0) (task : Task) (agents : List AgentState) (left left' left'' held held' held'' : Option (List ℕ)) (reads reads' writes writes' writes'' : ℕ) (now last : reader.Reader) (piece : List ℕ) (why : Stop) (result : Status)
-    → ReadsOn task agents left left' held held' now → IsReader now → Consumes left' left'' piece → length piece ≤ 4096
+    → ReadsOn task agents left left' held held' now → IsReader now → Consumes left' left'' piece → length piece ≤ 16384
     → TakesBytes {A = A} task now piece (Err why) last → reads' ≡ reads → writes' ≡ writes → Closed task why last.lines last.text.items result held' held'' writes' writes''
     → IsRun task agents left left'' held held'' reads reads' writes writes'' result
 closed_in traces A task agents left left' left'' held held' held'' reads reads' writes writes' writes'' now last piece why result on whole consumed few taken same kept closed =
@@ -172,7 +172,7 @@ read_failed traces task agents left left' left'' held held' reads reads' writes 
 
 -- the sink failed at what a piece was answered
 pub write_failed : TracesOfEachRun → (A : Type 0) (done : A) (task : Task) (agents : List AgentState) (left left' left'' held held' held'' : Option (List ℕ)) (reads reads' writes writes' : ℕ) (now new : reader.Reader) (piece : List ℕ)
-    → ReadsOn task agents left left' held held' now → IsReader now → Consumes left' left'' piece → length piece ≤ 4096
+    → ReadsOn task agents left left' held held' now → IsReader now → Consumes left' left'' piece → length piece ≤ 16384
     → TakesBytes {A = A} task now piece (Ok done) new → reads' ≡ reads → AppendsFront held' held'' new.text.items → Rose writes writes'
     → IsRun task agents left left'' held held'' reads reads' writes writes' status.WriteFault
 write_failed traces A done task agents left left' left'' held held' held'' reads reads' writes writes' now new piece on whole consumed few taken same front rose =

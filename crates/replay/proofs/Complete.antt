@@ -6,17 +6,17 @@ use Rattle.std.proofs.lemmas.Bool.Decides.{nat_tests}
 use Rattle.std.proofs.lemmas.List.Splits.{length-slice_split, slice_split-cons_no, slice_split-cons_yes}
 use Rattle.agents.specs.Calls.{AgentState}
 use Rattle.cl_io.specs.Causes.{Rose}
-use Rattle.replay.specs.declared.session.State.{State}
+use Rattle.interpreter.specs.declared.session.State.{State}
 use Rattle.replay.specs.declared.status.Status.{Status}
 use Rattle.replay.specs.declared.status.Status.TheVariants as status
-use Rattle.replay.specs.declared.task.Task.{Task}
-use Rattle.replay.specs.Sessions.{Step, Goes, Finishes, Refuses, start, step}
-use Rattle.replay.specs.Outcomes.{Ending, Open, Ended, Refused, TooLarge, Outcome, after, is_too_large, onward, outcome, outcome_of, pieces, silent, whole_text}
+use Rattle.interpreter.specs.declared.task.Task.{Task}
+use Rattle.interpreter.specs.Sessions.{Step, Goes, Finishes, Refuses, start, step}
+use Rattle.interpreter.specs.Outcomes.{Ending, Open, Ended, Refused, TooLarge, Outcome, after, is_too_large, onward, outcome, outcome_of, pieces, silent, whole_text}
 use Rattle.replay.specs.Replays.{Completes}
 use Rattle.replay.specs.Runs.{IsCaused, Says, Writes}
 use Rattle.replay.specs.Gens.{counts_made, summary}
 use Rattle.replay.specs.Completeness.{GensAreComplete, IsComplete, RunsAreComplete, Stays}
-use Rattle.replay.proofs.Bytes.{too_large_piece}
+use Rattle.interpreter.proofs.Bytes.{too_large_piece}
 
 -- ---- the pieces of bytes behind bytes
 

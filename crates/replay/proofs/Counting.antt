@@ -5,7 +5,7 @@ use Rattle.std.proofs.lemmas.List.Sums.{sum_by-cons}
 use Rattle.std.proofs.lemmas.List.Splits.{slice_split_at, slice_split_none}
 use Rattle.replay.specs.declared.counts.Counts.{Counts}
 use Rattle.replay.specs.Gens.{counts_of, is_accepted, is_ack, is_call, is_refused, is_start}
-use Rattle.replay.specs.Outcomes.{pieces}
+use Rattle.interpreter.specs.Outcomes.{pieces}
 use Rattle.replay.specs.Tallies.{more_of, one_more_if, with_line, with_lines}
 
 -- one line more

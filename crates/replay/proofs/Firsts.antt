@@ -26,13 +26,13 @@ use Rattle.grammar_laws.proofs.Lengths.{commands_fit_their_lines}
 use Rattle.world_model.specs.First.{first_world}
 use Rattle.world_model.specs.Lines.{line_on}
 use Rattle.world_model.specs.Worlds.{WorldState, play}
-use Rattle.replay.specs.declared.session.Body.{Body}
-use Rattle.replay.specs.declared.session.Body.TheVariants.{Clustering, Replaying}
-use Rattle.replay.specs.declared.session.State.{State}
-use Rattle.replay.specs.declared.session.State.TheVariants.{Heading, Reading}
-use Rattle.replay.specs.declared.task.Task.TheVariants.{Run}
-use Rattle.replay.specs.Sessions.{body_of, clustered_by, entered, first_so_far, heading, replayed, step}
-use Rattle.replay.specs.Outcomes.{Open, Outcome, TooLarge, at_end, end_of, is_too_large, onward, outcome, silent}
+use Rattle.interpreter.specs.declared.session.Body.{Body}
+use Rattle.interpreter.specs.declared.session.Body.TheVariants.{Clustering, Replaying}
+use Rattle.interpreter.specs.declared.session.State.{State}
+use Rattle.interpreter.specs.declared.session.State.TheVariants.{Heading, Reading}
+use Rattle.interpreter.specs.declared.task.Task.TheVariants.{Run}
+use Rattle.interpreter.specs.Sessions.{body_of, clustered_by, entered, first_so_far, heading, replayed, step}
+use Rattle.interpreter.specs.Outcomes.{Open, Outcome, TooLarge, at_end, end_of, is_too_large, onward, outcome, silent}
 use Rattle.replay.specs.Replays.{OfCluster, OfDevice, Schedule, behind, entries, events_of, schedule_of, stepped, steps_of, texts_of, with_event, with_line}
 use Rattle.replay.proofs.Replays.{empty_outcome, last_outcome, line_outcome}
 

@@ -22,10 +22,10 @@ use Rattle.world_model.specs.Lines.{line_on}
 use Rattle.world_model.specs.Worlds.{Play, WorldState, play}
 use Rattle.run_history.proofs.Told.{worlds_are_told}
 use Rattle.run_outcomes.specs.Traces.{IsTrace, TracesOfEachRun}
-use Rattle.replay.specs.declared.task.Task.{Task}
-use Rattle.replay.specs.declared.task.Task.TheVariants.{Run}
-use Rattle.replay.specs.Sessions.{first_so_far}
-use Rattle.replay.specs.Outcomes.{outcome_of, pieces}
+use Rattle.interpreter.specs.declared.task.Task.{Task}
+use Rattle.interpreter.specs.declared.task.Task.TheVariants.{Run}
+use Rattle.interpreter.specs.Sessions.{first_so_far}
+use Rattle.interpreter.specs.Outcomes.{outcome_of, pieces}
 use Rattle.replay.specs.Replays.{OfCluster, OfDevice, Schedule, schedule_of, texts_of}
 use Rattle.replay.specs.Histories.{AreAllowed, TellsFirstOf, TellsHistory}
 use Rattle.replay.proofs.Allows.{IsAllowedSchedule, all_in_header, all_named, all_plain, first_allowed, schedule_allowed}

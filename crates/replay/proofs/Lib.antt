@@ -1,9 +1,7 @@
 pub mod Allows
-pub mod Bytes
 pub mod Closes
 pub mod Complete
 pub mod Counting
-pub mod Ends
 pub mod Firsts
 pub mod Fronts
 pub mod Histories
@@ -11,10 +9,8 @@ pub mod MadeHistories
 pub mod MadeLines
 pub mod MadeOutcomes
 pub mod MadeWords
-pub mod Pieces
 pub mod Plays
 pub mod Replays
-pub mod Rounds
 pub mod Summaries
 pub mod Texts
 pub mod WholeLines

@@ -21,9 +21,9 @@ use Rattle.world_model.specs.First.{first_world}
 use Rattle.replay.specs.declared.making.Making.{Making}
 use Rattle.replay.specs.Gens.{CountsHistory, counts_made, counts_of}
 use Rattle.replay.specs.Histories.{AreAllowed}
-use Rattle.replay.specs.Outcomes.{Outcome}
+use Rattle.interpreter.specs.Outcomes.{Outcome}
 use Rattle.replay.specs.Replays.{texts_of}
-use Rattle.replay.specs.Sessions.{first_so_far}
+use Rattle.interpreter.specs.Sessions.{first_so_far}
 use Rattle.run_outcomes.specs.Traces.{TracesOfEachRun}
 use Rattle.replay.proofs.Firsts.{short_line}
 use Rattle.replay.proofs.Histories.{trace_of}

@@ -6,13 +6,13 @@ use Rattle.schedule_gen.specs.Lines.{line_at}
 use Rattle.schedule_gen.specs.Progress.{Progress, after, next_of}
 use Rattle.replay.specs.declared.counts.Counts.{Counts}
 use Rattle.replay.specs.declared.counts.Tally as tally
-use Rattle.replay.specs.declared.reader.Reader as reader
-use Rattle.replay.specs.declared.stop.Stop.{Stop}
-use Rattle.replay.specs.declared.stop.Stop.TheVariants as stop
-use Rattle.replay.specs.declared.task.Task.TheVariants.{Run}
+use Rattle.interpreter.specs.declared.reader.Reader as reader
+use Rattle.interpreter.specs.declared.stop.Stop.{Stop}
+use Rattle.interpreter.specs.declared.stop.Stop.TheVariants as stop
+use Rattle.interpreter.specs.declared.task.Task.TheVariants.{Run}
 use Rattle.replay.specs.Gens.{ended}
-use Rattle.replay.specs.Outcomes.{Outcome}
-use Rattle.replay.specs.Readers.{Stops, with_more}
+use Rattle.interpreter.specs.Outcomes.{Outcome}
+use Rattle.interpreter.specs.Readers.{Stops, with_more}
 use Rattle.replay.specs.Tallies.{counts_from}
 
 -- the bytes of the lines that were not given yet

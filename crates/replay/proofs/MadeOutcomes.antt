@@ -22,14 +22,14 @@ use Rattle.world_model.specs.First.{first_world}
 use Rattle.world_model.specs.Lines.{line_on}
 use Rattle.world_model.specs.Worlds.{WorldState, play}
 use Rattle.replay.specs.declared.making.Making.{Making}
-use Rattle.replay.specs.declared.session.Body.TheVariants.{Clustering}
-use Rattle.replay.specs.declared.session.State.TheVariants.{Heading, Reading}
-use Rattle.replay.specs.declared.task.Task.TheVariants.{Run}
+use Rattle.interpreter.specs.declared.session.Body.TheVariants.{Clustering}
+use Rattle.interpreter.specs.declared.session.State.TheVariants.{Heading, Reading}
+use Rattle.interpreter.specs.declared.task.Task.TheVariants.{Run}
 use Rattle.replay.specs.Gens.{ended, made}
-use Rattle.replay.specs.Outcomes.{Ended, Outcome, after, outcome, outcome_of, pieces}
+use Rattle.interpreter.specs.Outcomes.{Ended, Outcome, after, outcome, outcome_of, pieces}
 use Rattle.replay.specs.Replays.{texts_of}
-use Rattle.replay.specs.Sessions.{first_so_far}
-use Rattle.replay.proofs.Bytes.{first_piece, not_large}
+use Rattle.interpreter.specs.Sessions.{first_so_far}
+use Rattle.interpreter.proofs.Bytes.{first_piece, not_large}
 use Rattle.replay.proofs.MadeWords.{AreFine, header_fine, lines_fine, plain_bytes}
 
 -- the pieces of lines that are ended: these lines, and nothing behind the last

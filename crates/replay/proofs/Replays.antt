@@ -27,12 +27,12 @@ use Rattle.schedule_text.specs.Headers.{HeaderStep, More, Over, Bad, header_step
 use Rattle.schedule_text.specs.Lines.{cluster_line_of, pr_line_of, so_far_after_event}
 use Rattle.status_report.specs.declared.entry.Entry.TheVariants.{Answered, Powered}
 use Rattle.status_report.specs.Lines.{printed}
-use Rattle.replay.specs.declared.session.Body.TheVariants.{Clustering, Replaying}
-use Rattle.replay.specs.declared.session.State.{State}
-use Rattle.replay.specs.declared.session.State.TheVariants.{Heading, Reading}
-use Rattle.replay.specs.declared.task.Task.TheVariants.{Run}
-use Rattle.replay.specs.Sessions.{clustered, clustered_by, first_so_far, moved, replayed, entered, body_of, heading, step}
-use Rattle.replay.specs.Outcomes.{Open, TooLarge, Outcome, outcome, silent, onward, is_too_large, at_end, end_of}
+use Rattle.interpreter.specs.declared.session.Body.TheVariants.{Clustering, Replaying}
+use Rattle.interpreter.specs.declared.session.State.{State}
+use Rattle.interpreter.specs.declared.session.State.TheVariants.{Heading, Reading}
+use Rattle.interpreter.specs.declared.task.Task.TheVariants.{Run}
+use Rattle.interpreter.specs.Sessions.{clustered, clustered_by, first_so_far, moved, replayed, entered, body_of, heading, step}
+use Rattle.interpreter.specs.Outcomes.{Open, TooLarge, Outcome, outcome, silent, onward, is_too_large, at_end, end_of}
 use Rattle.replay.specs.Replays.{Completes, TellsSchedule, events_of, texts_of, with_event, entries, answers_among, steps_of, with_line, schedule_of, stepped, behind}
 
 pub answers_are : (d : Device) (steps : List Step) → answers_among (entries d steps) ≡ run_answers d steps

@@ -10,7 +10,7 @@ use Rattle.replay.specs.declared.making.Making.{Making}
 use Rattle.replay.specs.declared.status.Status.{Status}
 use Rattle.replay.specs.declared.status.Status.TheVariants as status
 use Rattle.replay.specs.Gens.{CountsHistory, IsGen, counts_made, summary}
-use Rattle.replay.specs.Outcomes.{Ended}
+use Rattle.interpreter.specs.Outcomes.{Ended}
 use Rattle.replay.specs.Runs.{Says}
 use Rattle.replay.proofs.Texts.{starts_with_front, starts_with_nothing}
 

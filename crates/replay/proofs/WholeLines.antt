@@ -23,16 +23,16 @@ use Rattle.world_model.specs.First.{first_world}
 use Rattle.world_model.specs.Lines.{line_on}
 use Rattle.world_model.specs.Worlds.{WorldState, play}
 use Rattle.grammar_laws.specs.Reads.{LeadTo}
-use Rattle.replay.specs.declared.session.Body.TheVariants.{CheckingPr, CheckingCluster, Replaying, Clustering}
-use Rattle.replay.specs.declared.session.State.{State}
-use Rattle.replay.specs.declared.session.State.TheVariants.{Heading, Reading}
-use Rattle.replay.specs.declared.task.Task.{Task}
-use Rattle.replay.specs.declared.task.Task.TheVariants.{Run, Check}
-use Rattle.replay.specs.Sessions.{Step, Goes, Finishes, Refuses, body_of, checked_cluster, checked_pr, clustered_by, entered, first_so_far, replayed, step}
-use Rattle.replay.specs.Outcomes.{TooLarge, Outcome, after, at_end, end_of, is_too_large, onward, outcome, pieces, silent}
+use Rattle.interpreter.specs.declared.session.Body.TheVariants.{CheckingPr, CheckingCluster, Replaying, Clustering}
+use Rattle.interpreter.specs.declared.session.State.{State}
+use Rattle.interpreter.specs.declared.session.State.TheVariants.{Heading, Reading}
+use Rattle.interpreter.specs.declared.task.Task.{Task}
+use Rattle.interpreter.specs.declared.task.Task.TheVariants.{Run, Check}
+use Rattle.interpreter.specs.Sessions.{Step, Goes, Finishes, Refuses, body_of, checked_cluster, checked_pr, clustered_by, entered, first_so_far, replayed, step}
+use Rattle.interpreter.specs.Outcomes.{TooLarge, Outcome, after, at_end, end_of, is_too_large, onward, outcome, pieces, silent}
 use Rattle.replay.specs.Replays.{Completes}
 use Rattle.replay.specs.Completeness.{AreClusterLines, AreLinesBehind, ArePrLines, EndsBefore, IsClusterLine, IsPrLine, IsSchedule, IsShort, SchedulesEnd, lines_of}
-use Rattle.replay.proofs.Bytes.{not_large}
+use Rattle.interpreter.proofs.Bytes.{not_large}
 
 -- ---- line by line
 

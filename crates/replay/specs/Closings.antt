@@ -4,11 +4,11 @@ use Rattle.std.specs.Io.KnownBytes.{Appends}
 use Rattle.cl_io.specs.Causes.{Rose}
 use Rattle.replay.specs.declared.status.Status.{Status}
 use Rattle.replay.specs.declared.status.Status.TheVariants as status
-use Rattle.replay.specs.declared.stop.Stop.{Stop}
-use Rattle.replay.specs.declared.stop.Stop.TheVariants as stop
-use Rattle.replay.specs.declared.task.Task.{Task}
-use Rattle.replay.specs.Outcomes.{Outcome, whole_text}
-use Rattle.replay.specs.Readers.{Stops}
+use Rattle.interpreter.specs.declared.stop.Stop.{Stop}
+use Rattle.interpreter.specs.declared.stop.Stop.TheVariants as stop
+use Rattle.interpreter.specs.declared.task.Task.{Task}
+use Rattle.interpreter.specs.Outcomes.{Outcome, whole_text}
+use Rattle.interpreter.specs.Readers.{Stops}
 use Rattle.replay.specs.Runs.{Says, Writes}
 
 -- the status of a run that stops so

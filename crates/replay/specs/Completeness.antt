@@ -20,9 +20,9 @@ use Rattle.grammar_laws.specs.Reads.{LeadTo}
 use Rattle.replay.specs.declared.making.Making.{Making}
 use Rattle.replay.specs.declared.status.Status.{Status}
 use Rattle.replay.specs.declared.status.Status.TheVariants as status
-use Rattle.replay.specs.declared.task.Task.{Task}
-use Rattle.replay.specs.Sessions.{first_so_far}
-use Rattle.replay.specs.Outcomes.{outcome_of, pieces, whole_text}
+use Rattle.interpreter.specs.declared.task.Task.{Task}
+use Rattle.interpreter.specs.Sessions.{first_so_far}
+use Rattle.interpreter.specs.Outcomes.{outcome_of, pieces, whole_text}
 use Rattle.replay.specs.Replays.{Completes}
 use Rattle.replay.specs.Runs.{IsRun}
 use Rattle.replay.specs.Gens.{IsGen, counts_made, summary}

@@ -16,13 +16,13 @@ use Rattle.world_model.specs.First.{first_world}
 use Rattle.replay.specs.declared.counts.Counts.{Counts}
 use Rattle.replay.specs.declared.making.Making.{Making}
 use Rattle.replay.specs.declared.status.Status.{Status}
-use Rattle.replay.specs.declared.task.Task.TheVariants.{Run}
+use Rattle.interpreter.specs.declared.task.Task.TheVariants.{Run}
 use Rattle.run_outcomes.specs.Traces.{IsTrace}
 use Rattle.replay.specs.Histories.{AreAllowed}
-use Rattle.replay.specs.Outcomes.{Ended, outcome_of, pieces}
+use Rattle.interpreter.specs.Outcomes.{Ended, outcome_of, pieces}
 use Rattle.replay.specs.Replays.{texts_of}
 use Rattle.replay.specs.Runs.{IsCaused, Says, Writes}
-use Rattle.replay.specs.Sessions.{first_so_far}
+use Rattle.interpreter.specs.Sessions.{first_so_far}
 
 -- a number of 64 bits, written as the numbers of schedules are: decimal, without a leading zero
 abbrev pub within : Option Numeral → Option ℕ

@@ -15,8 +15,8 @@ use Rattle.status_report.specs.Lines.{printed}
 use Rattle.grammar_laws.specs.Reads.{HasSeconds, LacksServers}
 use Rattle.world_model.specs.First.{first_world}
 use Rattle.run_outcomes.specs.Traces.{IsTrace}
-use Rattle.replay.specs.Sessions.{first_so_far}
-use Rattle.replay.specs.Outcomes.{pieces}
+use Rattle.interpreter.specs.Sessions.{first_so_far}
+use Rattle.interpreter.specs.Outcomes.{pieces}
 use Rattle.replay.specs.Replays.{OfCluster, OfDevice, Schedule, entries, schedule_of, texts_of}
 
 -- each event is one that the header and the events before it allow, and its seconds have 64 bits

@@ -2,10 +2,10 @@
 use Rattle.std.specs.Prelude.{◌≡◌, ℕ, Bool, List, ◌++◌, Option}
 use Rattle.std.specs.Io.KnownBytes.{Appends, Consumes}
 use Rattle.agents.specs.Calls.{AgentState}
-use Rattle.replay.specs.declared.reader.Reader as reader
-use Rattle.replay.specs.declared.task.Task.{Task}
-use Rattle.replay.specs.Outcomes.{outcome_of, after}
-use Rattle.replay.specs.Readers.{with_more}
+use Rattle.interpreter.specs.declared.reader.Reader as reader
+use Rattle.interpreter.specs.declared.task.Task.{Task}
+use Rattle.interpreter.specs.Outcomes.{outcome_of, after}
+use Rattle.interpreter.specs.Readers.{with_more}
 
 pub record ReadsOn (task : Task) (agents : List AgentState) (left left' held held' : Option (List ℕ)) (now : reader.Reader) : Type 0 where
   pub taken : List ℕ

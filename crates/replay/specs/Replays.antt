@@ -24,11 +24,11 @@ use Rattle.schedule_text.specs.Lines.{cluster_line_of, pr_line_of, so_far_after_
 use Rattle.world_model.specs.First.{first_world}
 use Rattle.world_model.specs.Lines.{line_on}
 use Rattle.world_model.specs.Worlds.{WorldState, play}
-use Rattle.replay.specs.Sessions.{first_so_far}
+use Rattle.interpreter.specs.Sessions.{first_so_far}
 use Rattle.status_report.specs.declared.entry.Entry.{Entry}
 use Rattle.status_report.specs.declared.entry.Entry.TheVariants as entry
 use Rattle.status_report.specs.Lines.{printed}
-use Rattle.replay.specs.Outcomes.{Ending, Open, Ended, Refused, TooLarge, pieces}
+use Rattle.interpreter.specs.Outcomes.{Ending, Open, Ended, Refused, TooLarge, pieces}
 
 -- a reservation schedule: the nodes that have a path to the device, and what happens to it; or a cluster schedule: its
 -- header, and its events

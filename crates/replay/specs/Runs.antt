@@ -6,10 +6,10 @@ use Rattle.cl_io.specs.Causes.{Rose}
 use Rattle.agents.specs.Calls.{AgentState}
 use Rattle.replay.specs.declared.status.Status.{Status}
 use Rattle.replay.specs.declared.status.Status.TheVariants as status
-use Rattle.replay.specs.declared.task.Task.{Task}
-use Rattle.replay.specs.declared.task.Task.TheVariants.{Run}
+use Rattle.interpreter.specs.declared.task.Task.{Task}
+use Rattle.interpreter.specs.declared.task.Task.TheVariants.{Run}
 use Rattle.replay.specs.Histories.{TellsHistory}
-use Rattle.replay.specs.Outcomes.{Ending, Open, Ended, Refused, TooLarge, outcome_of, whole_text}
+use Rattle.interpreter.specs.Outcomes.{Ending, Open, Ended, Refused, TooLarge, outcome_of, whole_text}
 
 -- what the status says of an ending
 abbrev pub Says : Status → Ending → Type 0
@@ -34,13 +34,13 @@ IsCaused status.ReadFault reads reads' writes writes' = Rose reads reads' × (wr
 IsCaused status.WriteFault reads reads' writes writes' = (reads' ≡ reads) × Rose writes writes'
 IsCaused _ reads reads' writes writes' = (reads' ≡ reads) × (writes' ≡ writes)
 
--- Nothing is read behind a line that ends the reading, but what came with it in a piece of at most 4,096 bytes: without
+-- Nothing is read behind a line that ends the reading, but what came with it in a piece of at most 16,384 bytes: without
 -- the last piece more was wanted.
 pub record ReadsNoFurther (task : Task) (agents : List AgentState) (taken : List ℕ) : Type 0 where
   pub before : List ℕ
   pub last : List ℕ
   pub parts : taken ≡ before ++ last
-  pub piece : length last ≤ 4096
+  pub piece : length last ≤ 16384
   pub wanted : (outcome_of task agents false before).ending ≡ Open
 
 -- The bytes taken from the source have an outcome, which the status and the bytes written tell; under `run` its text is a

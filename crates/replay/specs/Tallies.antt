@@ -3,7 +3,7 @@ use Rattle.std.specs.Prelude.{◌≡◌, ℕ, ◌+◌, ◌-◌, ◌^◌, ◌==�
 use Rattle.replay.specs.declared.counts.Counts.{Counts}
 use Rattle.replay.specs.declared.counts.Tally as tally
 use Rattle.replay.specs.Gens.{is_accepted, is_ack, is_call, is_refused, is_start}
-use Rattle.replay.specs.Outcomes.{pieces}
+use Rattle.interpreter.specs.Outcomes.{pieces}
 
 abbrev pub one_more_if : Bool → ℕ → ℕ
 one_more_if true count = min (count + 1) (2 ^ 64 - 1)

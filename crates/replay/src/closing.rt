@@ -1,10 +1,9 @@
 ghost use Rattle.std.specs.Prelude.{◌≡◌, ◌++◌, IfOk, OnOk};
 ghost use Rattle.std.specs.String.{string_bytes};
-ghost use Rattle.replay.specs.Outcomes.{closing, kind_text, Refused};
-ghost use Rattle.replay.specs.Readers.{ending_of};
+ghost use Rattle.interpreter.specs.Outcomes.{closing, kind_text, Refused};
+ghost use Rattle.interpreter.specs.Readers.{ending_of};
 
-use crate::stop::Stop;
-use crate::task::Task;
+use interpreter::{Stop, Task};
 use schedule_text::Kind;
 use std::alloc::{AllocError, Global};
 

@@ -6,27 +6,22 @@ ghost use Rattle.agents.specs.Stock.{kept_of, name_of};
 ghost use Rattle.cl_io.specs.Causes.{HasCause};
 ghost use Rattle.std.specs.String.{string_bytes};
 ghost use Rattle.replay.specs.declared.making.Making.{Making};
-ghost use Rattle.replay.specs.declared.task.Task.{Task};
+ghost use Rattle.interpreter.specs.declared.task.Task.{Task};
 ghost use Rattle.replay.specs.Gens.{IsGen, making_of};
 ghost use Rattle.replay.specs.Runs.{IsRun};
 ghost use Rattle.replay.specs.Closings.{Closed, status_of};
-ghost use Rattle.replay.specs.Tasks.{task_of};
+ghost use Rattle.interpreter.specs.Tasks.{task_of};
 
 use crate::closing::push_closing;
 use crate::generating::generate;
 use crate::making::read_making;
-use crate::reader::Reader;
 use crate::status::Status;
-use crate::stop::Stop;
-use crate::task::{Task, read_task};
 use agents::StockAgent;
 use cl_io::{Failed, Sink, Source, write_all};
+use interpreter::{LONGEST_PIECE, Reader, Stop, Task, read_task};
 use run_outcomes::traces_of_each_run;
 use std::alloc::Global;
 use world::Agents;
-
-/// The most bytes that are asked of the source at once.
-const PIECE: usize = 4_096;
 
 /// Does what the words ask for: replays the schedule that the source gives and writes the trace to
 /// the sink, or checks it, or makes a schedule, replays it and writes a summary of its trace. What the
@@ -79,7 +74,7 @@ fn run<S: Source, K: Sink>(
         return Status::NoMemory;
     };
     let mut reader = reader;
-    let mut buffer = [0; PIECE];
+    let mut buffer = [0; LONGEST_PIECE];
     'pieces: loop {
         let size = reader.piece_size();
         let count = match read_some(source, &mut buffer, size) {

@@ -1,18 +1,16 @@
 ghost use Rattle.std.specs.Prelude.{◌≡◌, ◌≤◌, ℕ, List, ◌++◌, ◌∷◌, [], Option, IfOk, OnOk};
 ghost use Rattle.std.specs.String.{string_bytes};
-ghost use Rattle.replay.specs.declared.task.Task.TheVariants.{Run};
+ghost use Rattle.interpreter.specs.declared.task.Task.TheVariants.{Run};
 ghost use Rattle.replay.specs.Gens.{IsGen, counted, counts_made, summary};
-ghost use Rattle.replay.specs.Outcomes.{Outcome};
-ghost use Rattle.replay.specs.Readers.{IsReader, Stops, TakesBytes};
+ghost use Rattle.interpreter.specs.Outcomes.{Outcome};
+ghost use Rattle.interpreter.specs.Readers.{IsReader, Stops, TakesBytes};
 ghost use Rattle.replay.specs.Tallies.{IsTally, counts_from};
 
 use crate::counts::{Counts, Tally};
 use crate::making::Making;
-use crate::reader::Reader;
 use crate::status::Status;
-use crate::stop::Stop;
-use crate::task::Task;
 use cl_io::{Sink, write_all};
+use interpreter::{Reader, Stop, Task};
 use run_outcomes::traces_of_each_run;
 use schedule_gen::Gen;
 use std::alloc::{AllocError, Global};

@@ -11,9 +11,9 @@ ghost use Rattle.world_model.specs.First.{first_world};
 ghost use Rattle.replay.specs.declared.making.Making.{Making};
 ghost use Rattle.replay.specs.Completeness.{GensAreComplete, RunsAreComplete, SchedulesEnd};
 ghost use Rattle.replay.specs.Gens.{made};
-ghost use Rattle.replay.specs.Outcomes.{Ended, outcome_of};
+ghost use Rattle.interpreter.specs.Outcomes.{Ended, outcome_of};
 ghost use Rattle.replay.specs.Replays.{Completes, TellsReplay, entries, answers_among, texts_of};
-ghost use Rattle.replay.specs.declared.task.Task.TheVariants.{Run};
+ghost use Rattle.interpreter.specs.declared.task.Task.TheVariants.{Run};
 
 /// A `run` that reads its schedule to the end writes what is answered to it. Of a reservation schedule
 /// that is what the device, step by step, answers to its commands and losses of power, one line each;

@@ -8,11 +8,7 @@ mod driver;
 mod generating;
 mod law;
 mod making;
-mod reader;
-mod session;
 mod status;
-mod stop;
-mod task;
 
 pub use driver::run_words;
 pub use law::{
@@ -21,4 +17,3 @@ pub use law::{
 };
 pub use making::{Making, read_making};
 pub use status::Status;
-pub use task::{Task, read_task};

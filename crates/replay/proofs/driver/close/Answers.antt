@@ -1,6 +1,6 @@
 use Rattle.std.proofs.Common.{rules, ◌≡◌, ◌++◌, ◌∙◌}
-use Rattle.replay.specs.Outcomes.{closing}
-use Rattle.replay.specs.Readers.{ending_of}
+use Rattle.interpreter.specs.Outcomes.{closing}
+use Rattle.interpreter.specs.Readers.{ending_of}
 use Rattle.replay.proofs.Closes.{close_without_memory, close_failed}
 use Rattle.replay.proofs.driver.close.Goals as goal
 

@@ -1,7 +1,7 @@
 use Rattle.std.proofs.Common.{rules, ◌≡◌, List, [], ℕ, take, true, refl, subst, ◌∙◌, arith}
 use Rattle.std.specs.Io.KnownBytes.{Appends}
 use Rattle.cl_io.specs.Causes.{Rose, AppendsFront}
-use Rattle.replay.specs.declared.reader.Reader as reader
+use Rattle.interpreter.specs.declared.reader.Reader as reader
 use Rattle.replay.proofs.Closes.{read_failed, closed_run, closed_in, write_failed, read_more, flushed, short_take, none_taken}
 use Rattle.replay.proofs.driver.run.Goals as goal
 
@@ -22,14 +22,14 @@ returns-then-count-eq0 g c = record {
 pub returns-in-Err-take_piece : goal.returns-in-Err-take_piece
 returns-in-Err-take_piece g c = record {
   run = closed_in c.traces_of_each_run.ensures (Unit {0}) c.args.task c.args.agents _ _ _ _ _ _ _ _ _ _ _ c.pieces.reader c.take_piece.new.self (take c.in-Ok-read_some.count c.read_some.new.buffer) c.in-Err-take_piece.stop c.close-in-Err-take_piece.result
-      c.pieces.invariant.reads c.pieces.invariant.whole c.in-Ok-read_some.ensures.bytes.0 (short_take c.in-Ok-read_some.count 4096 c.read_some.new.buffer (omega (arith, c.read_some.ensures.length)))
+      c.pieces.invariant.reads c.pieces.invariant.whole c.in-Ok-read_some.ensures.bytes.0 (short_take c.in-Ok-read_some.count 16384 c.read_some.new.buffer (omega (arith, c.read_some.ensures.length)))
       c.in-Err-take_piece.ensures.taken (c.in-Ok-read_some.ensures.same ∙ c.pieces.invariant.source) c.pieces.invariant.sink c.close-in-Err-take_piece.ensures.closed;
 }
 
 pub returns-in-Err-write_all : goal.returns-in-Err-write_all
 returns-in-Err-write_all g c = record {
   run = write_failed c.traces_of_each_run.ensures (Unit {0}) c.in_default-take_piece.field-0 c.args.task c.args.agents _ _ _ _ _ _ _ _ _ _ c.pieces.reader c.take_piece.new.self (take c.in-Ok-read_some.count c.read_some.new.buffer)
-      c.pieces.invariant.reads c.pieces.invariant.whole c.in-Ok-read_some.ensures.bytes.0 (short_take c.in-Ok-read_some.count 4096 c.read_some.new.buffer (omega (arith, c.read_some.ensures.length)))
+      c.pieces.invariant.reads c.pieces.invariant.whole c.in-Ok-read_some.ensures.bytes.0 (short_take c.in-Ok-read_some.count 16384 c.read_some.new.buffer (omega (arith, c.read_some.ensures.length)))
       c.in_default-take_piece.ensures.taken (c.in-Ok-read_some.ensures.same ∙ c.pieces.invariant.source)
       (subst (λ (t : List ℕ). AppendsFront (g.K.Sink.held c.pieces.sink) (g.K.Sink.held c.write_all.new.sink) t) c.as_slice.ensures.value c.in-Err-write_all.ensures.err)
       (subst (λ n. Rose n (g.K.Sink.faults c.write_all.new.sink)) c.pieces.invariant.sink c.in-Err-write_all.ensures.cause.failed);

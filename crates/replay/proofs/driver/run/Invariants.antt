@@ -1,5 +1,5 @@
 use Rattle.std.proofs.Common.{◌≡◌, []}
-use Rattle.replay.specs.Readers.{IsReader, room}
+use Rattle.interpreter.specs.Readers.{IsReader, room}
 use Rattle.replay.specs.Loops.{ReadsOn}
 use Rattle.replay.proofs.driver.run.Given as goal
 

@@ -1,8 +1,8 @@
 use Rattle.std.proofs.Common.{rules, ◌≡◌, ◌++◌, ◌∷◌, [], List, ℕ, Some, None, true, refl, sym, ap, ◌∙◌, subst}
 use Rattle.schedule_gen.specs.Progress.{after, next_of}
-use Rattle.replay.specs.declared.reader.Reader as reader
-use Rattle.replay.specs.declared.task.Task.TheVariants.{Run}
-use Rattle.replay.specs.Readers.{with_more}
+use Rattle.interpreter.specs.declared.reader.Reader as reader
+use Rattle.interpreter.specs.declared.task.Task.TheVariants.{Run}
+use Rattle.interpreter.specs.Readers.{with_more}
 use Rattle.replay.specs.Tallies.{counts_from}
 use Rattle.replay.proofs.MadeLines.{counted_stop, line_counted, line_given, none_given, rest_of, within}
 use Rattle.replay.proofs.generating.replay_made.Goals as goal

@@ -1,7 +1,7 @@
 use Rattle.std.proofs.Common.{◌≡◌, ◌≤◌, ◌+◌, ◌-◌, true, []}
-use Rattle.replay.specs.declared.task.Task.TheVariants.{Run}
+use Rattle.interpreter.specs.declared.task.Task.TheVariants.{Run}
 use Rattle.replay.specs.Gens.{counts_made}
-use Rattle.replay.specs.Readers.{IsReader, with_more}
+use Rattle.interpreter.specs.Readers.{IsReader, with_more}
 use Rattle.replay.specs.Tallies.{IsTally, counts_from}
 use Rattle.replay.proofs.MadeLines.{rest_of}
 use Rattle.replay.proofs.generating.replay_made.Given as goal

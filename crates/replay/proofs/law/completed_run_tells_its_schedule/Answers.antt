@@ -1,7 +1,7 @@
 use Rattle.std.specs.Prelude.{ℕ, List}
 use Rattle.agents.specs.Calls.{AgentState}
 use Rattle.schedule_text.specs.declared.header.HeaderState.TheVariants.{Opening}
-use Rattle.replay.specs.Outcomes.{pieces}
+use Rattle.interpreter.specs.Outcomes.{pieces}
 use Rattle.replay.proofs.Replays.{head_completes}
 use Rattle.replay.proofs.law.completed_run_tells_its_schedule.Goals as goal
 

@@ -3,9 +3,9 @@ ghost use Rattle.std.specs.String.{string_bytes};
 ghost use Rattle.schedule_text.specs.Allowed.{IsAllowedEvent, IsHeader};
 ghost use Rattle.schedule_text.specs.Headers.{head_of, header_step};
 ghost use Rattle.schedule_text.specs.Lines.{pr_line_of, cluster_line_of, so_far_after_event};
-ghost use Rattle.replay.specs.declared.session.Body.TheVariants.{CheckingPr, CheckingCluster, Replaying, Clustering};
-ghost use Rattle.replay.specs.declared.session.State.TheVariants.{Reading};
-ghost use Rattle.replay.specs.Sessions.{Answers, Enters, first_so_far, step, body_step, body_of, checked_pr, checked_cluster, clustered, event_done, replayed};
+ghost use Rattle.interpreter.specs.declared.session.Body.TheVariants.{CheckingPr, CheckingCluster, Replaying, Clustering};
+ghost use Rattle.interpreter.specs.declared.session.State.TheVariants.{Reading};
+ghost use Rattle.interpreter.specs.Sessions.{Answers, Enters, first_so_far, step, body_step, body_of, checked_pr, checked_cluster, clustered, event_done, replayed};
 ghost use Rattle.world_model.specs.First.{first_world};
 
 use crate::stop::Stop;
@@ -16,7 +16,7 @@ use schedule_text::{
     ClusterLine, Event, Head, HeaderReader, PrLine, ReadError, SoFar, read_cluster_line,
     read_pr_line,
 };
-use status_report::{print_answer, print_powered};
+use status_report::{print_powered, print_reply};
 use std::alloc::{AllocError, Global};
 use std::mem;
 use world::{Agents, World};
@@ -71,9 +71,9 @@ pub fn answer(
 ) -> Result<(), Stop>
     ensures { Answers result (step task state.old line.now) state.new text.old.items text.new.items }
 {
-    // The state of a header is large; the lines behind it do not pay for room for it.
-    if let State::Reading(body) = state {
-        return body.answer(alloc, line, text, words);
+    // The state of a header is large: the many short lines of a reservation schedule do not pay for room for it.
+    if let State::Reading(Body::Replaying(device)) = state {
+        return replay(device, line, text, words);
     }
     answer_in_any(alloc, task, state, line, text, words)
 }
@@ -219,16 +219,12 @@ fn replay(device: &mut Pgr, line: &[u8], text: &mut Vec<u8>, words: &mut String)
         PrLine::Blank => Ok(()),
         PrLine::Power => {
             device.power_loss();
-            words.clear();
-            print_powered(words)?;
-            text.extend_from_slice(words.as_bytes())?;
+            print_powered(text)?;
             Ok(())
         }
         PrLine::Command { sender, command } => {
-            let answer = device.execute(sender, command);
-            words.clear();
-            print_answer(words, answer)?;
-            text.extend_from_slice(words.as_bytes())?;
+            let reply = device.reply(sender, command);
+            print_reply(text, words, device, reply)?;
             Ok(())
         }
     }

@@ -1,7 +1,7 @@
 use Rattle.std.proofs.Common.{◌<◌, ◌+◌, ◌-◌, length, Ok, Err, arith, length-drop}
 use Rattle.std.proofs.lemmas.List.{take_rest}
-use Rattle.replay.proofs.Pieces.{cut_length, line_read, stopped_whole, rest_held}
-use Rattle.replay.proofs.reader.Reader.take_piece.Goals as goal
+use Rattle.interpreter.proofs.Pieces.{cut_length, line_read, stopped_whole, rest_held}
+use Rattle.interpreter.proofs.reader.Reader.take_piece.Goals as goal
 
 pub returns-in-Err-clause-taken : goal.returns-in-Err-clause-taken
 returns-in-Err-clause-taken c =

@@ -1,7 +1,7 @@
 use Rattle.std.proofs.Common.{◌++◌, arith, inl, inr, length-append, sym, ◌∙◌}
-use Rattle.replay.proofs.Bytes.{held_stops, is_large, some_bytes}
-use Rattle.replay.proofs.reader.Reader.hold.Goals as goal
-use Rattle.replay.proofs.reader.Reader.hold.Goals.{then-self-ge-MOST_LINES-via-then-self-ge-MOST_LINES, then-self-ge-MOST_LINES-via-else-self-ge-MOST_LINES+then-beginning-len}
+use Rattle.interpreter.proofs.Bytes.{held_stops, is_large, some_bytes}
+use Rattle.interpreter.proofs.reader.Reader.hold.Goals as goal
+use Rattle.interpreter.proofs.reader.Reader.hold.Goals.{then-self-ge-MOST_LINES-via-then-self-ge-MOST_LINES, then-self-ge-MOST_LINES-via-else-self-ge-MOST_LINES+then-beginning-len}
 
 pub returns-then-self-ge-MOST_LINES-clause-taken : goal.returns-then-self-ge-MOST_LINES-clause-taken
 returns-then-self-ge-MOST_LINES-clause-taken c =

@@ -1,13 +1,13 @@
 -- What it means to take a line, or bytes, and what is told of the outcome then.
 use Rattle.std.specs.Prelude.{◌≡◌, ◌≢◌, ℕ, ◌+◌, ◌-◌, ◌*◌, ◌<◌, ◌≤◌, Bool, true, false, List, [], ◌++◌, length, All, Result, Ok, Err, OnOk}
 use Rattle.schedule_text.specs.declared.kind.Kind.{Kind}
-use Rattle.replay.specs.declared.reader.Reader as reader
-use Rattle.replay.specs.declared.session.Body.{Body}
-use Rattle.replay.specs.declared.stop.Stop.{Stop}
-use Rattle.replay.specs.declared.stop.Stop.TheVariants as stop
-use Rattle.replay.specs.declared.task.Task.{Task}
-use Rattle.replay.specs.Sessions.{Answers, step}
-use Rattle.replay.specs.Outcomes.{Ending, Open, Ended, Refused, TooLarge, Outcome, outcome, pieces, after, is_too_large, at_end, end_of}
+use Rattle.interpreter.specs.declared.reader.Reader as reader
+use Rattle.interpreter.specs.declared.session.Body.{Body}
+use Rattle.interpreter.specs.declared.stop.Stop.{Stop}
+use Rattle.interpreter.specs.declared.stop.Stop.TheVariants as stop
+use Rattle.interpreter.specs.declared.task.Task.{Task}
+use Rattle.interpreter.specs.Sessions.{Answers, step}
+use Rattle.interpreter.specs.Outcomes.{Ending, Open, Ended, Refused, TooLarge, Outcome, outcome, pieces, after, is_too_large, at_end, end_of}
 
 -- what is held has no newline, and no more than a line; there are not too many lines
 abbrev pub IsReader : reader.Reader → Type 0

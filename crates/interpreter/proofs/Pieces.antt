@@ -3,11 +3,11 @@ use Rattle.std.proofs.Common.{◌≡◌, ◌≢◌, ℕ, ◌+◌, ◌-◌, ◌<�
 use Rattle.std.proofs.Math.Seq.{take-add}
 use Rattle.std.proofs.lemmas.List.{take_more, take_rest, take-append-drop, length-take-le}
 use Rattle.std.proofs.lemmas.List.Elements.{All-append}
-use Rattle.replay.specs.declared.stop.Stop.{Stop}
-use Rattle.replay.specs.declared.reader.Reader as reader
-use Rattle.replay.specs.declared.task.Task.{Task}
-use Rattle.replay.specs.Readers.{TakesLine, TakesBytes}
-use Rattle.replay.proofs.Bytes.{line_bytes, bytes_then, stop_more, plain_tests}
+use Rattle.interpreter.specs.declared.stop.Stop.{Stop}
+use Rattle.interpreter.specs.declared.reader.Reader as reader
+use Rattle.interpreter.specs.declared.task.Task.{Task}
+use Rattle.interpreter.specs.Readers.{TakesLine, TakesBytes}
+use Rattle.interpreter.proofs.Bytes.{line_bytes, bytes_then, stop_more, plain_tests}
 
 line_shape : (piece : List ℕ) (at n : ℕ) → n < length (drop at piece) → slice_index (drop at piece) n ≡ 10
     → take (at + (n + 1)) piece ≡ take at piece ++ (take n (drop at piece) ++ (10 ∷ []))

@@ -1,6 +1,6 @@
 use Rattle.std.proofs.Common.{rules, ◌<◌}
-use Rattle.replay.proofs.Rounds.{rounds_fit}
-use Rattle.replay.proofs.session.moved_on.Goals as goal
+use Rattle.interpreter.proofs.Rounds.{rounds_fit}
+use Rattle.interpreter.proofs.session.moved_on.Goals as goal
 
 pub after_event-requires : goal.after_event-requires
 after_event-requires c =

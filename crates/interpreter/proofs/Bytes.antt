@@ -4,14 +4,14 @@ use Rattle.std.specs.List.{onto_first}
 use Rattle.std.proofs.lemmas.List.Splits.{slice_split_at, length-slice_split, slice_split-cons_no}
 use Rattle.std.proofs.lemmas.List.Elements.{All-tail, All-append}
 use Rattle.std.proofs.lemmas.Bool.Decides.{nat_tests}
-use Rattle.replay.specs.declared.stop.Stop.{Stop}
-use Rattle.replay.specs.declared.stop.Stop.TheVariants as stop
-use Rattle.replay.specs.declared.session.State.{State}
-use Rattle.replay.specs.declared.reader.Reader as reader
-use Rattle.replay.specs.declared.task.Task.{Task}
-use Rattle.replay.specs.Sessions.{Step, Goes, Finishes, Refuses, Answers, step}
-use Rattle.replay.specs.Outcomes.{Ending, TooLarge, Outcome, outcome, pieces, after, silent, onward, is_too_large}
-use Rattle.replay.specs.Readers.{TakesLine, TakesBytes, Tells, Stops, with_more}
+use Rattle.interpreter.specs.declared.stop.Stop.{Stop}
+use Rattle.interpreter.specs.declared.stop.Stop.TheVariants as stop
+use Rattle.interpreter.specs.declared.session.State.{State}
+use Rattle.interpreter.specs.declared.reader.Reader as reader
+use Rattle.interpreter.specs.declared.task.Task.{Task}
+use Rattle.interpreter.specs.Sessions.{Step, Goes, Finishes, Refuses, Answers, step}
+use Rattle.interpreter.specs.Outcomes.{Ending, TooLarge, Outcome, outcome, pieces, after, silent, onward, is_too_large}
+use Rattle.interpreter.specs.Readers.{TakesLine, TakesBytes, Tells, Stops, with_more}
 
 some_pieces : (bytes : List ℕ) → (length (pieces bytes) == 0) ≡ false
 some_pieces bytes = rw (length-slice_split (λ b. b == 10) bytes) (grind (arith, nat_tests))

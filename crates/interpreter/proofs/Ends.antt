@@ -2,15 +2,15 @@
 use Rattle.std.proofs.Common.{◌≡◌, ℕ, ◌+◌, ◌==◌, Bool, true, false, List, [], ◌∷◌, ◌++◌, length, Result, Ok, Err, OnOk, refl, sym, ap, subst, ◌∙◌, append-nil}
 use Rattle.std.proofs.lemmas.List.Splits.{slice_split_none}
 use Rattle.schedule_text.specs.declared.kind.Kind.{Kind}
-use Rattle.replay.specs.declared.stop.Stop.{Stop}
-use Rattle.replay.specs.declared.stop.Stop.TheVariants as stop
-use Rattle.replay.specs.declared.reader.Reader as reader
-use Rattle.replay.specs.declared.session.Body.{Body}
-use Rattle.replay.specs.declared.task.Task.{Task}
-use Rattle.replay.specs.Sessions.{step}
-use Rattle.replay.specs.Outcomes.{Open, Ended, Refused, Outcome, outcome, pieces, after, silent, onward, at_end, end_of, is_too_large}
-use Rattle.replay.specs.Readers.{IsReader, TakesLine, TakesLast, EndsWith, Stops, with_more}
-use Rattle.replay.proofs.Bytes.{after_silent, answered, stopped, plain_tests, not_large, some_bytes}
+use Rattle.interpreter.specs.declared.stop.Stop.{Stop}
+use Rattle.interpreter.specs.declared.stop.Stop.TheVariants as stop
+use Rattle.interpreter.specs.declared.reader.Reader as reader
+use Rattle.interpreter.specs.declared.session.Body.{Body}
+use Rattle.interpreter.specs.declared.task.Task.{Task}
+use Rattle.interpreter.specs.Sessions.{step}
+use Rattle.interpreter.specs.Outcomes.{Open, Ended, Refused, Outcome, outcome, pieces, after, silent, onward, at_end, end_of, is_too_large}
+use Rattle.interpreter.specs.Readers.{IsReader, TakesLine, TakesLast, EndsWith, Stops, with_more}
+use Rattle.interpreter.proofs.Bytes.{after_silent, answered, stopped, plain_tests, not_large, some_bytes}
 
 -- what is held is one piece
 one_piece : (now : reader.Reader) → IsReader now → pieces (now.held.items ++ []) ≡ now.held.items ∷ []

@@ -25,14 +25,14 @@ use Rattle.status_report.specs.Lines.{printed}
 use Rattle.world_model.specs.First.{first_world}
 use Rattle.world_model.specs.Lines.{line_on}
 use Rattle.world_model.specs.Worlds.{Play, WorldState, play}
-use Rattle.replay.specs.declared.session.State.{State}
-use Rattle.replay.specs.declared.session.State.TheVariants.{Heading, Reading}
-use Rattle.replay.specs.declared.session.Body.{Body}
-use Rattle.replay.specs.declared.session.Body.TheVariants.{CheckingPr, CheckingCluster, Replaying, Clustering}
-use Rattle.replay.specs.declared.stop.Stop.{Stop}
-use Rattle.replay.specs.declared.stop.Stop.TheVariants as stop
-use Rattle.replay.specs.declared.task.Task.{Task}
-use Rattle.replay.specs.declared.task.Task.TheVariants.{Run, Check}
+use Rattle.interpreter.specs.declared.session.State.{State}
+use Rattle.interpreter.specs.declared.session.State.TheVariants.{Heading, Reading}
+use Rattle.interpreter.specs.declared.session.Body.{Body}
+use Rattle.interpreter.specs.declared.session.Body.TheVariants.{CheckingPr, CheckingCluster, Replaying, Clustering}
+use Rattle.interpreter.specs.declared.stop.Stop.{Stop}
+use Rattle.interpreter.specs.declared.stop.Stop.TheVariants as stop
+use Rattle.interpreter.specs.declared.task.Task.{Task}
+use Rattle.interpreter.specs.declared.task.Task.TheVariants.{Run, Check}
 
 -- a line leads to a state and writes a text, ends the schedule, or is refused
 pub data Step : Type 0 where

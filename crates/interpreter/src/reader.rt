@@ -1,14 +1,15 @@
 ghost use Rattle.std.specs.Prelude.{◌≡◌, ◌≢◌, ◌<◌, ◌≤◌, ◌+◌, ◌++◌, [], length, take, slice_index, All, OnOk, IfOk, MatchOption, true};
 ghost use Rattle.std.specs.String.{string_bytes};
 ghost use Rattle.schedule_text.specs.declared.header.HeaderState.TheVariants.{Opening};
-ghost use Rattle.replay.specs.declared.session.State.TheVariants.{Heading};
-ghost use Rattle.replay.specs.Outcomes.{at_end};
-ghost use Rattle.replay.specs.Readers.{IsReader, TakesLine, TakesBytes, TakesLast, Stops, EndsWith, with_more, room};
+ghost use Rattle.interpreter.specs.declared.session.State.TheVariants.{Heading};
+ghost use Rattle.interpreter.specs.Outcomes.{at_end};
+ghost use Rattle.interpreter.specs.Readers.{IsReader, TakesLine, TakesBytes, TakesLast, Stops, EndsWith, with_more, room};
 
 use crate::session::{Body, State, answer, enter, take, take_agents};
 use crate::stop::Stop;
 use crate::task::Task;
-use schedule_text::{HeaderReader, Kind};
+use memchr::memchr;
+use schedule_text::HeaderReader;
 use std::alloc::{AllocError, Global};
 use world::Agents;
 
@@ -18,8 +19,11 @@ pub const LONGEST_LINE: usize = 4096;
 /// The most lines of a schedule.
 pub const MOST_LINES: u64 = 200_000;
 
+/// The most bytes of a piece of the input.
+pub const LONGEST_PIECE: usize = 16_384;
+
 /// Room for what the lines of a piece of the input are answered, mostly.
-const TEXT: usize = 32_768;
+const TEXT: usize = 65_536;
 
 /// Room for the words of an answer, mostly.
 const WORDS: usize = 512;
@@ -64,11 +68,11 @@ impl Reader {
     /// has such lines, too.
     pub fn piece_size(&self) -> usize
         ensures some { 1 ≤ result }
-        ensures most { result ≤ 4096 }
+        ensures most { result ≤ 16384 }
     {
         match &self.state {
             State::Heading { .. } | State::Reading(Body::Clustering { .. }) => 32,
-            _ => 4_096,
+            _ => LONGEST_PIECE,
         }
     }
 
@@ -189,5 +193,5 @@ fn end(alloc: Global, task: Task, state: &mut State) -> Result<(), Stop>
 fn line_length(bytes: &[u8]) -> Option<usize>
     ensures { MatchOption result (All (λ b. b ≢ 10) bytes.now) (λ n. (n < length bytes.now) × All (λ b. b ≢ 10) (take n bytes.now) × (slice_index bytes.now n ≡ 10)) }
 {
-    bytes.iter().position(|b| *b == b'\n')
+    memchr(b'\n', bytes)
 }

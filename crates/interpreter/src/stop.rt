@@ -1,5 +1,5 @@
 ghost use Rattle.std.specs.Prelude.{◌≡◌};
-ghost use Rattle.replay.specs.declared.stop.Stop.TheVariants.{NoMemory, Refused};
+ghost use Rattle.interpreter.specs.declared.stop.Stop.TheVariants.{NoMemory, Refused};
 
 use schedule_text::{Kind, ReadError};
 use std::alloc::{AllocError, AllocFailed};
@@ -34,7 +34,7 @@ impl From<Kind> for Stop {
 }
 
 impl From<ReadError> for Stop {
-    ghost use Rattle.replay.specs.Sessions.{unread};
+    ghost use Rattle.interpreter.specs.Sessions.{unread};
 
     ghost from_gives = { λ error e. e ≡ unread error };
 

@@ -7,12 +7,12 @@ use Rattle.agents.specs.Calls.{AgentState}
 use Rattle.schedule_text.specs.declared.kind.Kind.{Kind}
 use Rattle.schedule_text.specs.declared.kind.Kind.TheVariants as kind
 use Rattle.schedule_text.specs.Headers.{head_of}
-use Rattle.replay.specs.declared.session.State.{State}
-use Rattle.replay.specs.declared.session.State.TheVariants.{Heading, Reading}
-use Rattle.replay.specs.declared.session.Body.{Body}
-use Rattle.replay.specs.declared.task.Task.{Task}
-use Rattle.replay.specs.declared.task.Task.TheVariants.{Run, Check}
-use Rattle.replay.specs.Sessions.{Step, Goes, Finishes, Refuses, step, start, body_of}
+use Rattle.interpreter.specs.declared.session.State.{State}
+use Rattle.interpreter.specs.declared.session.State.TheVariants.{Heading, Reading}
+use Rattle.interpreter.specs.declared.session.Body.{Body}
+use Rattle.interpreter.specs.declared.task.Task.{Task}
+use Rattle.interpreter.specs.declared.task.Task.TheVariants.{Run, Check}
+use Rattle.interpreter.specs.Sessions.{Step, Goes, Finishes, Refuses, step, start, body_of}
 
 -- a newline (10) ends a line; the last piece is what no newline ends
 abbrev pub pieces : List ℕ → List (List ℕ)

@@ -1,6 +1,6 @@
 ghost use Rattle.std.specs.Prelude.{◌≡◌, ◌∷◌, [], map};
 ghost use Rattle.std.specs.String.{string_bytes};
-ghost use Rattle.replay.specs.Tasks.{task_of};
+ghost use Rattle.interpreter.specs.Tasks.{task_of};
 
 /// What the words of the command line ask for.
 #[derive(Clone, Copy, Debug, PartialEq, Eq)]

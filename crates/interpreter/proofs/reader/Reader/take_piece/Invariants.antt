@@ -1,6 +1,6 @@
 use Rattle.std.proofs.Common.{◌≤◌, ◌+◌, ◌-◌, length, take, Ok}
-use Rattle.replay.specs.Readers.{IsReader, TakesBytes, room}
-use Rattle.replay.proofs.reader.Reader.take_piece.Given as goal
+use Rattle.interpreter.specs.Readers.{IsReader, TakesBytes, room}
+use Rattle.interpreter.proofs.reader.Reader.take_piece.Given as goal
 
 abbrev pub invariant-loop-length : goal.invariant-loop-length
 invariant-loop-length l = record {
