@@ -95,7 +95,7 @@ impl Answered {
     }
 }
 
-fn answered(alloc: Global) -> Result<Answered, Fail> {
+fn replies(alloc: Global) -> Result<Answered, Fail> {
     let (one, two) = (NodeId::new(1)?, NodeId::new(2)?);
     let kind = PrKind::ExclusiveAccess;
     let mut answered = Answered {
@@ -117,7 +117,7 @@ fn answered(alloc: Global) -> Result<Answered, Fail> {
 
 #[test]
 fn answers_in_a_kept_text(rt: HostRuntime) -> Result<(), Fail> {
-    let answered = answered(rt.alloc())?;
+    let answered = replies(rt.alloc())?;
     let lines =
         b"keys none\ngood\ngood\ngood\nkeys a1 b2\nreservation a1 3\nconflict\nword 0\npowered\n";
     assert!(&rt; answered.text.as_slice() == lines.as_slice());
