@@ -77,6 +77,7 @@ impl Pgr {
 
     /// The same, but that the keys that a command asks for stay with the device: an answer that may
     /// hold them is large.
+    #[inline]
     pub fn reply(&mut self, from: NodeId, command: PrCommand) -> Reply
         requires { IsAllowed command }
         ensures after { self.new ≡ (step self.old from command).after }

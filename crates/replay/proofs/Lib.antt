@@ -9,7 +9,6 @@ pub mod MadeHistories
 pub mod MadeLines
 pub mod MadeOutcomes
 pub mod MadeWords
-pub mod Numbers
 pub mod Plays
 pub mod Replays
 pub mod Summaries

@@ -1,9 +1,8 @@
 ghost use Rattle.std.specs.Prelude.{◌≡◌, ◌≤◌, map, IfSome};
 ghost use Rattle.std.specs.String.{string_bytes};
-ghost use Rattle.std.specs.Char.{is_ascii_digit};
-ghost use Rattle.std.specs.List.{list_all};
-ghost use Rattle.schedule_text.specs.Words.{has_no_leading_zero, is_decimal};
 ghost use Rattle.replay.specs.Gens.{making_by, making_of, number_of};
+
+use schedule_text::{Numeral, decimal};
 
 /// The most lines that follow the opening of a schedule that is made.
 const MOST_MADE: u64 = 90_000;
@@ -50,34 +49,8 @@ fn making_by(seed: Option<u64>, count: Option<u64>) -> Option<Making>
 fn number(word: &str) -> Option<u64>
     ensures { result ≡ number_of word.now }
 {
-    if !is_decimal(word.as_bytes()) {
-        return None;
+    match decimal(word.as_bytes()) {
+        Some(Numeral::Within(number)) => Some(number),
+        Some(Numeral::Beyond) | None => None,
     }
-    match word.parse::<u64>() {
-        Ok(number) => Some(number),
-        Err(_) => None,
-    }
-}
-
-/// Whether the word is a decimal number without a leading zero.
-fn is_decimal(word: &[u8]) -> bool
-    ensures { result ≡ is_decimal word.now }
-{
-    !word.is_empty() && has_no_leading_zero(word) && all_digits(word)
-}
-
-fn has_no_leading_zero(word: &[u8]) -> bool
-    ensures { result ≡ has_no_leading_zero word.now }
-{
-    match word {
-        [b'0'] => true,
-        [first, ..] => *first != b'0',
-        [] => true,
-    }
-}
-
-fn all_digits(word: &[u8]) -> bool
-    ensures { result ≡ list_all is_ascii_digit word.now }
-{
-    word.iter().all(|b| b.is_ascii_digit())
 }

@@ -24,5 +24,6 @@ pub use event::{Event, StopChoice};
 pub use header::{Head, HeaderReader, HeaderState};
 pub use kind::{Kind, ReadError};
 pub use line::{ClusterLine, Line, PrLine, SoFar};
+pub use number::{Numeral, decimal};
 pub use pr_reading::read_pr_line;
 pub use reading::{read_cluster_line, read_line};

@@ -1,8 +1,7 @@
 // The lines of a reservation schedule's trace are appended to a text that is kept, so that they take
 // memory only where it has no room for them.
-ghost use Rattle.std.specs.Prelude.{◌≡◌, ◌++◌, ◌∷◌, ℕ, List, [], OnOk};
+ghost use Rattle.std.specs.Prelude.{◌≡◌, ◌++◌, ◌∷◌, [], OnOk};
 ghost use Rattle.std.specs.Fmt.{decimal};
-ghost use Rattle.std.specs.String.{string_bytes};
 ghost use Rattle.pgr_device.specs.Registered.{keys_of};
 ghost use Rattle.pgr_device.specs.Replies.{answer_of};
 ghost use Rattle.status_report.specs.Lines.{printed};
@@ -44,6 +43,7 @@ pub fn print_powered(text: &mut Vec<u8>) -> Result<(), AllocError>
     text.extend_from_slice(b"powered\n".as_slice())
 }
 
+#[inline]
 #[tactic(auto, using(crate::proofs::Joins::joined_once))]
 fn print_number(text: &mut Vec<u8>, name: &[u8], number: u64) -> Result<(), AllocError>
     ensures { OnOk result (text.new.items ≡ text.old.items ++ (name.now ++ (decimal number ++ 10 ∷ []))) }
