@@ -19,7 +19,6 @@ use std::alloc::Global;
 use std::marker::Model;
 
 /// The configuration of a cluster. Contracts see it as a `ConfigState`.
-#[derive(Drop)]
 pub struct Config {
     pub(crate) nodes: u64,
     pub(crate) votes: Votes,
@@ -29,6 +28,21 @@ pub struct Config {
     pub(crate) limits: Limits,
     pub(crate) addresses: Addresses,
     pub(crate) generations: Generations,
+}
+
+impl Drop for Config {
+    fn drop(self) {
+        let Config {
+            nodes: _,
+            votes: _,
+            order: _,
+            types: _,
+            groups: _,
+            limits: _,
+            addresses: _,
+            generations: _,
+        } = self;
+    }
 }
 
 impl Model for Config {

@@ -32,7 +32,6 @@ use std::marker::Model;
 use wire::{Body, Message};
 
 /// An attempt to form a membership, as its coordinator has it. Contracts see an `AttemptState`.
-#[derive(Drop)]
 pub struct Attempt {
     plan: Plan,
     promises: Vec<Promised>,
@@ -46,6 +45,23 @@ pub struct Attempt {
     phase: Phase,
     // 8 stands for more, too.
     ticks: u8,
+}
+
+impl Drop for Attempt {
+    fn drop(self) {
+        let Attempt {
+            plan: _,
+            promises: _,
+            newest: _,
+            votes: _,
+            devices: _,
+            counted: _,
+            readies: _,
+            own_ready: _,
+            phase: _,
+            ticks: _,
+        } = self;
+    }
 }
 
 impl Model for Attempt {

@@ -17,12 +17,20 @@ use update_log::NoMemory;
 
 /// The configurations that were made last, so that one more update costs one update. What is kept
 /// changes no answer: contracts see nothing of it.
-#[derive(Drop)]
 pub struct ConfigCache {
     // Of committed updates, and of those with the pending one: while one is pending both are asked
     // for by turns. Each stands apart in memory, so that the cache is quick to move.
     committed: Option<Box<Made>>,
     all: Option<Box<Made>>,
+}
+
+impl Drop for ConfigCache {
+    fn drop(self) {
+        let ConfigCache {
+            committed: _,
+            all: _,
+        } = self;
+    }
 }
 
 // A unit: so whoever asked for a configuration knows the cache again once he has let it go.

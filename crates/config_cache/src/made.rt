@@ -16,7 +16,6 @@ use update_log::{NoMemory, add};
 
 /// A header and a list of updates, with the configuration that they make. Contracts see the header
 /// and the list.
-#[derive(Drop)]
 pub struct Made {
     header: Header,
     texts: Vec<Bytes>,
@@ -24,6 +23,17 @@ pub struct Made {
     first: Config,
     // What the updates make of it: nothing where the list is bad.
     config: Option<Config>,
+}
+
+impl Drop for Made {
+    fn drop(self) {
+        let Made {
+            header: _,
+            texts: _,
+            first: _,
+            config: _,
+        } = self;
+    }
 }
 
 impl Model for Made {

@@ -29,7 +29,6 @@ const TEXT: usize = 65_536;
 const WORDS: usize = 512;
 
 /// How far the input was read.
-#[derive(Drop)]
 pub struct Reader {
     /// What the lines before led to.
     pub state: State,
@@ -41,6 +40,18 @@ pub struct Reader {
     pub text: Vec<u8>,
     /// Room for the words of one answer.
     pub words: String,
+}
+
+impl Drop for Reader {
+    fn drop(self) {
+        let Reader {
+            state: _,
+            lines: _,
+            held: _,
+            text: _,
+            words: _,
+        } = self;
+    }
 }
 
 impl Reader {

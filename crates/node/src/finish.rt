@@ -17,7 +17,7 @@ use cl_base::{Name, NodeId, Outcome};
 use node_addresses::on_client;
 use node_devices::{before_command, take_device_answer, take_write_answer};
 use node_groups::take_report;
-use node_model::{Cluster, Input, Node, Output, Stop, UpNode, hand_over};
+use node_model::{Cluster, Input, Node, Output, Stop, UpNode, give, hand_over};
 use node_updates::take_command;
 use record_disk::RecordDisk;
 use status_report::{DownCause, Entry, NodeEntry};
@@ -62,7 +62,7 @@ pub(crate) fn tell_down(me: NodeId, why: DownCause, out: &mut Vec<Output>) -> Re
         node: me,
         entry: NodeEntry::Down(why),
     };
-    out.push(Output::Tells(entry))?;
+    give(out, Output::Tells(entry))?;
     Ok(())
 }
 

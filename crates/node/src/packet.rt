@@ -14,7 +14,7 @@ use heartbeats::Beat;
 use node_attempts::go_on;
 use node_groups::{take_done, take_order};
 use node_members::{Request, collect, is_foreign, seize, take_install, take_start};
-use node_model::{Cluster, Output, Seat, Stop, UpNode, hand_over};
+use node_model::{Cluster, Output, Seat, Stop, UpNode, give, hand_over};
 use node_presidents::take_request;
 use node_updates::{commit, prepare, take_prepared, take_reply};
 use record_disk::RecordDisk;
@@ -261,7 +261,7 @@ fn answer_heartbeat(
     let leads = own.number() % 64 == me.number();
     if up.seat.is_member() && leads && session == own && !member && up.seat.members().has(from) {
         let body = Body::Start { epoch: own };
-        out.push(Output::Sends { to: from, body })?;
+        give(out, Output::Sends { to: from, body })?;
     }
     Ok(())
 }

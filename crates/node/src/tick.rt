@@ -18,7 +18,7 @@ use cl_base::{NodeId, NodeSet};
 use heartbeats::Membership;
 use node_attempts::{go_on, lead};
 use node_heartbeats::send_heartbeats;
-use node_model::{Cluster, Output, Seat, Stop, UpNode};
+use node_model::{Cluster, Output, Seat, Stop, UpNode, give};
 use node_updates::tick_requests;
 use record_disk::RecordDisk;
 use status_report::{Entry, NodeEntry};
@@ -42,7 +42,7 @@ pub(crate) fn tick(
         node: me,
         entry: NodeEntry::Ticked,
     };
-    out.push(Output::Tells(entry))?;
+    give(out, Output::Tells(entry))?;
     let configured = configured_at(alloc, cluster, up)?;
     up.beats.tick(configured);
     send_heartbeats(alloc, configured, up, out)?;

@@ -4,7 +4,7 @@ ghost use Rattle.request_queue.specs.Queue.{ended};
 ghost use Rattle.node_model.specs.Entries.{unknown_line, unknown_lines};
 
 use cl_base::NodeId;
-use node_model::Output;
+use node_model::{Output, give};
 use request_queue::{Request, RequestQueue};
 use status_report::{Answer, CommandEntry, Entry};
 use std::alloc::{AllocError, Global};
@@ -42,7 +42,7 @@ fn tell_unknown(me: NodeId, request: &Request, out: &mut Vec<Output>) -> Result<
             number: request.number,
             answer: Answer::Unknown,
         };
-        out.push(Output::Tells(Entry::Command(answered)))?;
+        give(out, Output::Tells(Entry::Command(answered)))?;
     }
     Ok(())
 }

@@ -12,7 +12,7 @@ use address_targets::targets_of;
 use ccr_tables::Config;
 use cl_base::{Name, NodeId};
 use node_decisions::in_force;
-use node_model::{Cluster, Output, Presidency, UpNode};
+use node_model::{Cluster, Output, Presidency, UpNode, give};
 use shared_address::{Choice, Client};
 use status_report::{AddressEntry, Entry};
 use std::alloc::{AllocError, Global};
@@ -89,7 +89,7 @@ fn tell_forgot(address: &Name, forgot: Client, out: &mut Vec<Output>) -> Result<
         client: forgot.address,
         port: forgot.port,
     };
-    out.push(Output::Tells(Entry::Address(entry)))?;
+    give(out, Output::Tells(Entry::Address(entry)))?;
     Ok(())
 }
 
@@ -108,6 +108,6 @@ fn tell_served(
         port,
         node,
     };
-    out.push(Output::Tells(Entry::Address(entry)))?;
+    give(out, Output::Tells(Entry::Address(entry)))?;
     Ok(())
 }

@@ -5,7 +5,7 @@ ghost use Rattle.node_model.specs.Configurations.{in_force};
 
 use cl_base::{Epoch, Name, NodeId};
 use node_decisions::in_force;
-use node_model::{Cluster, Output, UpNode};
+use node_model::{Cluster, Output, UpNode, give};
 use rg_props::Groups;
 use rg_view::{GroupView, ResourceAt};
 use status_report::{AdoptedFlags, Entry, StartEntry};
@@ -81,7 +81,7 @@ fn tell_resource(
             resource,
             flags,
         };
-        out.push(Output::Tells(Entry::Start(entry)))?;
+        give(out, Output::Tells(Entry::Start(entry)))?;
     }
     Ok(())
 }

@@ -15,7 +15,7 @@ use cmm_attempt::Attempt;
 use cmm_member::Started;
 use node_acts::become_member;
 use node_adoption::{preside, tell_adopted};
-use node_model::{Cluster, Output, Presidency, Seat, Slot, Stop, UpNode, hand_over, keep};
+use node_model::{Cluster, Output, Presidency, Seat, Slot, Stop, UpNode, give, hand_over, keep};
 use record_disk::RecordDisk;
 use status_report::{Entry, NodeEntry, StartEntry};
 use std::alloc::{AllocError, Global};
@@ -150,7 +150,7 @@ fn tell_member(
     tell_start(alloc, attempt, up.seat.entries().committed(), out)?;
     tell_adopted(alloc, cluster, epoch, up, out)?;
     let entry = NodeEntry::Member(epoch);
-    out.push(Output::Tells(Entry::Node { node: me, entry }))?;
+    give(out, Output::Tells(Entry::Node { node: me, entry }))?;
     Ok(())
 }
 
@@ -170,7 +170,7 @@ fn tell_start(
         held: attempt.held_devices(),
         base: committed.len() as u64,
     };
-    out.push(Output::Tells(Entry::Start(entry)))?;
+    give(out, Output::Tells(Entry::Start(entry)))?;
     for (index, text) in committed.iter().enumerate() {
         tell_base(alloc, epoch, index as u64 + 1, text, out)?;
     }
@@ -192,6 +192,6 @@ fn tell_base(
         place,
         words,
     };
-    out.push(Output::Tells(Entry::Start(entry)))?;
+    give(out, Output::Tells(Entry::Start(entry)))?;
     Ok(())
 }

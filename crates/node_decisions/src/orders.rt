@@ -3,7 +3,7 @@ ghost use Rattle.std.specs.Prelude.{◌≡◌, ◌++◌, OnOk};
 ghost use Rattle.node_model.specs.Deciding.{age_with, all_sent, order_sent, orders_sent};
 
 use cl_base::NodeId;
-use node_model::Output;
+use node_model::{Output, give};
 use sent_orders::SentOrders;
 use std::alloc::AllocError;
 use wire::{Body, Order};
@@ -41,6 +41,6 @@ fn send_order(
     }
     sent.sent(to);
     let body = Body::Order(order);
-    out.push(Output::Sends { to, body })?;
+    give(out, Output::Sends { to, body })?;
     Ok(())
 }

@@ -5,7 +5,7 @@ ghost use Rattle.node_groups.specs.Again.{orders_again_at};
 
 use crate::due::order_at;
 use cl_base::{NodeId, NodeSet};
-use node_model::{Output, Presidency, UpNode};
+use node_model::{Output, Presidency, UpNode, give};
 use std::alloc::{AllocError, Global};
 use wire::Body;
 
@@ -56,10 +56,13 @@ fn send_order_again(
     ensures told { OnOk result (out.new.items ≡ out.old.items ++ order_again_to to (order_at to presidency.now.groups)) }
 {
     if let Some(order) = order_at(alloc, to, presidency)? {
-        out.push(Output::Sends {
-            to,
-            body: Body::Order(order),
-        })?;
+        give(
+            out,
+            Output::Sends {
+                to,
+                body: Body::Order(order),
+            },
+        )?;
     }
     Ok(())
 }

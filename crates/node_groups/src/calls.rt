@@ -6,7 +6,7 @@ ghost use Rattle.node_model.specs.declared.output.Output.TheVariants.{Tells};
 ghost use Rattle.node_model.specs.Groups.{call_told, order_told};
 
 use cl_base::{Epoch, Method, Name, NodeId, Outcome};
-use node_model::Output;
+use node_model::{Output, give};
 use rgm_member::Carried;
 use status_report::{CallEntry, Entry};
 use std::alloc::AllocError;
@@ -56,18 +56,24 @@ fn tell_call(
 ) -> Result<(), AllocError>
     ensures told { OnOk result (out.new.items ≡ out.old.items ++ Tells (entry.Call (call.Called epoch node method resource)) ∷ Tells (entry.Call (call.Done epoch node method resource outcome)) ∷ []) }
 {
-    out.push(Output::Tells(Entry::Call(CallEntry::Called {
-        epoch,
-        node,
-        method,
-        resource,
-    })))?;
-    out.push(Output::Tells(Entry::Call(CallEntry::Done {
-        epoch,
-        node,
-        method,
-        resource,
-        outcome,
-    })))?;
+    give(
+        out,
+        Output::Tells(Entry::Call(CallEntry::Called {
+            epoch,
+            node,
+            method,
+            resource,
+        })),
+    )?;
+    give(
+        out,
+        Output::Tells(Entry::Call(CallEntry::Done {
+            epoch,
+            node,
+            method,
+            resource,
+            outcome,
+        })),
+    )?;
     Ok(())
 }

@@ -7,7 +7,7 @@ ghost use Rattle.node_groups.specs.Reporting.{ask_after, asked_so, asks_for, ask
 
 use cl_base::{Ask, Bytes, Name, NodeId};
 use node_decisions::own_config;
-use node_model::{Cluster, Output, Stop, UpNode, hand_over};
+use node_model::{Cluster, Output, Stop, UpNode, give, hand_over};
 use node_updates::{ask_if, is_idle};
 use record_disk::RecordDisk;
 use request_queue::Request;
@@ -108,7 +108,7 @@ fn tell_report(
         resource: *resource,
         result: come_to,
     };
-    out.push(Output::Tells(Entry::Call(entry)))?;
+    give(out, Output::Tells(Entry::Call(entry)))?;
     Ok(())
 }
 

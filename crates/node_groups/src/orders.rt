@@ -12,7 +12,7 @@ use crate::carrying::carry_out;
 use crate::done::end_order;
 use crate::due::own_order;
 use cl_base::{NodeId, Outcome};
-use node_model::{Cluster, Output, Stop, UpNode, hand_over};
+use node_model::{Cluster, Output, Stop, UpNode, give, hand_over};
 use node_presidents::is_member_in;
 use record_disk::RecordDisk;
 use rgm_member::Carried;
@@ -95,7 +95,7 @@ fn tell_done(
         number: order.number,
         outcome,
     };
-    out.push(Output::Sends { to, body })?;
+    give(out, Output::Sends { to, body })?;
     Ok(())
 }
 

@@ -4,7 +4,7 @@ ghost use Rattle.node_model.specs.Ticks.{heartbeat_of, heartbeats_to};
 ghost use Rattle.node_model.specs.declared.output.Output.TheVariants.{Sends};
 
 use cl_base::{NodeId, NodeSet};
-use node_model::{Output, UpNode};
+use node_model::{Output, UpNode, give};
 use std::alloc::{AllocError, Global};
 use wire::Body;
 
@@ -35,7 +35,7 @@ fn send_beat(up: &UpNode, to: NodeId, out: &mut Vec<Output>) -> Result<(), Alloc
     ensures sent { OnOk result (out.new.items ≡ out.old.items ++ Sends to (heartbeat_of up.now) ∷ []) }
 {
     let body = heartbeat(up);
-    out.push(Output::Sends { to, body })?;
+    give(out, Output::Sends { to, body })?;
     Ok(())
 }
 

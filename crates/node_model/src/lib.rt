@@ -18,7 +18,7 @@ pub use first_header::FirstHeader;
 pub use handing::hand_over;
 pub use input::Input;
 pub use node::{Node, UpNode};
-pub use output::{Output, cause_of, keep, send, tell, tell_of};
+pub use output::{Output, cause_of, give, keep, send, tell, tell_of};
 pub use presidency::Presidency;
 pub use seat::Seat;
 pub use slot::Slot;

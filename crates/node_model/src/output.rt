@@ -11,7 +11,7 @@ use crate::stop::Stop;
 use cl_base::{NodeId, Panic};
 use record_disk::{DiskError, Loss, RecordDisk};
 use status_report::{DownCause, Entry, NodeEntry};
-use std::alloc::Global;
+use std::alloc::{AllocError, Global};
 use wire::Body;
 
 /// What a step of a node gives.
@@ -28,12 +28,20 @@ pub enum Output {
     },
 }
 
+/// The node gives this. What finds no room is let go here alone: its parts are many.
+pub fn give(out: &mut Vec<Output>, output: Output) -> Result<(), AllocError>
+    ensures given { OnOk result (out.new.items ≡ out.old.items ++ output ∷ []) }
+{
+    out.push(output)?;
+    Ok(())
+}
+
 /// The node tells an entry.
 pub fn tell(out: &mut Vec<Output>, entry: Entry) -> Result<(), Stop>
     ensures told { OnOk result (out.new.items ≡ out.old.items ++ Tells entry ∷ []) }
     ensures only { IfErr result (λ e. e ≡ NoMemory) }
 {
-    out.push(Output::Tells(entry))?;
+    give(out, Output::Tells(entry))?;
     Ok(())
 }
 
@@ -50,7 +58,7 @@ pub fn send(out: &mut Vec<Output>, to: NodeId, body: Body) -> Result<(), Stop>
     ensures sent { OnOk result (out.new.items ≡ out.old.items ++ Sends to body ∷ []) }
     ensures only { IfErr result (λ e. e ≡ NoMemory) }
 {
-    out.push(Output::Sends { to, body })?;
+    give(out, Output::Sends { to, body })?;
     Ok(())
 }
 

@@ -5,7 +5,6 @@ use sent_orders::SentOrders;
 use shared_address::Balancer;
 
 /// What a node has in hand as the president of its membership.
-#[derive(Drop)]
 pub struct Presidency {
     /// The requests of its members, and the update that is proposed.
     pub proposals: Proposals,
@@ -17,4 +16,16 @@ pub struct Presidency {
     pub sent: SentOrders,
     /// Which nodes serve the clients of shared addresses.
     pub balancer: Balancer,
+}
+
+impl Drop for Presidency {
+    fn drop(self) {
+        let Presidency {
+            proposals: _,
+            held: _,
+            groups: _,
+            sent: _,
+            balancer: _,
+        } = self;
+    }
 }

@@ -13,7 +13,7 @@ ghost use Rattle.node_model.specs.Deciding.{is_any};
 use crate::telling::{copied, tell_own};
 use cl_base::{Bytes, Epoch, NodeId};
 use node_decisions::decide;
-use node_model::{Cluster, Output, Presidency, UpNode};
+use node_model::{Cluster, Output, Presidency, UpNode, give};
 use proposals::{Arrived, Proposals};
 use request_queue::RequestQueue;
 use status_report::{Answer, answer_text};
@@ -151,7 +151,7 @@ fn answer_other(
         number,
         text,
     };
-    out.push(Output::Sends { to, body })?;
+    give(out, Output::Sends { to, body })?;
     Ok(())
 }
 

@@ -10,7 +10,7 @@ use crate::members::is_of_member;
 use crate::telling::copied;
 use crate::turns::handle;
 use cl_base::{Bytes, Epoch, NodeId};
-use node_model::{Cluster, Output, Presidency, Stop, UpNode, hand_over};
+use node_model::{Cluster, Output, Presidency, Stop, UpNode, give, hand_over};
 use proposals::{Arrival, Arrived};
 use record_disk::RecordDisk;
 use std::alloc::{AllocError, Global};
@@ -130,6 +130,6 @@ fn answer_again(
         number: kept.number,
         text: copied(alloc, &kept.text)?,
     };
-    out.push(Output::Sends { to: from, body })?;
+    give(out, Output::Sends { to: from, body })?;
     Ok(())
 }

@@ -15,7 +15,7 @@ use crate::taking::take_up;
 use crate::telling::copied;
 use cl_base::{Bytes, Epoch, NodeId, NodeSet};
 use node_decisions::tidy;
-use node_model::{Cluster, Output, Seat, Stop, UpNode, hand_over, keep};
+use node_model::{Cluster, Output, Seat, Stop, UpNode, give, hand_over, keep};
 use record_disk::RecordDisk;
 use status_report::{Answer, Entry, UpdateEntry};
 use std::alloc::{AllocError, Global};
@@ -66,7 +66,7 @@ fn tell_proposed(
         place,
         words,
     };
-    out.push(Output::Tells(Entry::Update(entry)))?;
+    give(out, Output::Tells(Entry::Update(entry)))?;
     Ok(())
 }
 
@@ -234,7 +234,7 @@ fn tell_acknowledged(
         place,
         words,
     };
-    out.push(Output::Tells(Entry::Update(entry)))?;
+    give(out, Output::Tells(Entry::Update(entry)))?;
     send_commits(alloc, others, epoch, place, out)
 }
 

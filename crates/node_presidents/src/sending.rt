@@ -6,7 +6,7 @@ ghost use Rattle.node_model.specs.Presidents.{sent_to};
 
 use crate::telling::copied;
 use cl_base::{Bytes, Epoch, NodeId, NodeSet};
-use node_model::Output;
+use node_model::{Output, give};
 use std::alloc::{AllocError, Global};
 use wire::Body;
 
@@ -53,7 +53,7 @@ fn send_prepare(
 {
     let text = copied(alloc, text)?;
     let body = Body::Prepare { epoch, place, text };
-    out.push(Output::Sends { to, body })?;
+    give(out, Output::Sends { to, body })?;
     Ok(())
 }
 
@@ -94,6 +94,6 @@ fn send_commit(
     ensures sent { OnOk result (out.new.items ≡ out.old.items ++ Sends to (body.Commit epoch place) ∷ []) }
 {
     let body = Body::Commit { epoch, place };
-    out.push(Output::Sends { to, body })?;
+    give(out, Output::Sends { to, body })?;
     Ok(())
 }

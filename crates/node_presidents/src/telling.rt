@@ -3,7 +3,7 @@ ghost use Rattle.std.specs.Prelude.{◌≡◌, ◌++◌, OnOk, IfOk};
 ghost use Rattle.node_model.specs.Presidents.{own_line};
 
 use cl_base::{Bytes, NodeId};
-use node_model::Output;
+use node_model::{Output, give};
 use request_queue::Request;
 use status_report::{Answer, CommandEntry, Entry};
 use std::alloc::{AllocError, Global};
@@ -24,7 +24,7 @@ pub fn tell_own(
                 number: request.number,
                 answer,
             };
-            out.push(Output::Tells(Entry::Command(entry)))?;
+            give(out, Output::Tells(Entry::Command(entry)))?;
             Ok(())
         }
         _ => Ok(()),

@@ -9,7 +9,7 @@ ghost use Rattle.query_lines.specs.Lines.{table_lines};
 use ccr_tables::Config;
 use cl_base::{NodeSet, Query, Table};
 use group_lines::{group_lines, resource_lines};
-use node_model::{Output, Presidency};
+use node_model::{Output, Presidency, give};
 use query_lines::{quorum_lines, table_lines};
 use rgm_president::President;
 use status_report::{Entry, StatusEntry};
@@ -77,7 +77,7 @@ pub fn tell_lines(lines: Vec<StatusEntry>, out: &mut Vec<Output>) -> Result<(), 
     ensures told { OnOk result (out.new.items ≡ out.old.items ++ told_lines lines.items) }
 {
     for line in lines {
-        out.push(Output::Tells(Entry::Status(line)))?;
+        give(out, Output::Tells(Entry::Status(line)))?;
     }
     Ok(())
 }

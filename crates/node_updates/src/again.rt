@@ -10,7 +10,7 @@ ghost use Rattle.sent_orders.specs.Ticks.{due};
 
 use crate::queries::coordinator;
 use cl_base::NodeSet;
-use node_model::{Output, Presidency, UpNode};
+use node_model::{Output, Presidency, UpNode, give};
 use node_presidents::{copied, send_prepares};
 use proposals::Proposed;
 use std::alloc::{AllocError, Global};
@@ -95,7 +95,7 @@ pub fn send_request(alloc: Global, up: &UpNode, out: &mut Vec<Output>) -> Result
         number: oldest.number,
         text: copied(alloc, &oldest.text)?,
     };
-    out.push(Output::Sends { to, body })?;
+    give(out, Output::Sends { to, body })?;
     Ok(())
 }
 

@@ -17,7 +17,7 @@ use admin_words::parse;
 use answer_words::parse_answer;
 use ccr_tables::AdminCommand;
 use cl_base::{Bytes, Epoch, NodeId};
-use node_model::{Cluster, Output, Seat, Stop, UpNode, hand_over};
+use node_model::{Cluster, Output, Seat, Stop, UpNode, give, hand_over};
 use node_presidents::{arrive, copied, is_member_in, tell_own, word_answer};
 use node_queries::reply;
 use proposals::Arrived;
@@ -80,7 +80,7 @@ fn begin(me: NodeId, up: &mut UpNode, out: &mut Vec<Output>) -> Result<u64, Allo
 {
     let number = up.requests.take_number();
     let asked = CommandEntry::Asked { node: me, number };
-    out.push(Output::Tells(Entry::Command(asked)))?;
+    give(out, Output::Tells(Entry::Command(asked)))?;
     Ok(number)
 }
 

@@ -10,7 +10,7 @@ use cl_base::NodeSet;
 use std::alloc::Global;
 
 /// What the president of a membership knows of groups.
-#[derive(Debug, Drop)]
+#[derive(Debug)]
 pub struct GroupView {
     /// The members.
     pub members: NodeSet,
@@ -30,6 +30,22 @@ pub struct GroupView {
     pub restarting: Marks,
     /// The orders that are not done.
     pub outstanding: Orders,
+}
+
+impl Drop for GroupView {
+    fn drop(self) {
+        let GroupView {
+            members: _,
+            now: _,
+            resources: _,
+            groups: _,
+            goals: _,
+            evacuated: _,
+            leaving: _,
+            restarting: _,
+            outstanding: _,
+        } = self;
+    }
 }
 
 impl GroupView {

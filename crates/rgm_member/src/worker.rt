@@ -20,7 +20,6 @@ use std::marker::Model;
 use wire::{Marks, Order};
 
 /// A member's side of the resource groups. Contracts see it as a `WorkerState`.
-#[derive(Drop)]
 pub struct Worker {
     pub(crate) me: NodeId,
     pub(crate) epoch: Epoch,
@@ -29,6 +28,19 @@ pub struct Worker {
     pub(crate) resources: IndexMap<Name, Marks>,
     pub(crate) groups: IndexMap<Name, Past>,
     pub(crate) restarts: IndexMap<Name, Seconds>,
+}
+
+impl Drop for Worker {
+    fn drop(self) {
+        let Worker {
+            me: _,
+            epoch: _,
+            outcomes: _,
+            resources: _,
+            groups: _,
+            restarts: _,
+        } = self;
+    }
 }
 
 impl Model for Worker {

@@ -15,7 +15,6 @@ use wire::{Order, Report};
 
 /// The president of a membership. Contracts see it as a `PresidentState`: what is remembered of
 /// decisions that changed nothing changes no answer.
-#[derive(Drop)]
 pub struct President {
     pub(crate) epoch: Epoch,
     /// How many orders it has given.
@@ -25,6 +24,18 @@ pub struct President {
     pub(crate) basis: Option<Basis>,
     /// Whether under these updates a decision still would change nothing.
     pub(crate) steady: bool,
+}
+
+impl Drop for President {
+    fn drop(self) {
+        let President {
+            epoch: _,
+            given: _,
+            view: _,
+            basis: _,
+            steady: _,
+        } = self;
+    }
 }
 
 impl Model for President {

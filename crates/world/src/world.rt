@@ -7,7 +7,6 @@ use std::marker::Model;
 use world_model::Scripted;
 
 /// A simulated cluster. Contracts see a `WorldState`.
-#[derive(Drop)]
 pub struct World {
     /// What its nodes know of it.
     pub(crate) cluster: Cluster,
@@ -31,6 +30,24 @@ pub struct World {
     pub(crate) bytes: Vec<u8>,
     /// Room for what a node gives in a step; between steps there is nothing in it.
     pub(crate) outputs: Vec<Output>,
+}
+
+impl Drop for World {
+    fn drop(self) {
+        let World {
+            cluster: _,
+            nodes: _,
+            disks: _,
+            devices: _,
+            faults: _,
+            links: _,
+            clock: _,
+            script: _,
+            agents: _,
+            bytes: _,
+            outputs: _,
+        } = self;
+    }
 }
 
 impl Model for World {
