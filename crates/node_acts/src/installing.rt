@@ -3,22 +3,32 @@ ghost use Rattle.std.specs.Prelude.{◌≡◌, ◌++◌, ◌∷◌, [], None, On
 ghost use Rattle.status_report.specs.declared.entry.Entry.TheVariants as trace;
 ghost use Rattle.status_report.specs.declared.node_entry.NodeEntry.TheVariants as note;
 ghost use Rattle.node_model.specs.declared.output.Output.TheVariants.{Tells};
-ghost use Rattle.node_model.specs.Attempts.{changed_by, install_of, joining_from, joining_with};
+ghost use Rattle.node_model.specs.Attempts.{changed_by, install_of, installed_in, joining_from, joining_with};
 ghost use Rattle.node_model.specs.Plans.{KeepFails};
 ghost use Rattle.node_model.specs.Seats.{state_of};
 
 use cl_base::{DevSet, Epoch, NodeId};
 use cmm_member::{InstallError, Installed};
 use device_queue::DeviceQueue;
-use node_model::{Cluster, Output, Seat, Stop, keep, tell_of};
+use node_model::{Cluster, Output, Seat, Stop, UpNode, keep, tell_of};
 use record_disk::RecordDisk;
 use seize::Join;
 use status_report::NodeEntry;
 use std::alloc::{AllocError, Global};
 use wire::{Install, Reading};
 
+/// The node with the install in its record, and whether that has changed it.
+pub fn install_in(alloc: Global, mut up: UpNode, i: &Install) -> Result<(UpNode, bool), AllocError>
+    ensures node { IfOk result (λ done. done.0 ≡ installed_in i.now up) }
+    ensures changed { IfOk result (λ done. done.1 ≡ changed_by i.now up.seat) }
+{
+    let (seat, changed) = install(alloc, up.seat, i)?;
+    up.seat = seat;
+    Ok((up, changed))
+}
+
 /// The seat after the install, and whether its record has changed.
-pub fn install(alloc: Global, seat: Seat, i: &Install) -> Result<(Seat, bool), AllocError>
+fn install(alloc: Global, seat: Seat, i: &Install) -> Result<(Seat, bool), AllocError>
     ensures seat { IfOk result (λ done. done.0 ≡ install_of i.now seat) }
     ensures changed { IfOk result (λ done. done.1 ≡ changed_by i.now seat) }
 {

@@ -9,7 +9,7 @@ mod reporting;
 mod starting;
 
 pub use ending::end_requests;
-pub use installing::{begin_joins, install, save_install};
+pub use installing::{begin_joins, install_in, save_install};
 pub use promise::promise_body;
 pub use reporting::own_report;
 pub use starting::become_member;

@@ -22,13 +22,13 @@ use Rattle.node_model.specs.declared.seat.Seat.{Seat}
 use Rattle.node_model.specs.declared.seat.Seat.TheVariants.{Forming, Member}
 use Rattle.node_model.specs.declared.stop.Stop.{Stop}
 use Rattle.node_model.specs.declared.stop.Stop.TheVariants.{Down, NoMemory}
-use Rattle.node_model.specs.Attempts.{begins_install, changed_by, ending, entering, going_on, install_of, installing_here, is_choosing, led, member_by, own_promise, own_ready, performed, performed_all, presiding, resting, started_so, starting_as, starting_here, starting_with, starts_now, under_way}
+use Rattle.node_model.specs.Attempts.{begins_install, changed_by, ending, entering, going_on, install_of, installed_in, installing_here, is_choosing, led, member_by, own_promise, own_ready, performed, performed_all, presiding, resting, started_so, starting_as, starting_here, starting_with, starts_now, under_way}
 use Rattle.node_model.specs.Entries.{keeping, unknown_lines}
 use Rattle.node_model.specs.Plans.{Plan, Follows, Gives, IsDone, KeepFails}
 use Rattle.node_model.specs.Plans.Plan.{Stays, Says, Saves}
 use Rattle.node_model.specs.Seats.{record_of}
 use Rattle.node_model.proofs.Plans.{done_then, follows_saves, follows_says, gives_follows}
-use Rattle.node_attempts.specs.Told.{asking_none, end_told, installed_in, membership_told, seated, settling, start_told, voted}
+use Rattle.node_attempts.specs.Told.{asking_none, end_told, membership_told, seated, settling, start_told, voted}
 use Rattle.node_model.specs.Left.{left_so}
 
 -- memory has run out

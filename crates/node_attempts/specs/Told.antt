@@ -12,7 +12,7 @@ use Rattle.wire.specs.declared.message.Install.{Install}
 use Rattle.node_model.specs.declared.cluster.Cluster.{Cluster}
 use Rattle.node_model.specs.declared.node.UpNode.{UpNode}
 use Rattle.node_model.specs.declared.seat.Seat.TheVariants.{Member}
-use Rattle.node_model.specs.Attempts.{adopted_of, base_lines, ended_entry, excluding, install_of, installed_so, is_choosing, joining_from, keeping_if, left_out_by, started_entry, under_way, votes_in}
+use Rattle.node_model.specs.Attempts.{adopted_of, base_lines, ended_entry, excluding, installed_so, is_choosing, joining_from, keeping_if, left_out_by, started_entry, under_way, votes_in}
 use Rattle.node_model.specs.Configurations.{in_force}
 use Rattle.node_model.specs.Entries.{telling, telling_of}
 use Rattle.node_model.specs.Plans.{Plan}
@@ -57,10 +57,6 @@ start_told c me a y =
 
 abbrev pub membership_told : Cluster → ℕ → AttemptState → Bool → UpNode → Plan
 membership_told c me a changed y = keeping_if changed me y (start_told c me a y)
-
--- the node of that record, once it has installed this
-abbrev pub installed_in : Install → UpNode → UpNode
-installed_in i x = record x { seat = install_of i x.seat }
 
 -- the node as a member, where it is one
 abbrev pub seated : UpNode → Option (NodeState × Bool) → UpNode

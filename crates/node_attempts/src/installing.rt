@@ -1,16 +1,15 @@
 // The coordinator's own install.
-ghost use Rattle.std.specs.Prelude.{◌≡◌, IfOk};
-ghost use Rattle.node_model.specs.Attempts.{changed_by, installing_here};
+ghost use Rattle.node_model.specs.Attempts.{installing_here};
 ghost use Rattle.node_model.specs.Plans.{Follows};
-ghost use Rattle.node_attempts.specs.Told.{installed_in, settling};
+ghost use Rattle.node_attempts.specs.Told.{settling};
 ghost use Rattle.node_model.specs.Left.{left_so};
 
 use cl_base::NodeId;
-use node_acts::{begin_joins, install, save_install};
+use node_acts::{begin_joins, install_in, save_install};
 use node_decisions::tidy;
 use node_model::{Cluster, Output, Stop, UpNode, hand_over};
 use record_disk::RecordDisk;
-use std::alloc::{AllocError, Global};
+use std::alloc::Global;
 use wire::Install;
 
 /// The coordinator installs the membership of its attempt; its seizings are over. Of
@@ -32,16 +31,6 @@ pub fn install_here<K: RecordDisk>(
     }
     let done = settle(alloc, cluster, me, disk, &mut up, &i, out);
     hand_over(up, done)
-}
-
-/// The node with the install in its record, and whether that has changed it.
-fn install_in(alloc: Global, mut up: UpNode, i: &Install) -> Result<(UpNode, bool), AllocError>
-    ensures node { IfOk result (λ done. done.0 ≡ installed_in i.now up) }
-    ensures changed { IfOk result (λ done. done.1 ≡ changed_by i.now up.seat) }
-{
-    let (seat, changed) = install(alloc, up.seat, i)?;
-    up.seat = seat;
-    Ok((up, changed))
 }
 
 /// The node's record is that of the install: it joins devices, and saves.

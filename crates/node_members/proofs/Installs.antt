@@ -10,14 +10,14 @@ use Rattle.node_model.specs.declared.output.Output.{Output}
 use Rattle.node_model.specs.declared.seat.Seat.{Seat}
 use Rattle.node_model.specs.declared.seat.Seat.TheVariants.{Forming, Member}
 use Rattle.node_model.specs.declared.stop.Stop.{Stop}
-use Rattle.node_model.specs.Attempts.{changed_by, install_of, installed_so, installing}
+use Rattle.node_model.specs.Attempts.{changed_by, install_of, installed_in, installed_so, installing}
 use Rattle.node_model.specs.Members.{on_install, on_install_as, readying}
 use Rattle.node_model.specs.Plans.{and_then, Follows, IsDone}
 use Rattle.node_model.specs.Plans.Plan.{Stays}
 use Rattle.node_model.specs.Seats.{session_of, state_of}
 use Rattle.record_disk.specs.Savings.{Saving}
 use Rattle.node_model.proofs.Plans.{done_then, stopped_then}
-use Rattle.node_members.specs.Installs.{installed_in, installing_members, settling}
+use Rattle.node_members.specs.Installs.{installing_members, settling}
 
 some_of : (n : ℕ) → (n == 0) ≡ false → nat_le 1 n ≡ true
 some_of n h = grind arith

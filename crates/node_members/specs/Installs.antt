@@ -5,7 +5,7 @@ use Rattle.node_model.specs.declared.cluster.Cluster.{Cluster}
 use Rattle.node_model.specs.declared.node.UpNode.{UpNode}
 use Rattle.node_model.specs.declared.seat.Seat.{Seat}
 use Rattle.node_model.specs.declared.seat.Seat.TheVariants.{Forming, Member}
-use Rattle.node_model.specs.Attempts.{install_of, installed_so, installing, installs_now, joining_from}
+use Rattle.node_model.specs.Attempts.{installed_so, installing, installs_now, joining_from}
 use Rattle.node_model.specs.Plans.{Plan}
 use Rattle.node_model.specs.Plans.Plan.{Stays}
 use Rattle.node_model.specs.Presidents.{tidied}
@@ -18,10 +18,6 @@ installing_members c me x i (Forming s) =
     if installs_now s i
     then installed_so me (installing c me x s x.tasks i) i.epoch (Stays (installing c me x s x.tasks i))
     else Stays x
-
--- its record is that of the install
-abbrev pub installed_in : Install → UpNode → UpNode
-installed_in i x = record x { seat = install_of i x.seat }
 
 -- the node of this record has installed it: it has devices to join, and keeps nothing of what is deleted
 abbrev pub settled : Cluster → ℕ → UpNode → Install → UpNode

@@ -1,17 +1,15 @@
 // An Install, and the Ready that answers it.
-ghost use Rattle.std.specs.Prelude.{◌≡◌, IfOk};
-ghost use Rattle.node_model.specs.Attempts.{changed_by};
 ghost use Rattle.node_model.specs.Members.{on_install, readying};
 ghost use Rattle.node_model.specs.Plans.{Follows, Gives};
-ghost use Rattle.node_members.specs.Installs.{installed_in, installing_members, settling};
+ghost use Rattle.node_members.specs.Installs.{installing_members, settling};
 ghost use Rattle.node_model.specs.Left.{left_so};
 
 use cl_base::{Epoch, NodeId};
-use node_acts::{begin_joins, install, own_report, save_install};
+use node_acts::{begin_joins, install_in, own_report, save_install};
 use node_decisions::tidy;
 use node_model::{Cluster, Output, Stop, UpNode, hand_over, send};
 use record_disk::RecordDisk;
-use std::alloc::{AllocError, Global};
+use std::alloc::Global;
 use wire::{Body, Install};
 
 /// The node is to install a membership of its session.
@@ -59,16 +57,6 @@ fn install_members<K: RecordDisk>(
     }
     let settled = settle(alloc, cluster, me, disk, &mut up, i, out);
     hand_over(up, settled)
-}
-
-/// The node with the install in its record, and whether that has changed it.
-fn install_in(alloc: Global, mut up: UpNode, i: &Install) -> Result<(UpNode, bool), AllocError>
-    ensures node { IfOk result (λ done. done.0 ≡ installed_in i.now up) }
-    ensures changed { IfOk result (λ done. done.1 ≡ changed_by i.now up.seat) }
-{
-    let (seat, changed) = install(alloc, up.seat, i)?;
-    up.seat = seat;
-    Ok((up, changed))
 }
 
 /// The node's record is that of the install: it joins devices, and saves.

@@ -141,6 +141,10 @@ abbrev pub changed_by : Install → Seat → Bool
 changed_by i (Member s) = false
 changed_by i (Forming s) = installs_now s i
 
+-- the node with the install in its record
+abbrev pub installed_in : Install → UpNode → UpNode
+installed_in i x = record x { seat = install_of i x.seat }
+
 -- the node has installed it: it saves, and says so
 abbrev pub installed_so : ℕ → UpNode → ℕ → Plan → Plan
 installed_so me y e rest = keeping me y (telling_of me (node.Installed e) rest)

@@ -1,4 +1,6 @@
 pub mod points
+pub mod Mute
+pub mod free
 pub mod counts
 pub mod results
 pub mod exclusions

@@ -12,4 +12,6 @@ pub mod lines
 pub mod reports
 pub mod silence
 pub mod histories
+pub mod Free
+pub mod Mute
 pub mod Traces

@@ -59,7 +59,8 @@ installed_unless ms n e other =
 forming_tied : (c : Cluster) (M : Memberships) (n : ℕ) (told : Delivered) (disk : NodeRecord) (x : UpNode) (q : NodeState) → At c M n told disk x → x.seat ≡ Forming q → SeatTied c M n disk x.attempt (Forming q)
 forming_tied c M n told disk x q at is = subst (λ z. SeatTied c M n disk x.attempt z) is at.tied.0
 
-install_other : (c : Cluster) (M : Memberships) (n : ℕ) (told : Delivered) (disk : NodeRecord) (x : UpNode) (q : NodeState) (i : Install) → At c M n told disk x → MayChange c n told x (Installs q i) → coordinator i.epoch ≢ n
+-- what another node's attempt installs is none of its own
+pub install_other : (c : Cluster) (M : Memberships) (n : ℕ) (told : Delivered) (disk : NodeRecord) (x : UpNode) (q : NodeState) (i : Install) → At c M n told disk x → MayChange c n told x (Installs q i) → coordinator i.epoch ≢ n
 install_other c M n told disk x q i at may own =
     said_known M told (body.Install i) ⊥ may.1 at.known (λ from so.
     let tied : SeatTied c M n disk x.attempt (Forming q) = forming_tied c M n told disk x q at may.0 in

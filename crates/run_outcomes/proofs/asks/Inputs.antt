@@ -48,9 +48,11 @@ use Rattle.wire.specs.declared.message.Body.TheVariants as body
 use Rattle.wire.specs.declared.message.Message.{Message}
 use Rattle.run_outcomes.specs.phases.Kept.{In}
 use Rattle.run_outcomes.specs.saves.Courses.{Leaves}
-use Rattle.run_outcomes.specs.tasks.AsksCourses.{AttemptTold, GivesPlainly, GoesTo, HasTold, Mute, Tally, then_given}
+use Rattle.run_outcomes.specs.Mute.{GivesPlainly, GoesTo, Mute}
+use Rattle.run_outcomes.specs.tasks.AsksCourses.{AttemptTold, HasTold, Tally, then_given}
 use Rattle.run_outcomes.proofs.asks.Leading.{going_told, own_ready_told, ticked_told}
-use Rattle.run_outcomes.proofs.asks.Silent.{act_told, change_told, goes_if, goes_joined, plain_first, quiet_mute, silent_goes}
+use Rattle.run_outcomes.proofs.Mute.{goes_if, goes_joined, plain_first, quiet_mute}
+use Rattle.run_outcomes.proofs.asks.Silent.{act_told, change_told, silent_goes}
 use Rattle.run_outcomes.proofs.phases.LiveSteps.{staid_leaves}
 use Rattle.run_outcomes.proofs.phases.Steps.{other_l, seizing_l}
 use Rattle.run_outcomes.proofs.saves.Beside.{no_leads, quiet_leaves, readying_no}
@@ -76,7 +78,7 @@ serving_leaves c x name number port (Some p) = serving_at_leaves (in_force c x) 
 
 module _ (c : Cluster) (me : ℕ) (apart : AreApart (numbers_of c.attached)) where
   abbrev Goes : UpNode → Tally → Course → Type 0
-  Goes x g k = GoesTo c me HasTold x g k
+  Goes x g k = GoesTo then_given c me HasTold x g k
 
   -- ---- messages
 
@@ -119,13 +121,13 @@ module _ (c : Cluster) (me : ℕ) (apart : AreApart (numbers_of c.attached)) whe
   seized_told : (x : UpNode) (g : Tally) (d : ℕ) (r : SeizeResult) (o : Option ℕ) → GivesPlainly (cuts.seized_course c me x d r o) → HasTold x g → Goes x g (cuts.seized_course c me x d r o)
   seized_told x g d r None plain h = h
   seized_told x g d r (Some k) plain h =
-      goes_if c me HasTold x g (k == me) (cuts.own_seized_course c me x d r x.attempt) (writing k (body.Seized (session_of x) d r)) plain
+      goes_if then_given c me HasTold x g (k == me) (cuts.own_seized_course c me x d r x.attempt) (writing k (body.Seized (session_of x) d r)) plain
       (λ _ more. own_seized_told x g d r x.attempt more h h) (λ _ more. silent_goes c me x g (writing k (body.Seized (session_of x) d r)) (tt, tt) (tt, tt) more h)
 
   joined_told : (x : UpNode) (g : Tally) (o : Option ℕ) → GivesPlainly (cuts.joined_course c me x o) → HasTold x g → Goes x g (cuts.joined_course c me x o)
   joined_told x g None plain h = h
   joined_told x g (Some k) plain h =
-      goes_if c me HasTold x g (k == me) (cuts.own_ready_course c me x) (cuts.readying_course c x k) plain (λ _ more. own_ready_told c me x g more h)
+      goes_if then_given c me HasTold x g (k == me) (cuts.own_ready_course c me x) (cuts.readying_course c x k) plain (λ _ more. own_ready_told c me x g more h)
       (λ _ more. silent_goes c me x g (cuts.readying_course c x k) (quiet_leaves (cuts.readying_course c x k) (readying c x k) (readying_no c x k)) (quiet_mute (cuts.readying_course c x k) (readying c x k)) more h)
 
   joining_told : (x : UpNode) (g : Tally) (at : ℕ) (k : PrCommand) (a : Answer) (d : ℕ) (r : JoinResult) → GivesPlainly (cuts.joining_course c me x at k a d r) → HasTold x g → Goes x g (cuts.joining_course c me x at k a d r)
@@ -147,7 +149,7 @@ module _ (c : Cluster) (me : ℕ) (apart : AreApart (numbers_of c.attached)) whe
 
   distrusting_told : (x : UpNode) (g : Tally) (o : Option ℕ) → GivesPlainly (cuts.distrusting_course x o) → HasTold x g → Goes x g (cuts.distrusting_course x o)
   distrusting_told x g None plain h = h
-  distrusting_told x g (Some d) plain h = goes_if c me HasTold x g (has (record_of x).valid d) (Keeps (Distrusts d) Stops) Stops plain (λ _ _. change_told c me x g (Distrusts d) tt h) (λ _ _. h)
+  distrusting_told x g (Some d) plain h = goes_if then_given c me HasTold x g (has (record_of x).valid d) (Keeps (Distrusts d) Stops) Stops plain (λ _ _. change_told c me x g (Distrusts d) tt h) (λ _ _. h)
 
   fenced_told : (x : UpNode) (g : Tally) (d : ℕ) (a : Answer) → HasTold x g → Goes x g (cuts.fenced_course d a)
   fenced_told x g d (Ok given.Good) h = h
@@ -163,12 +165,12 @@ module _ (c : Cluster) (me : ℕ) (apart : AreApart (numbers_of c.attached)) whe
       let y : UpNode = later c x in
       let f : Tally = then_given g (said c me x Ticks) in
       let k : Course = cuts.governing_course c me ends x y in
-      goes_joined c me HasTold HasTold y f k (λ z. cuts.ticked_course c me z z.attempt) plain.1
+      goes_joined then_given c me HasTold HasTold y f k (λ z. cuts.ticked_course c me z z.attempt) plain.1
       (silent_goes c me y f k (staid_leaves k (governing_staid c me ends x y) (governing c me ends x y)) (quiet_mute k (governing c me ends x y)) (plain_first c me y k (λ z. cuts.ticked_course c me z z.attempt) plain.1) (act_told c me x g Ticks tt tt tt h))
       (λ z r told left. ticked_told c me z r z.attempt refl apart left told)
   input_told ends x g (Packet from m) plain h =
       let y : UpNode = hearing x from m.body in
-      goes_if c me HasTold x g (is_foreign c me x m.body) Stops (Acts (Hears from m.body) (cuts.body_course c me ends y from m m.body)) plain (λ _ _. h)
+      goes_if then_given c me HasTold x g (is_foreign c me x m.body) Stops (Acts (Hears from m.body) (cuts.body_course c me ends y from m m.body)) plain (λ _ _. h)
       (λ _ more. body_told ends y (then_given g (said c me x (Hears from m.body))) from m m.body more.1 (act_told c me x g (Hears from m.body) tt tt tt h))
   input_told ends x g CommandDue plain h = distrusting_told x g (begins_plainly x.tasks) plain h
   input_told ends x g (Answered a) plain h = answered_told x g a (due_device x.tasks) (next_of x.tasks) plain h

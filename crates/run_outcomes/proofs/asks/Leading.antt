@@ -39,8 +39,10 @@ use Rattle.wire.specs.declared.message.Install.{Install}
 use Rattle.wire.specs.declared.message.Message.{Message}
 use Rattle.run_outcomes.specs.phases.Kept.{In}
 use Rattle.run_outcomes.specs.tasks.Asks.{IsFirst, Sound, Told, TurnTold, asked_by_body, asked_by_steps}
-use Rattle.run_outcomes.specs.tasks.AsksCourses.{AskNone, AttemptTold, GivesPlainly, GoesTo, HasTold, StepsTold, Tally, then_given}
-use Rattle.run_outcomes.proofs.asks.Silent.{Never, goes_if, goes_joined, mild_none, none_goes, plain_first, quiet_mute, same_asked, silent_goes}
+use Rattle.run_outcomes.specs.Mute.{AskNone, GivesPlainly, GoesTo}
+use Rattle.run_outcomes.specs.tasks.AsksCourses.{AttemptTold, HasTold, StepsTold, Tally, then_given}
+use Rattle.run_outcomes.proofs.Mute.{Never, goes_if, goes_joined, mild_none, plain_first, quiet_mute}
+use Rattle.run_outcomes.proofs.asks.Silent.{none_goes, same_asked, silent_goes}
 use Rattle.run_outcomes.proofs.asks.Turns.{begun_told, call_told}
 use Rattle.run_outcomes.proofs.phases.Leading.{deciding_by_l, excluded_l, is_choice, steps_l}
 use Rattle.run_outcomes.proofs.results.Calm.{unknown_calm}
@@ -84,7 +86,7 @@ attempt_in P x y same h = subst (In P) (sym same) h
 
 module _ (c : Cluster) (me : ℕ) where
   abbrev Goes : UpNode → Tally → Course → Type 0
-  Goes x g k = GoesTo c me HasTold x g k
+  Goes x g k = GoesTo then_given c me HasTold x g k
 
   never_of : (o : Option AttemptState) → o ≡ None → In Never o
   never_of None h = tt
@@ -159,8 +161,8 @@ module _ (c : Cluster) (me : ℕ) where
 
   turned_all_told : (x : UpNode) (g : Tally) (a : AttemptState) (k : Call) → May a k → GivesPlainly (cuts.turned_all c me x a k) → AttemptTold g a → Goes x g (cuts.turned_all c me x a k)
   turned_all_told x g a k may plain h =
-      goes_joined c me HasTold HasTold x g (turned c me x a k) (if_started c me (turn a k).steps) plain (turned_by_told x g a k (turn a k).steps (after_call g a k may h))
-      (λ y f told left. goes_if c me HasTold y f (starts_in (turn a k).steps) (deciding_course c me y) Stops left
+      goes_joined then_given c me HasTold HasTold x g (turned c me x a k) (if_started c me (turn a k).steps) plain (turned_by_told x g a k (turn a k).steps (after_call g a k may h))
+      (λ y f told left. goes_if then_given c me HasTold y f (starts_in (turn a k).steps) (deciding_course c me y) Stops left
       (λ _ more. silent_goes c me y f (deciding_course c me y) (deciding_by_l c me y y.presidency) (quiet_mute (deciding_course c me y) (deciding c me y)) more told) (λ _ _. told))
 
   readied_told : (x : UpNode) (g : Tally) (o : Option AttemptState) → GivesPlainly (cuts.readied_course c me x o) → In (AttemptTold g) o → HasTold x g → Goes x g (cuts.readied_course c me x o)
@@ -168,17 +170,17 @@ module _ (c : Cluster) (me : ℕ) where
   readied_told x g (Some a) plain here h = turned_all_told x g a Own_ready tt plain here
 
   pub own_ready_told : (x : UpNode) (g : Tally) → GivesPlainly (cuts.own_ready_course c me x) → HasTold x g → Goes x g (cuts.own_ready_course c me x)
-  own_ready_told x g plain h = goes_if c me HasTold x g (joins x.tasks) Stops (cuts.readied_course c me x x.attempt) plain (λ _ _. h) (λ _ more. readied_told x g x.attempt more h h)
+  own_ready_told x g plain h = goes_if then_given c me HasTold x g (joins x.tasks) Stops (cuts.readied_course c me x x.attempt) plain (λ _ _. h) (λ _ more. readied_told x g x.attempt more h h)
 
   called_told : (x : UpNode) (g : Tally) (a : AttemptState) (k : Call) → May a k → GivesPlainly (cuts.called c me x a k) → AttemptTold g a → Goes x g (cuts.called c me x a k)
   called_told x g a k may plain h =
-      goes_joined c me HasTold HasTold x g (cuts.turned_all c me x a k) (if_installed c me (turn a k).steps) plain (turned_all_told x g a k may (plain_first c me x (cuts.turned_all c me x a k) (if_installed c me (turn a k).steps) plain) h)
-      (λ y f told left. goes_if c me HasTold y f (begins_install (turn a k).steps) (cuts.own_ready_course c me y) Stops left (λ _ more. own_ready_told y f more told) (λ _ _. told))
+      goes_joined then_given c me HasTold HasTold x g (cuts.turned_all c me x a k) (if_installed c me (turn a k).steps) plain (turned_all_told x g a k may (plain_first c me x (cuts.turned_all c me x a k) (if_installed c me (turn a k).steps) plain) h)
+      (λ y f told left. goes_if then_given c me HasTold y f (begins_install (turn a k).steps) (cuts.own_ready_course c me y) Stops left (λ _ more. own_ready_told y f more told) (λ _ _. told))
 
   pub going_told : (x : UpNode) (g : Tally) (a : AttemptState) (k : Call) → May a k → GivesPlainly (cuts.going_course c me x a k) → AttemptTold g a → Goes x g (cuts.going_course c me x a k)
   going_told x g a k may plain h =
       let t : AttemptState = (turn a k).after in
-      goes_if c me HasTold x g (is_choosing t.phase) (Acts (Goes_on a k) (cuts.called c me (going x a k) t (With_votes (votes_in c t)))) (cuts.called c me x a k) plain
+      goes_if then_given c me HasTold x g (is_choosing t.phase) (Acts (Goes_on a k) (cuts.called c me (going x a k) t (With_votes (votes_in c t)))) (cuts.called c me x a k) plain
       (λ is more. called_told (going x a k) g t (With_votes (votes_in c t)) (is_choice t.phase is) more.1 (choosing_told g (turn a k) (is_choice t.phase is) (turn_seizing a k may) (after_call g a k may h)))
       (λ _ more. called_told x g a k may more h)
 
@@ -186,7 +188,7 @@ module _ (c : Cluster) (me : ℕ) where
 
   begun_course_told : (x : UpNode) (g : Tally) (u : Turn) → x.attempt ≡ Some u.after → GivesPlainly (cuts.begun_course c me x u) → All (StepSeizing u.after) u.steps → StepsTold g u.steps u.after → Goes x g (cuts.begun_course c me x u)
   begun_course_told x g u has plain all h =
-      goes_if c me HasTold x g (is_choosing u.after.phase) (cuts.called c me x u.after (With_votes (votes_in c u.after))) (steps_course c me x u.steps) plain
+      goes_if then_given c me HasTold x g (is_choosing u.after.phase) (cuts.called c me x u.after (With_votes (votes_in c u.after))) (steps_course c me x u.steps) plain
       (λ is more. called_told x g u.after (With_votes (votes_in c u.after)) (is_choice u.after.phase is) more (choosing_told g u (is_choice u.after.phase is) all h))
       (λ _ more. steps_told x g u.steps (subst (In (StepsTold g u.steps)) (sym has) h))
 
@@ -204,7 +206,7 @@ module _ (c : Cluster) (me : ℕ) where
 
   leading_told : (x : UpNode) (g : Tally) (p members : ℕ) → AreApart (numbers_of c.attached) → GivesPlainly (cuts.leading_course c me x p members) → HasTold x g → Goes x g (cuts.leading_course c me x p members)
   leading_told x g p members apart plain h =
-      goes_if c me HasTold x g (nat_lt (promised_of x) p) (Keeps (Leads p members) (cuts.begun_course c me (changed c me x (Leads p members)) (first_turn c me x p members))) Stops plain
+      goes_if then_given c me HasTold x g (nat_lt (promised_of x) p) (Keeps (Leads p members) (cuts.begun_course c me (changed c me x (Leads p members)) (first_turn c me x p members))) Stops plain
       (λ _ more. begun_course_told y f u refl more (first_seizing p members own c.attached c.id) told) (λ _ _. h)
     where
       y : UpNode
@@ -236,5 +238,5 @@ module _ (c : Cluster) (me : ℕ) where
   ticked_told x g (Some a) is apart plain here = going_told x g a Call_tick tt plain here
   ticked_told x g None is apart plain here =
       let h : HasTold x g = subst (In (AttemptTold g)) (sym is) tt in
-      goes_if c me HasTold x g (nat_le 1 x.beats.wait) (Acts Waits Stops) (Acts Waits (cuts.forming_course c me (waiting_less x) (members_to_form c me (waiting_less x)))) plain
+      goes_if then_given c me HasTold x g (nat_le 1 x.beats.wait) (Acts Waits Stops) (Acts Waits (cuts.forming_course c me (waiting_less x) (members_to_form c me (waiting_less x)))) plain
       (λ _ _. h) (λ _ more. forming_told (waiting_less x) g (members_to_form c me (waiting_less x)) apart more.1 h)

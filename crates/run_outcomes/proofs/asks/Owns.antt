@@ -26,9 +26,9 @@ use Rattle.status_report.specs.declared.attempt_entry.AttemptEntry.TheVariants a
 use Rattle.status_report.specs.declared.entry.Entry.{Entry}
 use Rattle.status_report.specs.declared.entry.Entry.TheVariants as entry
 use Rattle.wire.specs.declared.message.Body.{Body}
-use Rattle.run_outcomes.specs.tasks.AsksCourses.{AskNone, AsksNone}
+use Rattle.run_outcomes.specs.Mute.{AskNone, AsksNone}
 use Rattle.run_outcomes.specs.tasks.AsksGiven.{BeginsOwn}
-use Rattle.run_outcomes.proofs.asks.Silent.{ended_none, first_none, last_none, mild_none, ticked_none, write_none}
+use Rattle.run_outcomes.proofs.Mute.{ended_none, first_none, last_none, mild_none, ticked_none, write_none}
 use Rattle.run_attempts.proofs.Mild.{unknown_mild}
 use Rattle.run_outcomes.proofs.results.Calm.{unknown_calm}
 

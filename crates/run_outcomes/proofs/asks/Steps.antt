@@ -39,11 +39,13 @@ use Rattle.run_history.specs.Scenes.{Scene}
 use Rattle.run_messages.proofs.records.Replies.{CutSo, steps_are_cut_so}
 use Rattle.run_messages.specs.records.Kept.{KnownScene}
 use Rattle.run_outcomes.specs.saves.Kept.{IsAt}
-use Rattle.run_outcomes.specs.tasks.AsksCourses.{GoesTo, HasTold, Tally, then_given}
+use Rattle.run_outcomes.specs.Mute.{GoesTo}
+use Rattle.run_outcomes.specs.tasks.AsksCourses.{HasTold, Tally, then_given}
 use Rattle.run_outcomes.specs.tasks.AsksGiven.{BeginsOwn, asked_by_output, asked_by_outputs}
 use Rattle.run_outcomes.proofs.asks.Inputs.{course_told}
 use Rattle.run_outcomes.proofs.asks.Owns.{all_own}
-use Rattle.run_outcomes.proofs.asks.Silent.{gives_plainly, in_same}
+use Rattle.run_outcomes.proofs.Mute.{gives_plainly}
+use Rattle.run_outcomes.proofs.asks.Silent.{in_same}
 
 -- ---- a course
 
@@ -62,7 +64,7 @@ Given g f before = (e d : ℕ) → f e d ≡ asked_by_outputs e d before (g e d)
 more_given : (g f : Tally) (before os : List Output) → Given g f before → Given g (then_given f os) (before ++ os)
 more_given g f before os h e d = ap (asked_by_outputs e d os) (h e d) ∙ sym (append_asked e d before os (g e d))
 
-carried_told : (c : Cluster) (me : ℕ) (x : UpNode) (g f : Tally) (k : Course) (before : List Output) (disk : DiskState) → Given g f before → GoesTo c me HasTold x f k → EndsTold g (carried saving me (plan_from c me x k) before disk)
+carried_told : (c : Cluster) (me : ℕ) (x : UpNode) (g f : Tally) (k : Course) (before : List Output) (disk : DiskState) → Given g f before → GoesTo then_given c me HasTold x f k → EndsTold g (carried saving me (plan_from c me x k) before disk)
 carried_told c me x g f Stops before disk given h = in_same f (then_given g before) [] x.attempt (λ e d. sym (given e d)) h
 carried_told c me x g f (Acts a rest) before disk given h =
     subst (EndsTold g) (says_all me (said c me x a) (plan_from c me (acted c me x a) rest) before disk)

@@ -29,8 +29,9 @@ use Rattle.node_model.specs.Seats.{record_of}
 use Rattle.refinement.specs.Doings.{Act, Change, acted, changed, going}
 use Rattle.refinement.specs.Doings.Act.{Ends}
 use Rattle.refinement.specs.Doings.Change.{Counts, Starts}
-use Rattle.run_outcomes.specs.counts.Ends.{ActFits, FreeAct, GoesFit, IsFree, Last, last_by, last_by_change}
-use Rattle.run_outcomes.proofs.counts.Free.{if_started_free}
+use Rattle.run_outcomes.specs.Free.{IsFree, PlainAct}
+use Rattle.run_outcomes.specs.counts.Ends.{ActFits, GoesFit, Last, last_by, last_by_change}
+use Rattle.run_outcomes.proofs.free.Courses.{if_started_free}
 
 -- its attempt, where it has one, is this
 abbrev IsOf : AttemptState → Option AttemptState → Type 0
@@ -41,7 +42,7 @@ IsOf t (Some a) = a ≡ t
 abbrev AreGiven : AttemptState → Call → List Step → Type 0
 AreGiven a k steps = (why : AttemptEnd) → end_in steps ≡ Some why → end_in (turn a k).steps ≡ Some why
 
-free_act : (last : Last) (x : UpNode) (a : Act) → FreeAct a → ActFits last x a
+free_act : (last : Last) (x : UpNode) (a : Act) → PlainAct a → ActFits last x a
 free_act last x (Ends a why) h = absurd h
 free_act last x _ h = tt
 

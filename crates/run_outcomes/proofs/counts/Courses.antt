@@ -32,14 +32,14 @@ use Rattle.refinement.specs.Courses.Course.{Acts, Falls, Keeps, Stops}
 use Rattle.refinement.specs.Cuts as cuts
 use Rattle.refinement.specs.Cuts.{first_turn}
 use Rattle.std.specs.Prelude.{ℕ, ◌≡◌, ◌==◌, nat_le, nat_lt, List, [], ◌∷◌, Option, None, Some}
-use Rattle.node_model.specs.Seats.{coordinator_of, promised_of}
+use Rattle.node_model.specs.Seats.{coordinator_of, is_in, promised_of}
 use Rattle.refinement.specs.Doings.{acted, answered_so, changed, site}
 use Rattle.refinement.specs.Doings.Act.{Hears}
 use Rattle.refinement.specs.Doings.Change.{Leads}
 use Rattle.cmm_member.specs.Records.{NodeRecord}
 use Rattle.run_outcomes.specs.counts.Ends.{AllFit, GoesFit, Last, last_by, last_by_change}
-use Rattle.run_outcomes.proofs.counts.Free.{client_free, collect_free, command_free, asked_free, commit_free, distrusting_free, fenced_free, governing_free, heartbeat_free, install_free, notice_free, order_free, prepare_free, readying_free, reply_free, report_free, seizing_free, start_free}
-use Rattle.run_outcomes.proofs.counts.Presidents.{done_free, prepared_free}
+use Rattle.run_outcomes.proofs.free.Courses.{client_free, collect_free, command_free, asked_free, commit_free, distrusting_free, fenced_free, governing_free, heartbeat_free, install_free, order_free, prepare_free, readying_free, reply_free, report_free, seizing_free, start_free}
+use Rattle.run_outcomes.proofs.free.Presidents.{done_free, prepared_free}
 use Rattle.run_outcomes.proofs.counts.Given.{begins_alive}
 use Rattle.run_outcomes.proofs.counts.Calls.{free_fits, either_fits, free_then, calm_fits, own_ready_fits, called_fits, going_fits}
 
@@ -83,7 +83,7 @@ module _ (c : Cluster) (me : ℕ) where
   body_fits last outcome x from m (body.Install i) = free_fits c me last x _ (install_free c me x from i)
   body_fits last outcome x from m (body.Ready e joined_devices report) = answer_fits last x from m x.attempt
   body_fits last outcome x from m (body.Start e) = free_fits c me last x _ (start_free c me x e x.seat)
-  body_fits last outcome x from m (body.Excluded e newest) = free_fits c me last x _ (notice_free c me x e newest)
+  body_fits last outcome x from m (body.Excluded e newest) = either_fits c me last x (is_in x e) _ _ tt tt
   body_fits last outcome x from m (body.Prepare e place text) = free_fits c me last x _ (prepare_free c me x from e place text x.seat)
   body_fits last outcome x from m (body.Prepared e place) = free_fits c me last x _ (prepared_free c me x from e place)
   body_fits last outcome x from m (body.Commit e place) = free_fits c me last x _ (commit_free c me x e place x.seat)

@@ -1,9 +1,7 @@
 -- What happens where a node takes no part leaves the node, its tasks by the lines, whether its queue is open, and whether it leads.
-use Rattle.std.specs.Prelude.{All, ℕ, ◌-◌, ◌≡◌, ◌≢◌, ◌≤◌, ◌==◌, Bool, true, false, List, [], ◌∷◌, Option, None, Some, is_some, slice_get}
+use Rattle.std.specs.Prelude.{All, ℕ, ◌-◌, ◌≡◌, ◌≢◌, ◌≤◌, ◌==◌, false, List, [], ◌∷◌, Option, None, Some, slice_get}
 use Rattle.std.proofs.Common.{arith, refl, sym, ap, subst, ◌∙◌}
-use Rattle.cl_base.proofs.SetLemmas.{none_of_zero}
 use Rattle.cl_base.specs.declared.method.Outcome as method
-use Rattle.cmm_attempt.proofs.Basics.{false_true}
 use Rattle.cmm_attempt.specs.Calls.{IsDevice}
 use Rattle.history.specs.Setting.{Setting}
 use Rattle.history.specs.Trace.{delivered}
@@ -14,11 +12,7 @@ use Rattle.node_model.specs.Steps.{Outcome, stepped}
 use Rattle.node_model.specs.declared.cluster.Cluster.{Cluster}
 use Rattle.node_model.specs.declared.input.Input.{Input}
 use Rattle.node_model.specs.declared.input.Input.TheVariants as input
-use Rattle.node_model.specs.declared.node.Node.{Node}
-use Rattle.node_model.specs.declared.node.Node.TheVariants.{Down, Up}
 use Rattle.node_model.specs.declared.output.Output.{Output}
-use Rattle.node_model.specs.declared.seat.Seat.{Seat}
-use Rattle.node_model.specs.declared.seat.Seat.TheVariants.{Forming, Member}
 use Rattle.pgr_device.specs.Device.{Device}
 use Rattle.pgr_device.specs.declared.command.PrCommand.{PrCommand}
 use Rattle.pgr_device.specs.declared.command.PrCommand.TheVariants as command
@@ -29,7 +23,6 @@ use Rattle.refinement.proofs.Facts.{known_by, step_may}
 use Rattle.refinement.proofs.Handlers.{delivered_by}
 use Rattle.refinement.proofs.Replies.{steps_are_cut}
 use Rattle.refinement.specs.Cuts.{doings}
-use Rattle.refinement.specs.Doings.{Doing, Site}
 use Rattle.refinement.specs.Guards.{MayAll}
 use Rattle.refinement.specs.Runs.{Nodes, WasSent, moved}
 use Rattle.refinement.specs.Runs.Move.{Takes as Takes_in}
@@ -42,11 +35,10 @@ use Rattle.run_history.specs.Scenes.{Scene, first_scene, telling}
 use Rattle.run_history.specs.Stages.{Stage, site_of}
 use Rattle.run_lines.proofs.Outputs.{gives_entries}
 use Rattle.run_messages.proofs.Reaching.{IsReached, IsSmall, stage_of}
+use Rattle.run_packets.proofs.repeats.Scenes.{given_own}
 use Rattle.run_packets.proofs.prepares.Adds.{adds_passing}
-use Rattle.run_packets.proofs.prepares.Courses.{doings_own}
-use Rattle.run_packets.proofs.prepares.Doings.{all_so}
 use Rattle.run_packets.specs.prepares.Events.{AddsOf}
-use Rattle.run_packets.specs.prepares.Proposals.{AreSo, AreStarted, Covers, CoversIn}
+use Rattle.run_packets.specs.prepares.Proposals.{AreSo}
 use Rattle.run_seizings.proofs.Moments.{plain_sent}
 use Rattle.status_report.specs.declared.entry.Entry.TheVariants as entry
 use Rattle.status_report.specs.declared.packet_entry.PacketEntry.TheVariants as packet
@@ -65,30 +57,14 @@ pub record Untouched (S : Setting) (n : ℕ) (s t : Scene) : Type 0 where
 
 -- ---- whose lines a step gives
 
-none_started : (M : Memberships) → AreStarted [] M
-none_started M e is = absurd (false_true is)
-
-none_covers : (n : ℕ) (node : Node) → Covers [] n node
-none_covers n Down = tt
-none_covers n (Up x) = by_seat (is_some x.presidency) x.seat
-  where
-    by_seat : (b : Bool) (seat : Seat) → CoversIn [] n b seat
-    by_seat b (Forming s) = tt
-    by_seat false (Member s) = tt
-    by_seat true (Member s) = λ m is. absurd (false_true (sym (none_of_zero m) ∙ is.1))
-
 given_so : (c : Cluster) (s : Scene) (m now : ℕ) (ends : method.Outcome) (i : Input) → m ≤ 32 → All IsDevice c.attached → Stage c s → WasSent s.nodes i → AreSo [] m (given_by c m now ends i s.nodes)
 given_so c s m now ends i high fits b was =
     let v : Nodes = s.nodes in
     let M : Memberships = b.machine in
     let o : Outcome DiskState = stepped disk_rules c m now ends (v.node m) (v.disk m) i in
     let cut : IsCut disk_rules c m now ends (v.node m) (v.disk m) i [] o = steps_are_cut disk_rules disks_keep_rules c m now ends (v.node m) (v.disk m) i in
-    let x : Site = site_of v m in
-    let small : List Doing = doings c m now ends cut.replies i (v.node m) in
-    let may : MayAll c m (delivered_by i) x small = step_may c M m now ends (v.node m) (v.disk m).kept i cut.replies high fits b.holds (b.stands m).tied (b.stands m).joins in
-    subst (AreSo [] m) cut.comes.given
-    (all_so c M [] m (delivered_by i) x small fits b.holds (known_by M i (is_true M v i was b.sent)) (none_started M) (b.stands m).tied may
-    (doings_own c m now ends cut.replies i (v.disk m).kept (v.node m)) (none_covers m (v.node m))).so
+    let may : MayAll c m (delivered_by i) (site_of v m) (doings c m now ends cut.replies i (v.node m)) = step_may c M m now ends (v.node m) (v.disk m).kept i cut.replies high fits b.holds (b.stands m).tied (b.stands m).joins in
+    subst (AreSo [] m) cut.comes.given (given_own c M m now ends i cut.replies (v.node m) (v.disk m).kept fits b.holds (known_by M i (is_true M v i was b.sent)) (b.stands m).tied may)
 
 taken_adds : (c : Cluster) (s t : Scene) (m now : ℕ) (ends : method.Outcome) (i : Input) → m ≤ 32 → All IsDevice c.attached → Stage c s → WasSent s.nodes i → t.nodes ≡ s.nodes
     → AddsOf [] m t.moments (taking c m now ends i t)

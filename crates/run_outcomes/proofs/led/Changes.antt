@@ -1,6 +1,6 @@
 -- Each change of a record: the line of a node's own install comes while it leads.
-use Rattle.std.specs.Prelude.{ℕ, ◌≡◌, ◌≢◌, ◌<◌, ◌≤◌, ◌==◌, ◌++◌, if◌then◌else◌, Bool, true, false, List, ◌∷◌, Option, None, Some}
-use Rattle.std.proofs.Common.{sym, ap, subst, ◌∙◌, arith, inl, inr}
+use Rattle.std.specs.Prelude.{ℕ, ◌≡◌, ◌≤◌, ◌==◌, ◌++◌, if◌then◌else◌, Bool, true, false, List, ◌∷◌, Option, None, Some}
+use Rattle.std.proofs.Common.{sym, ap, subst, ◌∙◌, inl, inr}
 use Rattle.attempt_laws.proofs.Goes.{chosen_reached, goes_by_call}
 use Rattle.attempt_laws.proofs.Stays.{plan_begins, plan_stays}
 use Rattle.cl_base.specs.declared.header.Header.{Header}
@@ -28,20 +28,18 @@ use Rattle.node_model.specs.declared.node.Node.TheVariants.{Up}
 use Rattle.node_model.specs.declared.node.UpNode.{UpNode}
 use Rattle.node_model.specs.declared.output.Output.{Output}
 use Rattle.node_model.specs.declared.seat.Seat.{Seat}
-use Rattle.node_model.specs.declared.seat.Seat.TheVariants.{Forming}
 use Rattle.refinement.proofs.Attempts.{install_epoch, may_be_called}
-use Rattle.refinement.proofs.Changes.{said_known}
 use Rattle.refinement.specs.Doings.{Change, changed, first_lines, last_lines}
 use Rattle.refinement.specs.Doings.Change.{Acks, Admits, Commits, Counts, Distrusts, Installs, Leads, Prepares, Promises, Proposes, Sits, Starts}
 use Rattle.refinement.specs.Guards.{MayChange}
-use Rattle.refinement.specs.Ties.{Delivered, SeatTied}
+use Rattle.refinement.specs.Ties.{Delivered}
 use Rattle.run_attempts.proofs.endings.Stands.{change_stands}
 use Rattle.run_attempts.specs.endings.Laws.{epoch_of}
 use Rattle.run_history.proofs.Changes.{At, at_attempt}
 use Rattle.run_history.proofs.Lists.{both}
 use Rattle.run_history.specs.Guards.{MadeAt}
 use Rattle.run_history.specs.Scenes.{Scene, passing, telling}
-use Rattle.run_messages.proofs.records.Joins.{machine_own}
+use Rattle.run_messages.proofs.records.Joins.{install_other}
 use Rattle.run_seizings.specs.Seized.{AttemptSo}
 use Rattle.run_seizings.specs.Sites.{InHand, UpSo}
 use Rattle.run_seizings.proofs.Asked.{SavesSo}
@@ -51,7 +49,6 @@ use Rattle.run_seizings.proofs.Promising.{same_so}
 use Rattle.status_report.specs.declared.attempt_entry.AttemptEntry.TheVariants as attempt_entry
 use Rattle.status_report.specs.declared.entry.Entry.TheVariants as entry
 use Rattle.status_report.specs.declared.node_entry.NodeEntry.TheVariants as note
-use Rattle.wire.specs.declared.message.Body.TheVariants as body
 use Rattle.wire.specs.declared.message.Install.{Install}
 use Rattle.run_outcomes.specs.counts.Ends.{Last, last_by_change}
 use Rattle.run_outcomes.specs.saves.Kept.{IsOnWay, OnWay}
@@ -178,24 +175,6 @@ counts_led h c M n told disk x a q r i last s at may calm hand up k =
           (still_on n n (lines_of c n x (Counts a q r i) true) s (epoch_of x.attempt) (tt, (tt, tt)) k.way);
       fresh = λ why is own. absurd (none_some i (sym (call_ends_so a q why is).installs ∙ may.3));
     }
-
--- what another node's attempt brings is of another coordinator
-install_other : (c : Cluster) (M : Memberships) (n : ℕ) (told : Delivered) (disk : NodeRecord) (x : UpNode) (r : NodeState) (i : Install) → At c M n told disk x → MayChange c n told x (Installs r i) → coordinator i.epoch ≢ n
-install_other c M n told disk x r i at may own =
-    said_known M told (body.Install i) ⊥ may.1 at.known (λ from so.
-    let tied : SeatTied c M n disk x.attempt (Forming r) = subst (λ z. SeatTied c M n disk x.attempt z) may.0 at.tied.0 in
-    let low : i.epoch ≤ (M.node n).saved.installed = subst (λ z. i.epoch ≤ (M.node z).saved.installed) (machine_own i.epoch n own) ((at.holds.epoch i.epoch).counted_installed so.counted) in
-    apart i.epoch (M.node n).saved.installed r.saved.installed (M.node n).promised (M.node n).session r.session low (ap (λ z. z.installed) tied.0.saved) (at.holds.node n).installed
-    ((at.holds.node n).session) tied.0.session may.3 may.2 may.4)
-  where
-    apart : (e mi i mp ms s : ℕ) → e ≤ mi → mi ≡ i → mi ≤ mp → (0 < ms → ms ≡ mp) → ms ≡ s → s ≡ e → 1 ≤ e → i ≢ e → ⊥
-    apart e mi i mp ms s a b d f g h low other = other (same (f (some ms e (g ∙ h) low)))
-      where
-        some : (k e : ℕ) → k ≡ e → 1 ≤ e → 0 < k
-        some k e is l = grind arith
-
-        same : ms ≡ mp → i ≡ e
-        same is = grind arith
 
 installs_calm : (told : Delivered) (r : NodeState) (i : Install) → SavesSo told (Installs r i) → NoCollect told
 installs_calm told r i (inl is) = absurd is

@@ -32,8 +32,9 @@ use Rattle.status_report.specs.declared.node_entry.DownCause.TheVariants as caus
 use Rattle.wire.specs.declared.message.Body.{Body}
 use Rattle.wire.specs.declared.message.Body.TheVariants as body
 use Rattle.wire.specs.declared.message.Install.{Install}
-use Rattle.run_outcomes.specs.panics.Notices.{ActSaid, BodySaid, FallSaid, FreeAct, FreeFall, GoesSaid, IsFree, NoNotice, Notice, notice_by, notice_of}
-use Rattle.run_outcomes.proofs.panics.Free.{if_started_free}
+use Rattle.run_outcomes.specs.Free.{IsFree, PlainAct}
+use Rattle.run_outcomes.specs.panics.Notices.{ActSaid, BodySaid, FallSaid, FreeFall, GoesSaid, NoNotice, Notice, notice_by, notice_of}
+use Rattle.run_outcomes.proofs.free.Courses.{if_started_free}
 
 -- ---- what says nothing of it
 
@@ -41,7 +42,7 @@ body_said : (said : Option Notice) (to : ℕ) (b : Body) → NoNotice b → Body
 body_said said to (body.Excluded e newest) h = absurd h
 body_said said to _ h = tt
 
-act_said : (said : Option Notice) (a : Act) → FreeAct a → ActSaid said a
+act_said : (said : Option Notice) (a : Act) → PlainAct a → ActSaid said a
 act_said said (Writes to b) h = body_said said to b h
 act_said said (Spreads receivers b) h = h
 act_said said _ h = tt

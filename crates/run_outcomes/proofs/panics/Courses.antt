@@ -50,8 +50,8 @@ use Rattle.status_report.specs.declared.node_entry.DownCause.{DownCause}
 use Rattle.status_report.specs.declared.node_entry.DownCause.TheVariants as cause
 use Rattle.run_outcomes.specs.panics.Notices.{AllSaid, FallSaid, GoesSaid, IsNoticeIn, Notice, notice_by}
 use Rattle.run_outcomes.proofs.panics.Calls.{all_fit_free, called_said, either_said, free_said, free_then, going_said, own_ready_said, steps_said}
-use Rattle.run_outcomes.proofs.panics.Free.{asked_free, client_free, collect_free, command_free, commit_free, distrusting_free, fenced_free, governing_free, heartbeat_free, install_free, order_free, prepare_free, readying_free, reply_free, report_free, seizing_free, start_free}
-use Rattle.run_outcomes.proofs.panics.Presidents.{done_free, prepared_free}
+use Rattle.run_outcomes.proofs.free.Courses.{asked_free, client_free, collect_free, command_free, commit_free, distrusting_free, fenced_free, governing_free, heartbeat_free, install_free, order_free, prepare_free, readying_free, reply_free, report_free, seizing_free, start_free}
+use Rattle.run_outcomes.proofs.free.Presidents.{done_free, prepared_free}
 
 module _ (c : Cluster) (me : ℕ) (told : Delivered) where
   -- ---- an attempt begins

@@ -25,11 +25,11 @@ use Rattle.status_report.specs.declared.entry.Entry.TheVariants as entry
 use Rattle.status_report.specs.declared.node_entry.DownCause.{DownCause}
 use Rattle.wire.specs.declared.message.Body.{Body}
 use Rattle.wire.specs.declared.message.Body.TheVariants as body
-use Rattle.run_outcomes.proofs.asks.Silent.{ended_none, ticked_none, write_none}
+use Rattle.run_outcomes.proofs.Mute.{ended_none, ticked_none, write_none}
 use Rattle.run_outcomes.proofs.shown.Aside.{lost_aside, made_aside, saved_aside, tick_aside, write_aside}
 use Rattle.run_outcomes.proofs.shown.Letters.{AllAside, IsAside}
 use Rattle.run_outcomes.specs.reports.Requests.{AreQuiet, BodyAsks, BodyFrom, HandLast, IsNoRequest, IsQuiet, OutsAsk, Tried, last_by, last_of}
-use Rattle.run_outcomes.specs.tasks.AsksCourses.{AskNone, AsksNone}
+use Rattle.run_outcomes.specs.Mute.{AskNone, AsksNone}
 use Rattle.run_outcomes.proofs.silence.asked.Beside.{AllElse, IsElse, lost_else, made_else, saved_else, ticked_else, unknown_else, write_else}
 
 -- ---- quiet outputs

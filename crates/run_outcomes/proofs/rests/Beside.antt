@@ -38,8 +38,8 @@ use Rattle.status_report.specs.declared.node_entry.DownCause.TheVariants as down
 use Rattle.wire.specs.declared.message.Body.{Body}
 use Rattle.wire.specs.declared.message.Body.TheVariants as body
 use Rattle.wire.specs.declared.message.Message.{Message}
-use Rattle.run_outcomes.proofs.counts.Free.{asked_free, command_free, order_free, reply_free, report_free}
-use Rattle.run_outcomes.proofs.counts.Presidents.{done_free, prepared_free}
+use Rattle.run_outcomes.proofs.free.Courses.{asked_free, command_free, order_free, reply_free, report_free}
+use Rattle.run_outcomes.proofs.free.Presidents.{done_free, prepared_free}
 use Rattle.run_outcomes.proofs.onward.Inputs.{IsBesides}
 use Rattle.run_outcomes.proofs.own_tasks.Beside.{IsBeside, prepared_staid}
 use Rattle.run_outcomes.proofs.rests.Kept.{AreKept, proposed_kept, staid_kept}

@@ -45,7 +45,7 @@ use Rattle.run_outcomes.specs.saves.Courses.{LeadsTo}
 use Rattle.run_outcomes.specs.tasks.Onward.{GoesOut}
 use Rattle.run_outcomes.specs.tasks.Own.{CallSo, OwnsAfter}
 use Rattle.run_outcomes.proofs.counts.Given.{call_ends_so}
-use Rattle.run_outcomes.proofs.counts.Presidents.{deciding_free}
+use Rattle.run_outcomes.proofs.free.Presidents.{deciding_free}
 use Rattle.run_outcomes.proofs.onward.Beside.{given_still}
 use Rattle.run_outcomes.proofs.onward.Given.{Behind, out_behind, out_by, out_joined, out_leads}
 use Rattle.run_outcomes.proofs.own_tasks.Calls.{before_none, turn_owns}

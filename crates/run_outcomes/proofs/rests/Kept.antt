@@ -18,9 +18,9 @@ use Rattle.run_downs.proofs.Proposing.{SavesProposed}
 use Rattle.run_history.proofs.Lists.{both}
 use Rattle.run_history.proofs.QuietCourses.{Quiet, QuietAct, governing}
 use Rattle.run_history.specs.Marks.{ActSo}
-use Rattle.run_outcomes.specs.counts.Ends.{IsFree}
+use Rattle.run_outcomes.specs.Free.{IsFree}
 use Rattle.run_outcomes.specs.tasks.Onward.{AreStill, GoesOut, IsStill}
-use Rattle.run_outcomes.proofs.counts.Free.{governing_free}
+use Rattle.run_outcomes.proofs.free.Courses.{governing_free}
 use Rattle.run_outcomes.proofs.onward.Beside.{given_still, spread_still, ticked_still, write_still}
 
 -- ---- small steps

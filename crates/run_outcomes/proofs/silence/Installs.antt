@@ -51,7 +51,8 @@ use Rattle.wire.specs.declared.message.Body.TheVariants as body
 use Rattle.cmm_member.specs.Nodes.{NodeState}
 use Rattle.run_outcomes.specs.phases.Kept.{In}
 use Rattle.run_outcomes.specs.silence.Asked.{Query, asked_by_body, asked_by_output, asked_by_outputs}
-use Rattle.run_outcomes.specs.silence.AskedCourses.{GoesTo, HasLate, Late, Tally, then_given, to_install}
+use Rattle.run_outcomes.specs.Mute.{GoesTo}
+use Rattle.run_outcomes.specs.silence.AskedCourses.{HasLate, Late, Tally, then_given, to_install}
 use Rattle.run_outcomes.proofs.phases.Leading.{act_has, change_has}
 
 -- ---- outputs without an Install
@@ -302,7 +303,7 @@ act_late c me told x g _ may h = h
 
 -- ---- a course
 
-pub course_late : (c : Cluster) (me : ℕ) (told : Delivered) (x : UpNode) (g : Tally) (k : Course) → MayGo c me told x k → HasLate x g → GoesTo c me HasLate x g k
+pub course_late : (c : Cluster) (me : ℕ) (told : Delivered) (x : UpNode) (g : Tally) (k : Course) → MayGo c me told x k → HasLate x g → GoesTo then_given c me HasLate x g k
 course_late c me told x g Stops may h = h
 course_late c me told x g (Acts a rest) may h = course_late c me told (acted c me x a) (then_given g (said c me x a)) rest may.1 (act_late c me told x g a may.0 h)
 course_late c me told x g (Keeps change rest) may h =
@@ -315,7 +316,7 @@ late_same g f None same h = tt
 late_same g f (Some a) same h = λ m is. h m (sym (same a.plan.epoch (to_install m)) ∙ is)
 
 -- both hold at the end of the course
-pub goes_both : (c : Cluster) (me : ℕ) (P Q : UpNode → Tally → Type 0) (x : UpNode) (g : Tally) (k : Course) → GoesTo c me P x g k → GoesTo c me Q x g k → GoesTo c me (λ y f. P y f × Q y f) x g k
+pub goes_both : (c : Cluster) (me : ℕ) (P Q : UpNode → Tally → Type 0) (x : UpNode) (g : Tally) (k : Course) → GoesTo then_given c me P x g k → GoesTo then_given c me Q x g k → GoesTo then_given c me (λ y f. P y f × Q y f) x g k
 goes_both c me P Q x g Stops h k = (h, k)
 goes_both c me P Q x g (Acts a rest) h k = goes_both c me P Q (acted c me x a) (then_given g (said c me x a)) rest h k
 goes_both c me P Q x g (Keeps change rest) h k = goes_both c me P Q (changed c me x change) (then_given g (first_lines me change ++ saved_lines c me x change)) rest h k

@@ -36,12 +36,14 @@ use Rattle.run_history.proofs.Courses.{doings_so}
 use Rattle.run_history.specs.Scenes.{Scene}
 use Rattle.run_messages.specs.records.Kept.{KnownScene}
 use Rattle.run_outcomes.specs.saves.Kept.{IsAt}
-use Rattle.run_outcomes.specs.silence.AskedCourses.{GoesTo, HasBoth, HasLate, HasTold, Tally, then_given}
+use Rattle.run_outcomes.specs.Mute.{GoesTo}
+use Rattle.run_outcomes.specs.silence.AskedCourses.{HasBoth, HasLate, HasTold, Tally, then_given}
 use Rattle.run_outcomes.specs.silence.Asked.{Alike, InputTold, Query, asked_by_output, asked_by_outputs}
 use Rattle.history.specs.Names.{Name}
 use Rattle.run_outcomes.proofs.silence.Inputs.{course_told}
 use Rattle.run_outcomes.proofs.silence.Installs.{course_late, goes_both, late_same}
-use Rattle.run_outcomes.proofs.silence.Quiet.{alike_itself, gives_plainly, in_same}
+use Rattle.run_outcomes.proofs.Mute.{gives_plainly}
+use Rattle.run_outcomes.proofs.silence.Quiet.{alike_itself, in_same}
 
 -- ---- a course
 
@@ -63,7 +65,7 @@ Given g f before = (e : ℕ) (d : Query) → f e d ≡ asked_by_outputs e d befo
 more_given : (g f : Tally) (before os : List Output) → Given g f before → Given g (then_given f os) (before ++ os)
 more_given g f before os h e d = ap (asked_by_outputs e d os) (h e d) ∙ sym (append_asked e d before os (g e d))
 
-carried_told : (c : Cluster) (me : ℕ) (x : UpNode) (g f : Tally) (k : Course) (before : List Output) (disk : DiskState) → Given g f before → GoesTo c me HasBoth x f k → EndsTold g (carried saving me (plan_from c me x k) before disk)
+carried_told : (c : Cluster) (me : ℕ) (x : UpNode) (g f : Tally) (k : Course) (before : List Output) (disk : DiskState) → Given g f before → GoesTo then_given c me HasBoth x f k → EndsTold g (carried saving me (plan_from c me x k) before disk)
 carried_told c me x g f Stops before disk given h = (
   in_same f (then_given g before) [] x.attempt (λ e d. alike_same d.called (f e d) (then_given g before e d) (given e d)) h.0,
   late_same f (then_given g before) x.attempt (λ e d. sym (given e d)) h.1,

@@ -1,6 +1,6 @@
 -- What happens beside nodes changes no task, and tells nothing of any.
-use Rattle.std.specs.Prelude.{ℕ, ◌≡◌, ◌⊎◌, List, [], ◌∷◌, ◌++◌, Option, None, Some}
-use Rattle.std.proofs.Common.{refl, inl, inr}
+use Rattle.std.specs.Prelude.{ℕ, ◌≡◌, List, [], ◌∷◌, ◌++◌, Option, None, Some}
+use Rattle.std.proofs.Common.{refl}
 use Rattle.cl_base.specs.declared.packet.DropCause.{DropCause}
 use Rattle.cl_base.specs.declared.packet.DropCause.TheVariants as drop
 use Rattle.history.specs.Moment.{Moment, Part, Said, Told}
@@ -29,20 +29,6 @@ IsSimple (Loses_packet number x) = Unit {0}
 IsSimple (Repeats number x) = Unit {0}
 IsSimple (Refuses n d value why) = Unit {0}
 IsSimple _ = ⊥
-
-pub simple_or : (x : Happening) → IsSimple x ⊎ (IsSimple x → ⊥)
-simple_or (Speaks e) = inl tt
-simple_or (Begins e) = inl tt
-simple_or (Notes e) = inl tt
-simple_or (Misses number x) = inl tt
-simple_or (Loses_packet number x) = inl tt
-simple_or (Repeats number x) = inl tt
-simple_or (Refuses n d value why) = inl tt
-simple_or (Takes_plain n now ends i) = inr (λ k. k)
-simple_or (Arrives number x m now ends) = inr (λ k. k)
-simple_or (Strays number x) = inr (λ k. k)
-simple_or (Commands n d q now ends) = inr (λ k. k)
-simple_or (Writes_plain n d value now ends) = inr (λ k. k)
 
 pub record Simply (s t : Scene) : Type 0 where
   pub nodes : (j : ℕ) → t.nodes.node j ≡ s.nodes.node j

@@ -56,15 +56,3 @@ last_after last _ = None
 abbrev pub AllFit : Cluster → ℕ → Last → Site → List Doing → Type 0
 AllFit c me last x [] = Unit {0}
 AllFit c me last x (d ∷ ds) = DoingFits last x d × AllFit c me (last_after last d) (effect c me x d) ds
-
--- ---- a course in which no attempt ends
-
-abbrev pub FreeAct : Act → Type 0
-FreeAct (Ends a why) = ⊥
-FreeAct _ = Unit {0}
-
-abbrev pub IsFree : Course → Type 0
-IsFree Stops = Unit {0}
-IsFree (Acts a rest) = FreeAct a × IsFree rest
-IsFree (Keeps change rest) = Unit {0} × IsFree rest
-IsFree (Falls why) = Unit {0}

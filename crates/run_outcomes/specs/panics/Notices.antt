@@ -80,21 +80,16 @@ GoesSaid c me told said x (Acts a rest) = ActSaid said a × GoesSaid c me told (
 GoesSaid c me told said x (Keeps change rest) = Unit {0} × GoesSaid c me told None (changed c me x change) rest
 GoesSaid c me told said x (Falls why) = FallSaid me told said x why
 
--- one in which nobody is told of an exclusion, and that ends in no panic for one
+-- nobody is told of an exclusion by it
 abbrev pub FreeAct : Act → Type 0
 FreeAct (Writes to b) = NoNotice b
 FreeAct (Spreads receivers b) = NoNotice b
 FreeAct _ = Unit {0}
 
+-- it is no panic for one
 abbrev pub FreeFall : DownCause → Type 0
 FreeFall (cause.Panic (panic.Excluded f)) = ⊥
 FreeFall _ = Unit {0}
-
-abbrev pub IsFree : Course → Type 0
-IsFree Stops = Unit {0}
-IsFree (Acts a rest) = FreeAct a × IsFree rest
-IsFree (Keeps change rest) = Unit {0} × IsFree rest
-IsFree (Falls why) = FreeFall why
 
 -- ---- small steps
 

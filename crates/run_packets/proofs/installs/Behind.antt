@@ -1,5 +1,5 @@
 -- What a node gives behind an install: its Installs, and the start where it has no other member.
-use Rattle.std.specs.Prelude.{ℕ, ◌≡◌, ◌≢◌, ◌≤◌, ◌<◌, ◌⊎◌, ◌++◌, ◌==◌, ◌&&◌, ◌||◌, nat_le, Bool, true, false, All, List, [], ◌∷◌, length, None, Some}
+use Rattle.std.specs.Prelude.{ℕ, ◌≡◌, ◌≤◌, ◌⊎◌, ◌++◌, ◌==◌, ◌&&◌, ◌||◌, nat_le, Bool, true, false, All, List, [], ◌∷◌, length, None, Some}
 use Rattle.std.specs.List.{AllByRecursion, list_any}
 use Rattle.std.proofs.Common.{refl, ap, sym, subst, ◌∙◌, inl, inr, arith}
 use Rattle.attempt_laws.proofs.Goes.{Goes as GoesBy, chosen_reached, goes_by_call}
@@ -28,15 +28,13 @@ use Rattle.node_model.specs.declared.node.Node.TheVariants.{Up}
 use Rattle.node_model.specs.declared.node.UpNode.{UpNode}
 use Rattle.node_model.specs.declared.output.Output.{Output}
 use Rattle.node_model.specs.declared.output.Output.TheVariants.{Sends, Tells}
-use Rattle.node_model.specs.declared.seat.Seat.TheVariants.{Forming}
 use Rattle.refinement.proofs.Attempts.{install_epoch, may_be_called}
-use Rattle.refinement.proofs.Changes.{said_known}
 use Rattle.refinement.specs.Doings.{Doing, given_all, site}
 use Rattle.refinement.specs.Doings.Act.{Makes, Writes}
 use Rattle.refinement.specs.Doings.Change.{Counts, Installs, Starts}
 use Rattle.refinement.specs.Doings.Doing.{Does, Forgets, Loses, Saves}
 use Rattle.refinement.specs.Guards.{MayCall, MayChange}
-use Rattle.refinement.specs.Ties.{Coordinates, Delivered, SeatTied}
+use Rattle.refinement.specs.Ties.{Coordinates, Delivered}
 use Rattle.run_history.proofs.Changes.{At, at_attempt}
 use Rattle.status_report.specs.declared.entry.Entry.{Entry}
 use Rattle.status_report.specs.declared.entry.Entry.TheVariants as entry
@@ -48,7 +46,7 @@ use Rattle.run_packets.specs.installs.Passing.{AreElse, AttemptFew, FollowsIn, I
 use Rattle.run_packets.proofs.installs.Alone.{install_by_one}
 use Rattle.run_packets.proofs.installs.Few.{install_few}
 use Rattle.run_packets.proofs.installs.Young.{still_stays}
-use Rattle.run_packets.proofs.installs.Attempts.{machine_own, still_call}
+use Rattle.run_packets.proofs.installs.Attempts.{still_call}
 
 -- ---- the Installs behind an install
 
@@ -172,21 +170,3 @@ started_on c M before n told disk kept x y a k s i ds fits at may me lined place
       me = ap (λ z. (state_of z).me) (sym may.1) ∙ me;
       own = subst (λ (j : Install). AllByRecursion (ReadingBy n) j.readings) (sym is) (install_by_one n (turn a k).after (subst (λ (l : List AttachedDevice). All IsDevice l) (sym few.1) fits) one few.2);
     })))
-
--- what another node's attempt installs is none of its own
-pub install_other : (c : Cluster) (M : Memberships) (n : ℕ) (told : Delivered) (disk : NodeRecord) (x : UpNode) (q : NodeState) (i : Install) → At c M n told disk x → MayChange c n told x (Installs q i) → coordinator i.epoch ≡ n → ⊥
-install_other c M n told disk x q i at may own =
-    said_known M told (body.Install i) ⊥ may.1 at.known (λ from so.
-    let tied : SeatTied c M n disk x.attempt (Forming q) = subst (λ z. SeatTied c M n disk x.attempt z) may.0 at.tied.0 in
-    let low : i.epoch ≤ (M.node n).saved.installed = subst (λ z. i.epoch ≤ (M.node z).saved.installed) (machine_own i.epoch n own) ((at.holds.epoch i.epoch).counted_installed so.counted) in
-    apart i.epoch (M.node n).saved.installed q.saved.installed (M.node n).promised (M.node n).session q.session low (ap (λ r. r.installed) tied.0.saved) (at.holds.node n).installed
-    ((at.holds.node n).session) tied.0.session may.3 may.2 may.4)
-  where
-    apart : (e mi i mp ms s : ℕ) → e ≤ mi → mi ≡ i → mi ≤ mp → (0 < ms → ms ≡ mp) → ms ≡ s → s ≡ e → 1 ≤ e → i ≢ e → ⊥
-    apart e mi i mp ms s a b d f g h low other = other (same (f (some ms e (g ∙ h) low)))
-      where
-        some : (k e : ℕ) → k ≡ e → 1 ≤ e → 0 < k
-        some k e is l = grind arith
-
-        same : ms ≡ mp → i ≡ e
-        same is = grind arith

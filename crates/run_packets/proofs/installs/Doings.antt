@@ -63,7 +63,8 @@ use Rattle.run_packets.proofs.installs.Mine.{MeIn, effect_me}
 use Rattle.run_packets.proofs.installs.Turns.{first_unready, turn_brings}
 use Rattle.run_packets.proofs.installs.Young.{first_young}
 use Rattle.run_packets.proofs.installs.Attempts.{AreTried, NodePlaced, machine_own, no_members, turned_lined, turned_placed, up_lined}
-use Rattle.run_packets.proofs.installs.Behind.{else_first, install_other, passed_on, started_on}
+use Rattle.run_packets.proofs.installs.Behind.{else_first, passed_on, started_on}
+use Rattle.run_messages.proofs.records.Joins.{install_other}
 
 -- ---- an attempt begins
 

@@ -1,4 +1,4 @@
--- Most of what a node does excludes nobody, and is no panic for an exclusion.
+-- Most of what a node does ends no attempt, excludes nobody, and is no panic for an exclusion.
 use Rattle.admin_commands.specs.declared.accepted.Accepted.{Accepted}
 use Rattle.admin_commands.specs.declared.accepted.Accepted.TheVariants as accepted
 use Rattle.admin_commands.specs.declared.error.CheckError.{CheckError}
@@ -70,8 +70,8 @@ use Rattle.refinement.specs.Doings.{changed}
 use Rattle.refinement.specs.Doings.Act.{Gives}
 use Rattle.refinement.specs.Doings.Change.{Installs, Sits}
 use Rattle.refinement.specs.Courses.{Course}
-use Rattle.run_outcomes.specs.panics.Notices.{IsFree}
-use Rattle.run_outcomes.proofs.panics.Presidents.{deciding_free, done_at_free, either_free, handling_free, kept_if_free, then_free}
+use Rattle.run_outcomes.specs.Free.{IsFree}
+use Rattle.run_outcomes.proofs.free.Presidents.{deciding_free, done_at_free, either_free, handling_free, kept_if_free, then_free}
 
 module _ (c : Cluster) (me : ℕ) where
   pub if_started_free : (steps : List Step) (y : UpNode) → IsFree (cuts.if_started c me steps y)

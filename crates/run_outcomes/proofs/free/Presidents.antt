@@ -1,4 +1,4 @@
--- What a president decides, and how it answers, excludes nobody.
+-- What a president decides, and how it answers, ends no attempt and excludes nobody.
 use Rattle.admin_commands.specs.declared.accepted.Accepted.{Accepted}
 use Rattle.admin_commands.specs.declared.accepted.Accepted.TheVariants as accepted
 use Rattle.admin_commands.specs.declared.error.CheckError.{CheckError}
@@ -34,7 +34,7 @@ use Rattle.std.specs.Prelude.{ℕ, zero, suc, ◌==◌, ◌&&◌, Bool, true, fa
 use Rattle.node_model.specs.Seats.{record_of, version_of}
 use Rattle.refinement.specs.Doings.{Change, acted, changed}
 use Rattle.refinement.specs.Courses.{Course, joined}
-use Rattle.run_outcomes.specs.panics.Notices.{IsFree}
+use Rattle.run_outcomes.specs.Free.{IsFree}
 
 module _ (c : Cluster) (me : ℕ) where
   pub either_free : (b : Bool) (k l : Course) → IsFree k → IsFree l → IsFree (if b then k else l)
