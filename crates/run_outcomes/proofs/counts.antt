@@ -1,6 +1,4 @@
 pub mod Given
-pub mod Presidents
-pub mod Free
 pub mod Calls
 pub mod Courses
 pub mod Newest

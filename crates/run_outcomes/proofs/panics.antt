@@ -1,5 +1,3 @@
-pub mod Presidents
-pub mod Free
 pub mod Calls
 pub mod Courses
 pub mod Named

@@ -1,0 +1,2 @@
+pub mod Presidents
+pub mod Courses
